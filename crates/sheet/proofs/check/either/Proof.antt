@@ -1,0 +1,27 @@
+use borrow.Author.Needs.{needs}
+use Rattle.sheet.specs.Check.{_else_}
+use Rattle.sheet.proofs.check.either.Statement.{statement}
+use Rattle.sheet.proofs.check.either.Tie as tie
+use Rattle.sheet.proofs.check.either.Reads as reads
+use Rattle.sheet.proofs.check.either.Lts as lts
+
+-- src/check.rt:27:25
+enum-told : tie.Need-enum-told
+enum-told c = cc
+
+-- src/check.rt:28:51
+enum-told-2 : tie.Need-enum-told-2
+enum-told-2 c = cc
+
+-- src/check.rt:23:1
+returns : tie.Need-returns
+unfolding _else_
+returns c = cc
+
+-- src/check.rt:23:1
+returns-2 : tie.Need-returns-2
+unfolding _else_
+returns-2 c = cc
+
+pub either-spec : {M : Type 1} → statement M
+either-spec = tie.close (tie.spec enum-told enum-told-2 returns returns-2)

@@ -1,0 +1,54 @@
+-- `sheet::reader::part_of` meets its contract: a found record lies inside the sheet.
+-- Assumes nothing.
+use native.Mathlib.Omega.{arith}
+use borrow.Author.Needs.{needs}
+use denote.Ref.{now}
+use mathlib.Core.Path.{refl, sym, _∙_}
+use Rattle.sheet.specs.Reader.Laws.{payload-inside, part-clear, part-refused}
+use Rattle.sheet.proofs.reader.part_of.Statement.{statement}
+use Rattle.sheet.proofs.reader.part_of.Tie as tie
+
+walk-requires : tie.Need-walk-requires
+walk-requires c κs = search needs
+
+outcome-requires : tie.Need-outcome-requires
+outcome-requires c κs = search needs
+
+enum-told : tie.Need-enum-told
+enum-told c = search needs
+
+enum-known-found : tie.Need-enum-known-found
+enum-known-found c = search needs
+
+add-t10 : tie.Need-add-t10
+add-t10 c = omega (arith, payload-inside (now (c .before .before .before .before .before .before .before .before .before .args .sheet)) (c .before .before .before .before .before .before .before .before .before .args .kind) _ (sym (c .before .before .found .given .1) ∙ c .before .before .before .before .before .before .before .walk .ensures .1))
+
+enum-told-2 : tie.Need-enum-told-2
+enum-told-2 c = search needs
+
+enum-told-3 : tie.Need-enum-told-3
+enum-told-3 c = search needs
+
+returns : tie.Need-returns
+returns c = (part-clear _ _ (c .before .before .before .before .before .before .outcome .ensures) (c .before .before .before .before .enum-told .given .1) (sym (c .before .before .found .given .1) ∙ c .before .before .before .before .before .before .before .walk .ensures .1), payload-inside _ _ _ (sym (c .before .before .found .given .1) ∙ c .before .before .before .before .before .before .before .walk .ensures .1))
+
+returns-2 : tie.Need-returns-2
+returns-2 c = (part-clear _ _ (c .before .before .before .before .outcome .ensures) (c .before .before .enum-told .given .1) (sym (c .enum-told2 .given .1) ∙ c .before .before .before .before .before .walk .ensures .1), search needs)
+
+returns-3 : tie.Need-returns-3
+returns-3 c = (part-refused _ _ (c .before .before .outcome .ensures) (c .enum-told3 .given .1), search needs)
+
+pub part-of-spec : {M : Type 1} → statement M
+part-of-spec =
+    tie.close
+    (tie.spec
+    walk-requires
+    outcome-requires
+    enum-told
+    enum-known-found
+    add-t10
+    enum-told-2
+    enum-told-3
+    returns
+    returns-2
+    returns-3)

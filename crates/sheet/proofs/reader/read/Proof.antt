@@ -1,0 +1,33 @@
+-- `sheet::reader::read` meets its contract.
+-- Assumes nothing.
+use borrow.Author.Needs.{needs}
+use Prim.Native.Nat.{ℕ}
+use mathlib.Core.Path.{sym, ap, _∙_}
+use native.Mathlib.Nat.{add-comm, add-sub-cancel-left}
+use Rattle.sheet.specs.Reader.{handed, bytes, seen}
+use Rattle.sheet.proofs.reader.read.Statement.{statement}
+use Rattle.sheet.proofs.reader.read.Tie as tie
+
+part-of-requires : tie.Need-part-of-requires
+part-of-requires c κs = search needs
+
+add-end : tie.Need-add-end
+add-end c = search needs
+
+sub-result : tie.Need-sub-result
+sub-result c = search needs
+
+part-result-start : tie.Need-part-result-start
+part-result-start c = search needs
+
+part-result-end : tie.Need-part-result-end
+part-result-end c = search needs
+
+returns : tie.Need-returns
+unfolding handed bytes
+returns c = rw (add-comm, add-sub-cancel-left, c .before .before .part-of .ensures .0)
+
+pub read-spec : {M : Type 1} → statement M
+read-spec =
+    tie.close
+    (tie.spec part-of-requires add-end sub-result part-result-start part-result-end returns)

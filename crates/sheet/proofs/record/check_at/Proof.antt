@@ -1,0 +1,22 @@
+-- `sheet::record::check_at` meets its contract.
+-- Assumes nothing.
+use borrow.Author.Needs.{needs}
+use Rattle.sheet.specs.Format.{causeAt}
+use Rattle.sheet.proofs.record.check_at.Statement.{statement}
+use Rattle.sheet.proofs.record.check_at.Tie as tie
+
+cut-requires : tie.Need-cut-requires
+cut-requires c κs = search needs
+
+misplaced-requires : tie.Need-misplaced-requires
+misplaced-requires c κs = search needs
+
+either-requires : tie.Need-either-requires
+either-requires c κs = search needs
+
+returns : tie.Need-returns
+unfolding causeAt
+returns c = cc
+
+pub check-at-spec : {M : Type 1} → statement M
+check-at-spec = tie.close (tie.spec cut-requires misplaced-requires either-requires returns)

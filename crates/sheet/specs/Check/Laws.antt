@@ -1,0 +1,105 @@
+-- The laws of checks: how a cause, two checks in a row, a list of causes and a first cause answer.
+use Prim.Native.Nat.{ℕ, zero, suc, _+_, _<_}
+use mathlib.Core.Path.{_≡_, refl, sym, ap, _∙_}
+use mathlib.Core.Bool.{Bool, true, false}
+use mathlib.Core.List.{List, [], _∷_, _++_}
+use native.Mathlib.Omega.{arith}
+use native.Mathlib.Nat.{le-of-suc-le-suc, eq-or-lt-of-le, not-suc-le-zero}
+use native.Mathlib.Numerals.{add-one}
+use mathlib.Core.Logic.{⊎-elim}
+use Rattle.sheet.specs.declared.check.Check.{Check}
+use Rattle.sheet.specs.declared.check.Check.the-variants.{Clear, Refused}
+use Rattle.sheet.specs.Check.{refusal_with_if_, _else_, firstCause, first}
+
+-- ---- one cause
+pub absent : (n p : ℕ) {b : Bool} → b ≡ false → (refusal n with p if b) ≡ Clear
+unfolding refusal_with_if_
+absent n p e = rw e
+
+pub present : (n p : ℕ) {b : Bool} → b ≡ true → (refusal n with p if b) ≡ Refused n p
+unfolding refusal_with_if_
+present n p e = rw e
+
+pub clear-absent : (n p : ℕ) (b : Bool) → (refusal n with p if b) ≡ Clear → b ≡ false
+unfolding refusal_with_if_
+clear-absent n p true e = cc
+clear-absent n p false e = refl
+
+-- ---- two checks in a row
+pub else-clear : (d : Check) → (Clear else d) ≡ d
+unfolding _else_
+else-clear d = refl
+
+pub else-refused : (n p : ℕ) (d : Check) → (Refused n p else d) ≡ Refused n p
+unfolding _else_
+else-refused n p d = refl
+
+pub else-end : (c : Check) → (c else Clear) ≡ c
+unfolding _else_
+else-end Clear = refl
+else-end (Refused n p) = refl
+
+pub else-assoc : (a b c : Check) → ((a else b) else c) ≡ (a else (b else c))
+unfolding _else_
+else-assoc Clear b c = refl
+else-assoc (Refused n p) b c = refl
+
+pub both-clear : (a b : Check) → (a else b) ≡ Clear → (a ≡ Clear) × (b ≡ Clear)
+unfolding _else_
+both-clear Clear b e = (refl, e)
+both-clear (Refused n p) b e = (e, cc)
+
+-- ---- a list of causes
+pub cause-none : firstCause [] ≡ Clear
+unfolding firstCause
+cause-none = refl
+
+pub cause-cons : (c : Check) (cs : List Check) → firstCause (c ∷ cs) ≡ (c else firstCause cs)
+unfolding firstCause
+cause-cons c cs = refl
+
+pub cause-one : (c : Check) → firstCause (c ∷ []) ≡ c
+unfolding firstCause
+cause-one c = else-end c
+
+pub cause-append : (cs ds : List Check) → firstCause (cs ++ ds) ≡ (firstCause cs else firstCause ds)
+unfolding firstCause _else_
+cause-append [] ds = refl
+cause-append (a ∷ cs) ds = ap (λ (c : Check). a else c) (cause-append cs ds) ∙ sym (else-assoc a (firstCause cs) (firstCause ds))
+
+-- ---- the first present of a row of causes
+pub first-none : (f : ℕ → Check) → first 0 f ≡ Clear
+unfolding first
+first-none f = refl
+
+pub first-more : (n : ℕ) (f : ℕ → Check) → first (n + 1) f ≡ (first n f else f n)
+unfolding first
+first-more n f = rw add-one
+
+-- all clear so far and clear here
+pub first-passed : (n : ℕ) (f : ℕ → Check) → first n f ≡ Clear → f n ≡ Clear → first (n + 1) f ≡ Clear
+first-passed n f e h = first-more n f ∙ (rw (e, h) (else-clear Clear))
+
+-- all clear before i, and refused at i: that is the answer, however many follow
+pub first-found : (n i : ℕ) (f : ℕ → Check) → i < n → first i f ≡ Clear → {a b : ℕ} → f i ≡ Refused a b → first n f ≡ Refused a b
+unfolding first
+first-found zero i f l e h = absurd (not-suc-le-zero l)
+first-found (suc n) i f l e {a} {b} h =
+    ⊎-elim (λ (q : i ≡ n). rw (← q, e, h) (else-clear (Refused a b)))
+    (λ (q : i < n). rw (first-found n i f q e h) (else-refused a b (f n)))
+    (eq-or-lt-of-le (le-of-suc-le-suc l))
+
+-- where the first of n is clear, each is
+pub first-clear-at : (n i : ℕ) (f : ℕ → Check) → first n f ≡ Clear → i < n → f i ≡ Clear
+unfolding first
+first-clear-at zero i f e l = absurd (not-suc-le-zero l)
+first-clear-at (suc n) i f e l =
+    ⊎-elim (λ (q : i ≡ n). rw q (both-clear (first n f) (f n) e .1))
+    (λ (q : i < n). first-clear-at n i f (both-clear (first n f) (f n) e .0) q)
+    (eq-or-lt-of-le (le-of-suc-le-suc l))
+
+-- where each is clear, the first of n is
+pub first-clear : (n : ℕ) (f : ℕ → Check) → ((i : ℕ) → i < n → f i ≡ Clear) → first n f ≡ Clear
+unfolding first
+first-clear zero f h = refl
+first-clear (suc n) f h = rw (first-clear n f (λ i l. h i (omega arith)), h n (omega arith)) (else-clear Clear)

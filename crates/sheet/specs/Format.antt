@@ -1,0 +1,112 @@
+-- The byte format of a sheet (document 01, "The sheet"), and causes 1 and 2 at each record.
+-- The laws stand in Format.Laws.
+use Prim.Native.Nat.{ℕ, zero, suc, _+_, _*_, _-_}
+use mathlib.Core.Bool.{Bool, true, false, cond, _||_}
+use mathlib.Core.List.{List, [], _∷_}
+use lib.Dec.{leb, ltb, eqb}
+use lib.ListN.{length, getD}
+use Rattle.sheet.specs.declared.check.Check.{Check}
+use Rattle.sheet.specs.declared.check.Check.the-variants.{Clear, Refused}
+use Rattle.sheet.specs.declared.record.Record.{Record}
+use Rattle.sheet.specs.declared.record.Kind.{Kind}
+use Rattle.sheet.specs.declared.record.Kind.the-variants.{Machine, Word, Sequence, Answers, Unknown}
+use Rattle.sheet.specs.declared.record.Found.{Found}
+use Rattle.sheet.specs.declared.record.Found.the-variants.{At, Missing}
+use Rattle.sheet.specs.Check.{refusal_with_if_, _else_}
+pub mod Laws
+
+-- "The longest sheet has 40,912 bytes."
+abbrev pub longest : ℕ
+longest = 40912
+
+-- "4 bytes payload length, 2 bytes kind": the header's bytes
+abbrev pub header : ℕ
+header = 6
+
+-- the record whose header starts at this place, "both little-endian"; bytes past the sheet's end count as 0
+unfoldable pub recordAt : List ℕ → ℕ → Record
+recordAt s at = record {
+  start = at;
+  size = getD s at 0 + 256 * getD s (at + 1) 0 + 65536 * getD s (at + 2) 0 + 16777216 * getD s (at + 3) 0;
+  kind = getD s (at + 4) 0 + 256 * getD s (at + 5) 0;
+}
+
+-- the offset of byte i of a record's payload
+unfoldable pub offset : Record → ℕ → ℕ
+offset r i = r .start + header + i
+
+-- where the record ends and the next one starts
+unfoldable pub end : Record → ℕ
+end r = offset r (r .size)
+
+-- "Kind 1, machine", "Kind 2, word", "Kind 3, sequence", "Kind 4, answers"
+unfoldable pub kindOf : ℕ → Kind
+kindOf k = cond (eqb k 1) Machine (cond (eqb k 2) Word (cond (eqb k 3) Sequence (cond (eqb k 4) Answers Unknown)))
+
+-- the place of a kind in the "rising order"; an unknown kind is above none
+abbrev pub rank : Kind → ℕ
+rank Unknown = 0
+rank Machine = 1
+rank Word = 2
+rank Sequence = 3
+rank Answers = 4
+
+-- cause 1 at a record: its "header or payload runs past the end"
+unfoldable pub cause1 : List ℕ → ℕ → Check
+cause1 s at = refusal 1 with at if (ltb (length s) (at + header) || ltb (length s) (end (recordAt s at)))
+
+-- cause 2 at a record: its "kind is not 1 to 4 or not above the one before"
+unfoldable pub cause2 : List ℕ → ℕ → ℕ → Check
+cause2 s at last = refusal 2 with at if leb (rank (kindOf (recordAt s at .kind))) last
+
+-- "checks 1 and 2 go record by record from the front, 1 before 2 at each"
+unfoldable pub causeAt : List ℕ → ℕ → ℕ → Check
+causeAt s at last = cause1 s at else cause2 s at last
+
+-- the records from the front that are in order, and what stopped the reading: Clear at the sheet's end
+pub record Walked : Type 0 where
+  pub records : List Record
+  pub stop : Check
+
+abbrev pub ended : Check → Walked
+ended c = record { records = []; stop = c }
+
+infixr 15 _before_
+abbrev pub _before_ : Record → Walked → Walked
+r before w = record { records = r ∷ w .records; stop = w .stop }
+
+-- one step of the reading: at the sheet's end it ends, at a cause it stops, else a record and what follows it
+unfoldable pub onward : Bool → Check → Record → Walked → Walked
+onward false c r w = ended Clear
+onward true (Refused n p) r w = ended (Refused n p)
+onward true Clear r w = r before w
+
+-- the reading from a place on, last being the rank of the record before. A record takes at least a byte, so as many steps as there are
+-- bytes left end it: walk-end and walk-on, in Format.Laws, say that walk reads on without that number
+unfoldable pub walkFrom : ℕ → List ℕ → ℕ → ℕ → Walked
+walkFrom zero s at last = ended Clear
+walkFrom (suc f) s at last =
+    let w : Walked = walkFrom f s (end (recordAt s at)) (rank (kindOf (recordAt s at .kind))) in
+    onward (ltb at (length s)) (causeAt s at last) (recordAt s at) w
+
+unfoldable pub walk : List ℕ → ℕ → ℕ → Walked
+walk s at last = walkFrom (length s - at) s at last
+
+-- the whole sheet
+unfoldable pub walked : List ℕ → Walked
+walked s = walk s 0 0
+
+-- the record where it is of the kind
+unfoldable pub ofKind : ℕ → Record → Found
+ofKind k r = cond (eqb (r .kind) k) (At r) Missing
+
+infixr 15 _or_
+-- the first that is found
+unfoldable pub _or_ : Found → Found → Found
+(At r) or g = At r
+Missing or g = g
+
+-- the record of a kind among records
+unfoldable pub find : ℕ → List Record → Found
+find k [] = Missing
+find k (r ∷ rs) = ofKind k r or find k rs

@@ -1,0 +1,120 @@
+-- The laws of the format: how the reading goes on, that it ends, and where the records that it finds lie.
+use Prim.Native.Nat.{ℕ, zero, suc, _+_, _-_, _≤_, _<_}
+use mathlib.Core.Path.{_≡_, refl, sym, ap, _∙_}
+use mathlib.Core.Bool.{Bool, true, false, _||_}
+use mathlib.Core.List.{List, [], _∷_}
+use native.Mathlib.Omega.{arith}
+use lib.Dec.{leb, ltb, eqb}
+use lib.ListN.{length}
+use borrow.Author.Tests.{lt-ltb, le-ltb, ltb-true, ltb-false, leb-false, eqb-true}
+use Rattle.sheet.specs.declared.check.Check.{Check}
+use Rattle.sheet.specs.declared.check.Check.the-variants.{Clear, Refused}
+use Rattle.sheet.specs.declared.record.Record.{Record}
+use Rattle.sheet.specs.declared.record.Found.{Found}
+use Rattle.sheet.specs.declared.record.Found.the-variants.{At, Missing}
+use Rattle.sheet.specs.Check.{refusal_with_if_}
+use Rattle.sheet.specs.Check.Laws.{both-clear, clear-absent}
+use Rattle.sheet.specs.Format.{header, recordAt, offset, end, kindOf, rank, cause1, cause2, causeAt, Walked, ended, _before_, onward, walkFrom, walk, ofKind, _or_, find}
+
+abbrev pub rankAt : List ℕ → ℕ → ℕ
+rankAt s at = rank (kindOf (recordAt s at .kind))
+
+-- ---- what a clear record shows
+neither : (a b : Bool) → (a || b) ≡ false → (a ≡ false) × (b ≡ false)
+neither true b e = (e, cc)
+neither false b e = (refl, e)
+
+pub clear-inside : (s : List ℕ) (at last : ℕ) → causeAt s at last ≡ Clear → end (recordAt s at) ≤ length s
+unfolding causeAt cause1
+clear-inside s at last e =
+    let past = ltb (length s) (at + header) in
+    let over = ltb (length s) (end (recordAt s at)) in
+    ltb-false _ _ (neither past over (clear-absent 1 at (past || over) (both-clear (cause1 s at) (cause2 s at last) e .0)) .1)
+
+pub clear-rank : (s : List ℕ) (at last : ℕ) → causeAt s at last ≡ Clear → last < rankAt s at
+unfolding causeAt cause2
+clear-rank s at last e = leb-false _ _ (clear-absent 2 at _ (both-clear (cause1 s at) (cause2 s at last) e .1))
+
+pub end-after : (s : List ℕ) (at : ℕ) → at + header ≤ end (recordAt s at)
+unfolding end offset recordAt
+end-after s at = omega arith
+
+-- ---- the causes and the end of a record, of the record as it was read
+pub end-is : (s : List ℕ) (at : ℕ) (r : Record) → r ≡ recordAt s at → end (recordAt s at) ≡ at + header + r .size
+unfolding end offset recordAt
+end-is s at r e = rw e
+
+pub cause1-is : (s : List ℕ) (at : ℕ) (r : Record) → r ≡ recordAt s at
+    → (refusal 1 with at if (ltb (length s) (at + header) || ltb (length s) (at + header + r .size))) ≡ cause1 s at
+unfolding cause1
+cause1-is s at r e = rw (← end-is s at r e)
+
+-- ---- the number of steps is nothing to believe
+onward-at-end : (s : List ℕ) (at : ℕ) → length s ≤ at → (c : Check) (r : Record) (w : Walked) → onward (ltb at (length s)) c r w ≡ ended Clear
+unfolding onward
+onward-at-end s at h c r w = rw (le-ltb at (length s) h)
+
+enough : (f g : ℕ) (s : List ℕ) (at last : ℕ) → length s - at ≤ f → length s - at ≤ g → walkFrom f s at last ≡ walkFrom g s at last
+unfolding walkFrom
+enough zero zero s at last p q = refl
+enough zero (suc g) s at last p q = sym (onward-at-end s at (omega arith) (causeAt s at last) (recordAt s at) (walkFrom g s (end (recordAt s at)) (rankAt s at)))
+enough (suc f) zero s at last p q = onward-at-end s at (omega arith) (causeAt s at last) (recordAt s at) (walkFrom f s (end (recordAt s at)) (rankAt s at))
+enough (suc f) (suc g) s at last p q =
+    ap (λ (w : Walked). onward (ltb at (length s)) (causeAt s at last) (recordAt s at) w)
+    (enough f g s (end (recordAt s at)) (rankAt s at) (omega (arith, end-after s at)) (omega (arith, end-after s at)))
+
+-- at the sheet's end the reading ends
+pub walk-end : (s : List ℕ) (at last : ℕ) → length s ≤ at → walk s at last ≡ ended Clear
+unfolding walk
+walk-end s at last h = enough (length s - at) 0 s at last (omega arith) (omega arith) ∙ none
+  where
+    none : walkFrom 0 s at last ≡ ended Clear
+    none = unfold walkFrom in refl
+
+-- before it, a cause stops it, and else the record comes before what follows it
+pub walk-on : (s : List ℕ) (at last : ℕ) → at < length s
+    → walk s at last ≡ onward true (causeAt s at last) (recordAt s at) (walk s (end (recordAt s at)) (rankAt s at))
+unfolding walk
+walk-on s at last h =
+    enough (length s - at) (suc (length s - (at + 1))) s at last (omega arith) (omega arith)
+    ∙ one
+    ∙ ap (λ (w : Walked). onward true (causeAt s at last) (recordAt s at) w)
+    (enough (length s - (at + 1)) (length s - end (recordAt s at)) s (end (recordAt s at)) (rankAt s at) (omega (arith, end-after s at)) (omega arith))
+  where
+    one : walkFrom (suc (length s - (at + 1))) s at last
+        ≡ onward true (causeAt s at last) (recordAt s at) (walkFrom (length s - (at + 1)) s (end (recordAt s at)) (rankAt s at))
+    one = unfold walkFrom in rw (lt-ltb at (length s) h)
+
+-- the record that stops the reading
+pub walk-stopped : (s : List ℕ) (at last n p : ℕ) → at < length s → causeAt s at last ≡ Refused n p → walk s at last ≡ ended (Refused n p)
+unfolding onward
+walk-stopped s at last n p h e = walk-on s at last h ∙ rw e
+
+-- a record in order
+pub walk-record : (s : List ℕ) (at last : ℕ) → at < length s → causeAt s at last ≡ Clear
+    → walk s at last ≡ (recordAt s at before walk s (end (recordAt s at)) (rankAt s at))
+unfolding onward
+walk-record s at last h e = walk-on s at last h ∙ rw e
+
+-- ---- looking for a kind
+pub or-missing : (f : Found) → (f or Missing) ≡ f
+unfolding _or_
+or-missing (At r) = refl
+or-missing Missing = refl
+
+pub missing-or : (f : Found) → (Missing or f) ≡ f
+unfolding _or_
+missing-or f = refl
+
+pub or-assoc : (f g h : Found) → ((f or g) or h) ≡ (f or (g or h))
+unfolding _or_
+or-assoc (At r) g h = refl
+or-assoc Missing g h = refl
+
+pub find-none : (k : ℕ) → find k [] ≡ Missing
+unfolding find
+find-none k = refl
+
+pub find-cons : (k : ℕ) (r : Record) (rs : List Record) → find k (r ∷ rs) ≡ (ofKind k r or find k rs)
+unfolding find
+find-cons k r rs = refl

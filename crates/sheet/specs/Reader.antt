@@ -1,0 +1,84 @@
+-- Checks 1 and 2 of a whole sheet, and what reading it hands back (document 01, "The sheet" and "Causes").
+-- The laws stand in Reader.Laws.
+use Prim.Native.Nat.{ℕ, _+_}
+use mathlib.Core.Bool.{Bool, true, false}
+use mathlib.Core.List.{List, [], _∷_, _++_, map}
+use lib.Dec.{ltb}
+use lib.ListN.{length, take, drop}
+use denote.Ref.{RefT, now}
+use Rattle.sheet.specs.declared.check.Check.{Check}
+use Rattle.sheet.specs.declared.check.Check.the-variants.{Clear, Refused}
+use Rattle.sheet.specs.declared.record.Record.{Record}
+use Rattle.sheet.specs.declared.record.Found.{Found}
+use Rattle.sheet.specs.declared.record.Found.the-variants.{At, Missing}
+use Rattle.sheet.specs.declared.reader.Part.{Part}
+use Rattle.sheet.specs.declared.reader.Needs.{Needs}
+use Rattle.sheet.specs.Check.{refusal_with_if_, firstCause}
+use Rattle.sheet.specs.Format.{longest, header, Walked, walked, find}
+pub mod Laws
+
+-- "The sheet's length is compared first": cause 1 at "40,912 if longer than that"
+abbrev pub tooLong : List ℕ → Check
+tooLong s = refusal 1 with longest if ltb longest (length s)
+
+abbrev pub isMissing : Found → Bool
+isMissing (At r) = false
+isMissing Missing = true
+
+-- "a needed kind missing, the sheet's length"
+abbrev pub missing : List ℕ → ℕ → Check
+missing s k = refusal 2 with length s if isMissing (find k (walked s .records))
+
+-- causes 1 and 2 in order, for the kinds that a service needs; "a missing kind comes last"
+unfoldable pub causes12 : List ℕ → List ℕ → List Check
+causes12 needed s = tooLong s ∷ walked s .stop ∷ map (missing s) needed
+
+-- a kind where it is needed
+unfoldable pub when : Bool → ℕ → List ℕ
+when true k = k ∷ []
+when false k = []
+
+-- the kinds that a service needs: the machine always, the others as it says
+unfoldable pub needed : Needs → List ℕ
+needed n = 1 ∷ (when (n .word) 2 ++ (when (n .sequence) 3 ++ when (n .answers) 4))
+
+-- reading "makes checks 1 and 2 only, the wanted kind being the needed one"
+unfoldable pub refusalOf : ℕ → List ℕ → Check
+refusalOf k s = firstCause (causes12 (k ∷ []) s)
+
+-- the record of a kind; where there is none cause 2 is present, and what this says does not count
+abbrev pub recordOr : Found → Record
+recordOr (At r) = r
+recordOr Missing = record { start = 0; size = 0; kind = 0 }
+
+unfoldable pub the : ℕ → List ℕ → Record
+the k s = recordOr (find k (walked s .records))
+
+-- a record's payload, "header left out"; the empty part at the sheet's start where there is none
+abbrev pub payload : Found → Part
+payload (At r) = record { from = r .start + header; size = r .size }
+payload Missing = record { from = 0; size = 0 }
+
+-- the wanted record's payload; "a refusal hands back the empty part at the sheet's start"
+abbrev pub partWhen : Check → Found → Part
+partWhen Clear f = payload f
+partWhen (Refused n p) f = payload Missing
+
+unfoldable pub part : ℕ → List ℕ → Part
+part k s = partWhen (refusalOf k s) (find k (walked s .records))
+
+-- the bytes of a part of a sheet
+unfoldable pub bytes : Part → List ℕ → List ℕ
+bytes p s = take (p .size) (drop (p .from) s)
+
+-- what reading a kind hands back, as bytes
+unfoldable pub content : ℕ → List ℕ → List ℕ
+content k s = bytes (part k s) s
+
+-- a reference as its holder sees it: where it points, block and offset, and what it refers to
+abbrev pub seen : RefT (List ℕ) → (ℕ × ℕ) × List ℕ
+seen r = (r .ptr, now r)
+
+-- "hands back the part of it": the same block, the part's position and its bytes, "and no copy"
+unfoldable pub handed : RefT (List ℕ) → Part → (ℕ × ℕ) × List ℕ
+handed s p = ((s .ptr .0, s .ptr .1 + p .from), bytes p (now s))

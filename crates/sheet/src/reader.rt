@@ -1,0 +1,148 @@
+// Checks 1 and 2 of a whole sheet, and the reader.
+ghost use mathlib.Core.Path.{_≡_};
+ghost use Prim.Native.Nat.{_+_, _≤_};
+ghost use lib.ListN.{length};
+ghost use Rattle.sheet.specs.Check.{refusal_with_if_, firstCause};
+ghost use Rattle.sheet.specs.Format.{walked, find};
+ghost use Rattle.sheet.specs.Reader.{tooLong, isMissing, missing, causes12, needed, refusalOf, seen, handed};
+ghost use Rattle.sheet.specs.Reader.{part as partOf, the as theOf};
+ghost use Rattle.sheet.specs.Reader.Laws.{whenMissing};
+use crate::check::Check;
+use crate::check::either;
+use crate::check::refuse;
+use crate::record::Found;
+use crate::record::HEADER;
+use crate::record::Record;
+use crate::walk::Walked;
+use crate::walk::walk;
+
+// The bytes of the longest sheet.
+pub const LONGEST: usize = 40_912;
+
+// The numbers of the kinds.
+pub const MACHINE: u16 = 1;
+
+pub const WORD: u16 = 2;
+
+pub const SEQUENCE: u16 = 3;
+
+pub const ANSWERS: u16 = 4;
+
+// A part of a sheet: where it starts and its length.
+pub struct Part {
+    pub from: usize,
+    pub size: usize,
+}
+
+// The kinds that a service needs besides the machine.
+pub struct Needs {
+    pub word: bool,
+    pub sequence: bool,
+    pub answers: bool,
+}
+
+fn too_long(sheet: &[u8]) -> Check
+    ensures { λ r. ⌜ r ≡ tooLong (now (sheet .entry)) ⌝ }
+{
+    refuse(1, LONGEST, LONGEST < sheet.len())
+}
+
+fn is_missing(found: Found) -> bool
+    ensures { λ r. ⌜ r ≡ isMissing found ⌝ }
+{
+    match found {
+        Found::At(_) => false,
+        Found::Missing => true,
+    }
+}
+
+// Checks 1 and 2 from what the walk answered: length, records, wanted kind.
+fn outcome(sheet: &[u8], kind: u16, w: Walked) -> Check
+    requires { ⌜ (w .stop ≡ walked (now sheet) .stop) × (w .found ≡ find kind (walked (now sheet) .records)) ⌝ }
+    ensures { λ r. ⌜ r ≡ refusalOf kind (now (sheet .entry)) ⌝ }
+{
+    let stop = w.stop;
+    let found = w.found;
+    let long = too_long(sheet);
+    let lacking = refuse(2, sheet.len(), is_missing(found));
+    either(long, either(stop, lacking))
+}
+
+// The refusal's number and place of reading a kind, or that there is none.
+pub fn refusal(sheet: &[u8], kind: u16) -> Check
+    ensures { λ r. ⌜ r ≡ refusalOf kind (now (sheet .entry)) ⌝ }
+{
+    let w = walk(sheet, kind);
+    outcome(sheet, kind, w)
+}
+
+// Cause 2 for a kind that may be needed.
+fn required(sheet: &[u8], kind: u16, needed: bool) -> Check
+    ensures { λ r. ⌜ r ≡ whenMissing (now (sheet .entry)) kind needed ⌝ }
+{
+    let w = walk(sheet, kind);
+    let found = w.found;
+    refuse(2, sheet.len(), needed & is_missing(found))
+}
+
+// Checks 1 and 2 for the kinds that a service needs.
+pub fn checks(sheet: &[u8], needs: Needs) -> Check
+    ensures { λ r. ⌜ r ≡ firstCause (causes12 (needed needs) (now (sheet .entry))) ⌝ }
+{
+    let machine = refusal(sheet, MACHINE);
+    let word = required(sheet, WORD, needs.word);
+    let sequence = required(sheet, SEQUENCE, needs.sequence);
+    let answers = required(sheet, ANSWERS, needs.answers);
+    either(machine, either(word, either(sequence, answers)))
+}
+
+// The record of a kind, an empty one where there is none.
+pub fn record_of(sheet: &[u8], kind: u16) -> Record
+    ensures { λ r. ⌜ r ≡ theOf kind (now (sheet .entry)) ⌝ }
+{
+    let w = walk(sheet, kind);
+    let found = w.found;
+    match found {
+        Found::At(r) => r,
+        Found::Missing => Record {
+            start: 0,
+            size: 0,
+            kind: 0,
+        },
+    }
+}
+
+// Where the wanted record's payload lies: the empty part at the sheet's start on a refusal.
+fn part_of(sheet: &[u8], kind: u16) -> Part
+    ensures value { λ r. ⌜ r ≡ partOf kind (now (sheet .entry)) ⌝ }
+    ensures inside { λ r. ⌜ r .from + r .size ≤ length (now (sheet .entry)) ⌝ }
+{
+    let w = walk(sheet, kind);
+    let found = w.found;
+    let check = outcome(sheet, kind, w);
+    let empty = Part { from: 0, size: 0 };
+    match check {
+        Check::Clear => match found {
+            Found::At(r) => Part {
+                from: r.start + HEADER,
+                size: r.size,
+            },
+            Found::Missing => empty,
+        },
+        Check::Refused {
+            number: _,
+            place: _,
+        } => empty,
+    }
+}
+
+// The part of the sheet that holds the wanted record, its header left out; on a refusal the empty
+// part at the sheet's start.
+pub fn read(sheet: &[u8], kind: u16) -> &[u8]
+    ensures { λ r. ⌜ seen r ≡ handed (sheet .entry) (partOf kind (now (sheet .entry))) ⌝ }
+{
+    let p = part_of(sheet, kind);
+    let from = p.from;
+    let end = from + p.size;
+    &sheet[from..end]
+}
