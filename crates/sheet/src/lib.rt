@@ -18,4 +18,6 @@ pub use reader::checks;
 pub use reader::read;
 pub use reader::record_of;
 pub use reader::refusal;
+pub use record::HEADER;
 pub use record::Record;
+pub use record::byte;

@@ -33,11 +33,18 @@ pub enum Found {
 }
 
 // The byte at a place, 0 past the end.
-fn byte(s: &[u8], i: usize) -> usize
+pub fn byte(s: &[u8], i: usize) -> u8
+    ensures { λ r. ⌜ r ≡ getD (now (s .entry)) i 0 ⌝ }
+{
+    if i < s.len() { s[i] } else { 0 }
+}
+
+// The same, as a number to compute with.
+fn wide(s: &[u8], i: usize) -> usize
     ensures value { λ r. ⌜ r ≡ getD (now (s .entry)) i 0 ⌝ }
     ensures small { λ r. ⌜ r < 256 ⌝ }
 {
-    if i < s.len() { s[i] as usize } else { 0 }
+    byte(s, i) as usize
 }
 
 // The record whose header starts at a place.
@@ -46,11 +53,11 @@ pub fn record_at(s: &[u8], at: usize) -> Record
     ensures value { λ r. ⌜ r ≡ recordAt (now (s .entry)) at ⌝ }
     ensures small { λ r. ⌜ r .size < 2 ^ 32 ⌝ }
 {
-    let size = byte(s, at)
-        + 256 * byte(s, at + 1)
-        + 65536 * byte(s, at + 2)
-        + 16777216 * byte(s, at + 3);
-    let kind = byte(s, at + 4) + 256 * byte(s, at + 5);
+    let size = wide(s, at)
+        + 256 * wide(s, at + 1)
+        + 65536 * wide(s, at + 2)
+        + 16777216 * wide(s, at + 3);
+    let kind = wide(s, at + 4) + 256 * wide(s, at + 5);
     Record {
         start: at,
         size,

@@ -6,7 +6,7 @@ use mathlib.Core.Logic.{_⊎_, inl, inr, ⊎-elim}
 use mathlib.Core.List.{List, [], _∷_, _++_, map}
 use native.Mathlib.Omega.{arith}
 use lib.Dec.{ltb, eqb}
-use lib.ListN.{length}
+use lib.ListN.{length, length-take}
 use borrow.Author.Tests.{ltb-true, ltb-false, eqb-true}
 use Rattle.sheet.specs.declared.check.Check.{Check}
 use Rattle.sheet.specs.declared.check.Check.the-variants.{Clear, Refused}
@@ -19,7 +19,8 @@ use Rattle.sheet.specs.Check.{refusal_with_if_, _else_, firstCause}
 use Rattle.sheet.specs.Check.Laws.{absent, present, else-end, else-assoc, cause-none, cause-cons, cause-one, cause-append, both-clear}
 use Rattle.sheet.specs.Format.{header, recordAt, offset, end, kindOf, rank, causeAt, Walked, ended, _before_, onward, walkFrom, walk, walked, ofKind, _or_, find}
 use Rattle.sheet.specs.Format.Laws.{rankAt, clear-inside, clear-rank, missing-or, find-none, find-cons}
-use Rattle.sheet.specs.Reader.{tooLong, isMissing, missing, causes12, when, needed, refusalOf, recordOr, the, payload, partWhen, part}
+use Rattle.sheet.specs.Reader.{tooLong, isMissing, missing, causes12, when, needed, refusalOf, recordOr, the, payload, partWhen, part, bytes, content, seen, handed}
+use denote.Ref.{RefT, now}
 
 -- ---- the causes, written out
 pub refusal-is : (k : ℕ) (s : List ℕ) → refusalOf k s ≡ (tooLong s else (walked s .stop else missing s k))
@@ -142,3 +143,20 @@ part-refused k s ce e = rw (← ce, e)
 pub the-found : (k : ℕ) (s : List ℕ) {f g : Found} → f ≡ find k (walked s .records) → f ≡ g → recordOr g ≡ the k s
 unfolding the
 the-found k s fe e = ap recordOr (sym e ∙ fe)
+
+-- a record starts inside the sheet, and its payload ends there
+inside-of : (s : List ℕ) (c : Check) (f : Found) → payload f .from + payload f .size ≤ length s → recordOr f .start + length (bytes (partWhen c f) s) ≤ length s
+unfolding bytes
+inside-of s Clear (At r) h = simp length-take (omega arith)
+inside-of s Clear Missing h = omega arith
+inside-of s (Refused n p) (At r) h = omega arith
+inside-of s (Refused n p) Missing h = omega arith
+
+pub the-inside : (k : ℕ) (s : List ℕ) → the k s .start + length (content k s) ≤ length s
+unfolding the content part
+the-inside k s = inside-of s (refusalOf k s) (find k (walked s .records)) (payload-inside s k (find k (walked s .records)) refl)
+
+-- what reading hands back, as bytes
+pub handed-content : (k : ℕ) (s w : RefT (List ℕ)) → seen w ≡ handed s (part k (now s)) → now w ≡ content k (now s)
+unfolding handed content
+handed-content k s w e = ap (λ (x : (ℕ × ℕ) × List ℕ). x .1) e

@@ -5,14 +5,14 @@ use Rattle.sheet.specs.Format.{recordAt}
 use Rattle.sheet.proofs.record.record_at.Statement.{statement}
 use Rattle.sheet.proofs.record.record_at.Tie as tie
 
-byte-requires : tie.Need-byte-requires
-byte-requires c κs = search needs
+wide-requires : tie.Need-wide-requires
+wide-requires c κs = search needs
 
-add-byte : tie.Need-add-byte
-add-byte c = search needs
+add-wide : tie.Need-add-wide
+add-wide c = search needs
 
-byte-requires-2 : tie.Need-byte-requires-2
-byte-requires-2 c κs = search needs
+wide-requires-2 : tie.Need-wide-requires-2
+wide-requires-2 c κs = search needs
 
 mul-size : tie.Need-mul-size
 mul-size c = search needs
@@ -20,11 +20,11 @@ mul-size c = search needs
 add-size : tie.Need-add-size
 add-size c = search needs
 
-add-byte-2 : tie.Need-add-byte-2
-add-byte-2 c = search needs
+add-wide-2 : tie.Need-add-wide-2
+add-wide-2 c = search needs
 
-byte-requires-3 : tie.Need-byte-requires-3
-byte-requires-3 c κs = search needs
+wide-requires-3 : tie.Need-wide-requires-3
+wide-requires-3 c κs = search needs
 
 mul-size-2 : tie.Need-mul-size-2
 mul-size-2 c = search needs
@@ -32,11 +32,11 @@ mul-size-2 c = search needs
 add-size-2 : tie.Need-add-size-2
 add-size-2 c = search needs
 
-add-byte-3 : tie.Need-add-byte-3
-add-byte-3 c = search needs
+add-wide-3 : tie.Need-add-wide-3
+add-wide-3 c = search needs
 
-byte-requires-4 : tie.Need-byte-requires-4
-byte-requires-4 c κs = search needs
+wide-requires-4 : tie.Need-wide-requires-4
+wide-requires-4 c κs = search needs
 
 mul-size-3 : tie.Need-mul-size-3
 mul-size-3 c = search needs
@@ -44,17 +44,17 @@ mul-size-3 c = search needs
 add-size-3 : tie.Need-add-size-3
 add-size-3 c = search needs
 
-add-byte-4 : tie.Need-add-byte-4
-add-byte-4 c = search needs
+add-wide-4 : tie.Need-add-wide-4
+add-wide-4 c = search needs
 
-byte-requires-5 : tie.Need-byte-requires-5
-byte-requires-5 c κs = search needs
+wide-requires-5 : tie.Need-wide-requires-5
+wide-requires-5 c κs = search needs
 
-add-byte-5 : tie.Need-add-byte-5
-add-byte-5 c = search needs
+add-wide-5 : tie.Need-add-wide-5
+add-wide-5 c = search needs
 
-byte-requires-6 : tie.Need-byte-requires-6
-byte-requires-6 c κs = search needs
+wide-requires-6 : tie.Need-wide-requires-6
+wide-requires-6 c κs = search needs
 
 mul-kind : tie.Need-mul-kind
 mul-kind c = search needs
@@ -73,23 +73,23 @@ pub record-at-spec : {M : Type 1} → statement M
 record-at-spec =
     tie.close
     (tie.spec
-    byte-requires
-    add-byte
-    byte-requires-2
+    wide-requires
+    add-wide
+    wide-requires-2
     mul-size
     add-size
-    add-byte-2
-    byte-requires-3
+    add-wide-2
+    wide-requires-3
     mul-size-2
     add-size-2
-    add-byte-3
-    byte-requires-4
+    add-wide-3
+    wide-requires-4
     mul-size-3
     add-size-3
-    add-byte-4
-    byte-requires-5
-    add-byte-5
-    byte-requires-6
+    add-wide-4
+    wide-requires-5
+    add-wide-5
+    wide-requires-6
     mul-kind
     add-kind
     cast-t17

@@ -1,0 +1,72 @@
+-- Causes 3 to 6, and causes 1 to 6 in order (document 01, "Causes, in the order they are checked"). The laws stand in Causes.Laws.
+use Prim.Native.Nat.{ℕ, _+_, _*_}
+use mathlib.Core.Bool.{Bool, true, false, not, _&&_, _||_}
+use mathlib.Core.List.{List, [], _∷_, _++_}
+use lib.Dec.{leb, ltb, eqb}
+use lib.ListN.{length, getD}
+use Rattle.sheet.specs.declared.check.Check.{Check}
+use Rattle.sheet.specs.declared.record.Record.{Record}
+use Rattle.sheet.specs.declared.reader.Needs.{Needs}
+use Rattle.sheet.specs.Check.{refusal_with_if_, _else_, first}
+use Rattle.sheet.specs.Format.{offset}
+use Rattle.sheet.specs.Reader.{causes12, needed, the, content}
+use Rattle.machine.specs.Limits.{states, commands, wordMost}
+use Rattle.machine.specs.Machine.{Mealy, pairAt, machineOf, answers}
+pub mod Laws
+
+-- below the least or above the most
+abbrev pub outside : ℕ → ℕ → ℕ → Bool
+outside least most x = ltb x least || ltb most x
+
+-- "machine shape": "n or k outside limits, or payload not 2+2nk bytes", at the "start of record 1"
+unfoldable pub cause3 : Record → List ℕ → Check
+cause3 r p =
+    let n = getD p 0 0 in
+    let k = getD p 1 0 in
+    refusal 3 with r .start if (outside 1 states n || outside 1 commands k || not (eqb (length p) (2 + 2 * (n * k))))
+
+-- "next state": "offset of the first next-state byte that is n or more"
+unfoldable pub cause4 : Record → List ℕ → Check
+cause4 r p =
+    let n = getD p 0 0 in
+    let k = getD p 1 0 in
+    first (n * k) (λ e. refusal 4 with offset r (pairAt e) if leb n (getD p (pairAt e) 0))
+
+-- causes 5 and 7: "start of record 2 if the length is outside limits; else offset of the first command k or above"
+unfoldable pub commandsCause : ℕ → ℕ → ℕ → Record → List ℕ → Check
+commandsCause number most k r w =
+    (refusal number with r .start if outside 1 most (length w))
+    else first (length w) (λ i. refusal number with offset r i if leb k (getD w i 0))
+
+-- "word"
+abbrev pub cause5 : ℕ → Record → List ℕ → Check
+cause5 k r w = commandsCause 5 wordMost k r w
+
+-- equal lists
+abbrev pub same : List ℕ → List ℕ → Bool
+same [] [] = true
+same [] (y ∷ ys) = false
+same (x ∷ xs) [] = false
+same (x ∷ xs) (y ∷ ys) = eqb x y && same xs ys
+
+-- "word does not separate": "16i+j, least i, then least j above i, whose answers to the word are equal"
+unfoldable pub cause6 : Mealy → List ℕ → Check
+cause6 M w =
+    first (M .n) (λ i. first (M .n) (λ j. refusal 6 with 16 * i + j if (ltb i j && same (answers M i w) (answers M j w))))
+
+-- the machine of a sheet
+abbrev pub machineIn : List ℕ → Mealy
+machineIn s = machineOf (content 1 s)
+
+-- causes 1 to 4, for a service that needs the machine and the kinds that it says
+unfoldable pub causes1to4 : Needs → List ℕ → List Check
+causes1to4 n s = causes12 (needed n) s ++ (cause3 (the 1 s) (content 1 s) ∷ cause4 (the 1 s) (content 1 s) ∷ [])
+
+-- causes 5 and 6, where the word is needed
+unfoldable pub causes5to6 : Bool → List ℕ → List Check
+causes5to6 true s = cause5 (machineIn s .k) (the 2 s) (content 2 s) ∷ cause6 (machineIn s) (content 2 s) ∷ []
+causes5to6 false s = []
+
+-- causes 1 to 6, "the rest by number, as far as the service needs them"
+unfoldable pub causes1to6 : Needs → List ℕ → List Check
+causes1to6 n s = causes1to4 n s ++ causes5to6 (n .word) s

@@ -1,0 +1,4 @@
+pub mod Limits
+pub mod Machine
+pub mod Causes
+pub mod House

@@ -1,0 +1,59 @@
+-- The machine that a sheet specifies, and its runs (document 01, "The sheet" and "Recognition"; separation, "Causes" row 6).
+-- The laws stand in Machine.Laws.
+use Prim.Native.Nat.{ℕ, _+_, _*_, _<_}
+use mathlib.Core.Path.{_≡_}
+use mathlib.Core.List.{List, [], _∷_}
+use lib.ListN.{getD, take}
+use Rattle.machine.specs.declared.machine.Machine.{Machine}
+pub mod Laws
+
+-- A Mealy machine: n states from 0, k commands (inputs) from 0, a start, and for each entry (transition), a state with a command, the
+-- next state and the answer (output).
+pub record Mealy : Type 0 where
+  pub n : ℕ
+  pub k : ℕ
+  pub start : ℕ
+  pub next : ℕ → ℕ → ℕ
+  pub answer : ℕ → ℕ → ℕ
+
+-- where pair e stands in the machine's payload: "n, k, then n·k pairs (next state, answer)"
+abbrev pub pairAt : ℕ → ℕ
+pairAt e = 2 + 2 * e
+
+-- the machine of a payload: "all commands of state 0 first. States count from 0, and 0 is the start."
+unfoldable pub machineOf : List ℕ → Mealy
+machineOf p = record {
+  n = getD p 0 0;
+  k = getD p 1 0;
+  start = 0;
+  next = λ s c. getD p (pairAt (s * getD p 1 0 + c)) 0;
+  answer = λ s c. getD p (pairAt (s * getD p 1 0 + c) + 1) 0;
+}
+
+-- the machine that the program holds in a value of its type Machine
+unfoldable pub meaning : Machine → Mealy
+meaning m = record {
+  n = m .n;
+  k = m .k;
+  start = m .start;
+  next = λ s c. getD (m .next) (s * m .k + c) 0;
+  answer = λ s c. getD (m .answer) (s * m .k + c) 0;
+}
+
+-- the state after some commands
+unfoldable pub run : Mealy → ℕ → List ℕ → ℕ
+run M s [] = s
+run M s (c ∷ w) = run M (M .next s c) w
+
+-- the answers to some commands
+unfoldable pub answers : Mealy → ℕ → List ℕ → List ℕ
+answers M s [] = []
+answers M s (c ∷ w) = M .answer s c ∷ answers M (M .next s c) w
+
+-- "Run the machine from state 0 along the sequence: places 0 to N, place p has a state."
+unfoldable pub place : Mealy → List ℕ → ℕ → ℕ
+place M xs p = run M (M .start) (take p xs)
+
+-- the word separates the states, that is, it is a preset distinguishing sequence: no two answer it alike
+abbrev pub Separates : Mealy → List ℕ → Type 0
+Separates M w = (i j : ℕ) → i < M .n → j < M .n → answers M i w ≡ answers M j w → i ≡ j

@@ -1,0 +1,81 @@
+// Causes 3, 4, 5 and 7: the machine's shape, its next states, and the commands of a word or a sequence.
+ghost use mathlib.Core.Path.{_≡_};
+ghost use Prim.Native.Nat.{_+_, _*_, _<_, _^_};
+ghost use Rattle.sheet.specs.Check.{first};
+ghost use Rattle.sheet.specs.Reader.{the, content};
+ghost use Rattle.machine.specs.Causes.{cause3, cause4, commandsCause};
+ghost use Rattle.machine.specs.Causes.{outside as outsideOf};
+ghost use Rattle.machine.specs.Causes.Laws.{byteCause};
+use crate::machine::Machine;
+use sheet::Check;
+use sheet::HEADER;
+use sheet::Record;
+use sheet::byte;
+use sheet::either;
+use sheet::read;
+use sheet::record_of;
+use sheet::refuse;
+
+fn outside(least: usize, most: usize, x: usize) -> bool
+    ensures { λ r. ⌜ r ≡ outsideOf least most x ⌝ }
+{
+    (x < least) | (most < x)
+}
+
+// The first of count bytes of a part, at from and then every stride, that is bound or more. The
+// part starts at base in the sheet.
+fn scan(
+    number: u8,
+    base: usize,
+    part: &[u8],
+    from: usize,
+    stride: usize,
+    count: usize,
+    bound: u8,
+) -> Check
+    requires { ⌜ base + (from + stride * count) < 2 ^ 64 ⌝ }
+    ensures { λ c. ⌜ c ≡ first count (byteCause number base (now (part .entry)) from stride bound) ⌝ }
+{
+    let mut i = 0;
+    while i < count {
+        let at = from + stride * i;
+        let check = refuse(number, base + at, bound <= byte(part, at));
+        if let Check::Refused { number: _, place: _ } = check {
+            return check;
+        }
+        i += 1;
+    }
+    Check::Clear
+}
+
+// Cause 3, of a payload and its record.
+pub fn shape(r: Record, p: &[u8]) -> Check
+    ensures { λ c. ⌜ c ≡ cause3 r (now (p .entry)) ⌝ }
+{
+    let n = byte(p, 0) as usize;
+    let k = byte(p, 1) as usize;
+    let states = outside(1, Machine::STATES, n);
+    let commands = outside(1, Machine::COMMANDS, k);
+    refuse(3, r.start, states | commands | (p.len() != 2 + 2 * (n * k)))
+}
+
+// Cause 4, likewise.
+pub fn next_states(r: Record, p: &[u8]) -> Check
+    requires { ⌜ r .start < 2 ^ 63 ⌝ }
+    ensures { λ c. ⌜ c ≡ cause4 r (now (p .entry)) ⌝ }
+{
+    let n = byte(p, 0);
+    let k = byte(p, 1);
+    scan(4, r.start + HEADER, p, 2, 2, n as usize * k as usize, n)
+}
+
+// Causes 5 and 7: the commands of a record of a sheet, for a machine of k commands.
+pub fn commands(sheet: &[u8], kind: u16, number: u8, most: usize, k: u8) -> Check
+    ensures { λ c. ⌜ c ≡ commandsCause number most k (the kind (now (sheet .entry))) (content kind (now (sheet .entry))) ⌝ }
+{
+    let r = record_of(sheet, kind);
+    let w = read(sheet, kind);
+    let length = refuse(number, r.start, outside(1, most, w.len()));
+    let high = scan(number, r.start + HEADER, w, 0, 1, w.len(), k);
+    either(length, high)
+}

@@ -1,0 +1,77 @@
+// The machine by value, with its limits and its constructors.
+ghost use mathlib.Core.Path.{_≡_};
+ghost use Prim.Native.Nat.{ℕ, _+_, _*_, _≤_, _<_};
+ghost use lib.ListN.{getD, take, length};
+ghost use Rattle.machine.specs.Limits.{entries};
+ghost use Rattle.machine.specs.Limits.{limits as theLimits};
+ghost use Rattle.machine.specs.Machine.{machineOf, meaning};
+use sheet::byte;
+
+// A machine: n states, k commands, the start, and its table, entry (s, c) at s * k + c.
+pub struct Machine {
+    pub n: u8,
+    pub k: u8,
+    pub start: u8,
+    pub next: [u8; Machine::ENTRIES],
+    pub answer: [u8; Machine::ENTRIES],
+}
+
+// The limits as values.
+pub struct Limits {
+    pub states: usize,
+    pub commands: usize,
+    pub word: usize,
+    pub sequence: usize,
+}
+
+impl Machine {
+    // The most states, commands, commands in a word and commands in a sequence.
+    pub const STATES: usize = 10;
+    pub const COMMANDS: usize = 8;
+    pub const WORD: usize = 16;
+    pub const SEQUENCE: usize = 20_355;
+
+    // The most entries.
+    pub const ENTRIES: usize = Machine::STATES * Machine::COMMANDS;
+
+    // The machine of a payload, of which it takes as many bytes as the largest machine has.
+    pub fn load(p: &[u8]) -> Machine
+        ensures { λ m. ⌜ meaning m ≡ machineOf (take (2 + 2 * entries) (now (p .entry))) ⌝ }
+    {
+        let next = column(p, 2);
+        let answer = column(p, 3);
+        Machine {
+            n: byte(p, 0),
+            k: byte(p, 1),
+            start: 0,
+            next,
+            answer,
+        }
+    }
+
+    // The limits as document 01 has them.
+    pub fn limits() -> Limits
+        ensures { λ r. ⌜ r ≡ theLimits ⌝ }
+    {
+        Limits {
+            states: Machine::STATES,
+            commands: Machine::COMMANDS,
+            word: Machine::WORD,
+            sequence: Machine::SEQUENCE,
+        }
+    }
+}
+
+// One column of a payload's pairs: every second byte from a place on.
+fn column(p: &[u8], from: usize) -> [u8; Machine::ENTRIES]
+    requires { ⌜ from ≤ 3 ⌝ }
+    ensures { λ r. ⌜ ((e : ℕ) → e < entries → getD r e 0 ≡ getD (now (p .entry)) (from + 2 * e) 0) ⌝ }
+{
+    let mut cells = [0u8; Machine::ENTRIES];
+    let mut e = 0;
+    while e < Machine::ENTRIES {
+        cells[e] = byte(p, from + 2 * e);
+        e += 1;
+    }
+    cells
+}
