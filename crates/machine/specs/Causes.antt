@@ -3,14 +3,14 @@ use Prim.Native.Nat.{ℕ, _+_, _*_}
 use mathlib.Core.Bool.{Bool, true, false, not, _&&_, _||_}
 use mathlib.Core.List.{List, [], _∷_, _++_}
 use lib.Dec.{leb, ltb, eqb}
-use lib.ListN.{length, getD}
+use lib.ListN.{length, getD, take}
 use Rattle.sheet.specs.declared.check.Check.{Check}
 use Rattle.sheet.specs.declared.record.Record.{Record}
 use Rattle.sheet.specs.declared.reader.Needs.{Needs}
 use Rattle.sheet.specs.Check.{refusal_with_if_, _else_, first}
 use Rattle.sheet.specs.Format.{offset}
 use Rattle.sheet.specs.Reader.{causes12, needed, the, content}
-use Rattle.machine.specs.Limits.{states, commands, wordMost}
+use Rattle.machine.specs.Limits.{states, commands, entries, wordMost}
 use Rattle.machine.specs.Machine.{Mealy, pairAt, machineOf, answers}
 pub mod Laws
 
@@ -55,8 +55,13 @@ cause6 M w =
     first (M .n) (λ i. first (M .n) (λ j. refusal 6 with 16 * i + j if (ltb i j && same (answers M i w) (answers M j w))))
 
 -- the machine of a sheet
-abbrev pub machineIn : List ℕ → Mealy
+unfoldable pub machineIn : List ℕ → Mealy
 machineIn s = machineOf (content 1 s)
+
+-- the machine that the program holds for any sheet: that of as many bytes as the largest machine has. It is the sheet's machine where
+-- cause 3 is absent: held-is, in Causes.Laws
+unfoldable pub held : List ℕ → Mealy
+held s = machineOf (take (2 + 2 * entries) (content 1 s))
 
 -- causes 1 to 4, for a service that needs the machine and the kinds that it says
 unfoldable pub causes1to4 : Needs → List ℕ → List Check

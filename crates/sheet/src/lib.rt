@@ -15,6 +15,7 @@ pub use reader::Part;
 pub use reader::SEQUENCE;
 pub use reader::WORD;
 pub use reader::checks;
+pub use reader::part_of;
 pub use reader::read;
 pub use reader::record_of;
 pub use reader::refusal;

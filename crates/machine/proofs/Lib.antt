@@ -1,0 +1,5 @@
+mod Columns
+mod Housing
+mod Numbers
+mod Runs
+mod Scanning

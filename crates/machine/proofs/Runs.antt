@@ -1,0 +1,2 @@
+-- How two runs of a machine are compared.
+-- Assumes nothing.

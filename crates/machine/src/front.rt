@@ -1,0 +1,83 @@
+// Causes 1 to 6 of a sheet, its machine, and where its word stands: what every service begins with.
+ghost use mathlib.Core.Path.{_≡_};
+ghost use Rattle.sheet.specs.Check.{firstCause};
+ghost use Rattle.machine.specs.Machine.{meaning};
+ghost use Rattle.machine.specs.Causes.{machineIn, held, causes1to4, causes5to6, causes1to6};
+ghost use Rattle.machine.specs.Front.{Fronted};
+use crate::checks::commands;
+use crate::checks::next_states;
+use crate::checks::shape;
+use crate::machine::Machine;
+use crate::separation::separation;
+use sheet::Check;
+use sheet::MACHINE;
+use sheet::Needs;
+use sheet::Part;
+use sheet::WORD;
+use sheet::checks;
+use sheet::either;
+use sheet::part_of;
+use sheet::read;
+use sheet::record_of;
+
+// The first refusal of causes 1 to 6, or clear; the machine; the part of the sheet that holds the
+// word.
+pub struct Front {
+    pub check: Check,
+    pub machine: Machine,
+    pub word: Part,
+}
+
+// Causes 1 to 4.
+fn table_check(sheet: &[u8], needs: Needs) -> Check
+    ensures { λ r. ⌜ r ≡ firstCause (causes1to4 needs (now (sheet .entry))) ⌝ }
+{
+    let kinds = checks(sheet, needs);
+    let r = record_of(sheet, MACHINE);
+    let p = read(sheet, MACHINE);
+    let three = shape(r, p);
+    let four = next_states(r, p);
+    either(kinds, either(three, four))
+}
+
+// Causes 5 and 6, where the word is needed, for the sheet's machine.
+fn word_check(sheet: &[u8], m: Machine, needed: bool) -> Check
+    requires { ⌜ meaning m ≡ machineIn (now sheet) ⌝ }
+    ensures { λ r. ⌜ r ≡ firstCause (causes5to6 needed (now (sheet .entry))) ⌝ }
+{
+    if needed {
+        let five = commands(sheet, WORD, 5, Machine::WORD, m.k);
+        if let Check::Refused { number: _, place: _ } = five {
+            return five;
+        }
+        separation(m, read(sheet, WORD))
+    } else {
+        Check::Clear
+    }
+}
+
+// Causes 1 to 6, with the machine as it was loaded.
+fn all_checks(sheet: &[u8], needs: Needs, m: Machine) -> Check
+    requires { ⌜ meaning m ≡ held (now sheet) ⌝ }
+    ensures { λ r. ⌜ r ≡ firstCause (causes1to6 needs (now (sheet .entry))) ⌝ }
+{
+    let table = table_check(sheet, needs);
+    if let Check::Refused { number: _, place: _ } = table {
+        return table;
+    }
+    word_check(sheet, m, needs.word)
+}
+
+// What a service that needs the machine, and the kinds that it says, begins with.
+pub fn front_of(sheet: &[u8], needs: Needs) -> Front
+    ensures { λ r. ⌜ Fronted needs (now (sheet .entry)) r ⌝ }
+{
+    let machine = Machine::load(read(sheet, MACHINE));
+    let check = all_checks(sheet, needs, machine);
+    let word = part_of(sheet, WORD);
+    Front {
+        check,
+        machine,
+        word,
+    }
+}
