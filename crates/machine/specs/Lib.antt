@@ -1,5 +1,5 @@
 pub mod Limits
 pub mod Machine
 pub mod Causes
-pub mod Front
+pub mod Loading
 pub mod House

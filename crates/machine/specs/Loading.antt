@@ -6,16 +6,16 @@ use Rattle.sheet.specs.declared.check.Check.the-variants.{Clear}
 use Rattle.sheet.specs.declared.reader.Needs.{Needs}
 use Rattle.sheet.specs.Check.{firstCause}
 use Rattle.sheet.specs.Reader.{part}
-use Rattle.machine.specs.declared.front.Front.{Front}
+use Rattle.machine.specs.declared.loading.Loaded.{Loaded}
 use Rattle.machine.specs.Machine.{meaning}
 use Rattle.machine.specs.Causes.{machineIn, held, causes1to6}
 
-pub record Fronted (n : Needs) (s : List ℕ) (f : Front) : Type 0 where
+pub record LoadedFrom (n : Needs) (s : List ℕ) (l : Loaded) : Type 0 where
   -- the first refusal, or Clear
-  pub check : f .check ≡ firstCause (causes1to6 n s)
+  pub check : l .check ≡ firstCause (causes1to6 n s)
   -- the machine of the sheet where nothing is refused
-  pub machine : f .check ≡ Clear → meaning (f .machine) ≡ machineIn s
+  pub machine : l .check ≡ Clear → meaning (l .machine) ≡ machineIn s
   -- the machine that is held in any case
-  pub holds : meaning (f .machine) ≡ held s
+  pub holds : meaning (l .machine) ≡ held s
   -- where the word stands
-  pub word : f .word ≡ part 2 s
+  pub word : l .word ≡ part 2 s

@@ -3,7 +3,7 @@ ghost use mathlib.Core.Path.{_≡_};
 ghost use Rattle.sheet.specs.Check.{firstCause};
 ghost use Rattle.machine.specs.Machine.{meaning};
 ghost use Rattle.machine.specs.Causes.{machineIn, held, causes1to4, causes5to6, causes1to6};
-ghost use Rattle.machine.specs.Front.{Fronted};
+ghost use Rattle.machine.specs.Loading.{LoadedFrom};
 use crate::checks::commands;
 use crate::checks::next_states;
 use crate::checks::shape;
@@ -22,7 +22,7 @@ use sheet::record_of;
 
 // The first refusal of causes 1 to 6, or clear; the machine; the part of the sheet that holds the
 // word.
-pub struct Front {
+pub struct Loaded {
     pub check: Check,
     pub machine: Machine,
     pub word: Part,
@@ -69,13 +69,13 @@ fn all_checks(sheet: &[u8], needs: Needs, m: Machine) -> Check
 }
 
 // What a service that needs the machine, and the kinds that it says, begins with.
-pub fn front_of(sheet: &[u8], needs: Needs) -> Front
-    ensures { λ r. ⌜ Fronted needs (now (sheet .entry)) r ⌝ }
+pub fn load_sheet(sheet: &[u8], needs: Needs) -> Loaded
+    ensures { λ r. ⌜ LoadedFrom needs (now (sheet .entry)) r ⌝ }
 {
     let machine = Machine::load(read(sheet, MACHINE));
     let check = all_checks(sheet, needs, machine);
     let word = part_of(sheet, WORD);
-    Front {
+    Loaded {
         check,
         machine,
         word,
