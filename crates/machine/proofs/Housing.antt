@@ -50,7 +50,6 @@ all-right : every 16 right ≡ true
 unfolding every right entryAt houseEntry
 all-right = refl
 
-
 -- the entries of the constant tables are those of the document's table
 pub house-inside : (s c : ℕ) → s ≤ 3 → c ≤ 3 → record { next = getD nexts (s * 4 + c) 0; answer = getD answers (s * 4 + c) 0 } ≡ houseEntry s c
 unfolding right entryAt
@@ -58,9 +57,9 @@ house-inside s c p q =
     let e = s * 4 + c in
     let t : right e ≡ true = every-at 16 right all-right e (omega arith) in
     let h : record { next = getD nexts e 0; answer = getD answers e 0 } ≡ houseEntry (e / 4) (e % 4) =
-        ap₂ (λ (x y : ℕ). record { next = x; answer = y })
-        (eqb-true _ _ (left-true (eqb (getD nexts e 0) (entryAt e .next)) (eqb (getD answers e 0) (entryAt e .answer)) t))
-        (eqb-true _ _ (right-true (eqb (getD nexts e 0) (entryAt e .next)) (eqb (getD answers e 0) (entryAt e .answer)) t)) in
+    ap₂ (λ (x y : ℕ). record { next = x; answer = y })
+    (eqb-true _ _ (left-true (eqb (getD nexts e 0) (entryAt e .next)) (eqb (getD answers e 0) (entryAt e .answer)) t))
+    (eqb-true _ _ (right-true (eqb (getD nexts e 0) (entryAt e .next)) (eqb (getD answers e 0) (entryAt e .answer)) t)) in
     h ∙ ap₂ houseEntry (omega arith) (omega arith)
 
 row-length : (s : ℕ) → length (getD houseTable s []) ≤ 4
@@ -77,4 +76,4 @@ house-command s c h = sym (List·getD-eq-default (getD houseTable s []) (record 
 
 pub house-state : (s c : ℕ) → 3 < s → record { next = 255; answer = 0 } ≡ houseEntry s c
 unfolding houseEntry
-house-state s c h = ap (λ (row : List Entry). getD row c (record { next = 255; answer = 0 })) (sym (List·getD-eq-default houseTable [] (omega arith)))
+house-state s c h = ap (λ (row : List Entry). getD row c (record { next = 255; answer = 0 })) (sym (List·getD-eq-default houseTable [] {n = s} (omega arith)))

@@ -1,5 +1,7 @@
 mod Columns
 mod Housing
+mod Loadings
 mod Numbers
+mod Pairs
 mod Runs
 mod Scanning

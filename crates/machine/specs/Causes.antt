@@ -9,10 +9,12 @@ use Rattle.sheet.specs.declared.record.Record.{Record}
 use Rattle.sheet.specs.declared.reader.Needs.{Needs}
 use Rattle.sheet.specs.Check.{refusal_with_if_, _else_, first}
 use Rattle.sheet.specs.Format.{offset}
-use Rattle.sheet.specs.Reader.{causes12, needed, the, content}
-use Rattle.machine.specs.Limits.{states, commands, entries, wordMost}
+use Rattle.sheet.specs.Reader.{sheetCauses, needed, the, content}
+use Rattle.machine.specs.Limits.{mostStates, mostCommands, mostEntries, mostWord}
 use Rattle.machine.specs.Machine.{Mealy, pairAt, machineOf, answers}
 pub mod Laws
+pub mod Lists
+pub mod Separation
 
 -- below the least or above the most
 abbrev pub outside : ℕ → ℕ → ℕ → Bool
@@ -23,7 +25,7 @@ unfoldable pub cause3 : Record → List ℕ → Check
 cause3 r p =
     let n = getD p 0 0 in
     let k = getD p 1 0 in
-    refusal 3 with r .start if (outside 1 states n || outside 1 commands k || not (eqb (length p) (2 + 2 * (n * k))))
+    refusal 3 with r .start if (outside 1 mostStates n || outside 1 mostCommands k || not (eqb (length p) (2 + 2 * (n * k))))
 
 -- "next state": "offset of the first next-state byte that is n or more"
 unfoldable pub cause4 : Record → List ℕ → Check
@@ -40,7 +42,7 @@ commandsCause number most k r w =
 
 -- "word"
 abbrev pub cause5 : ℕ → Record → List ℕ → Check
-cause5 k r w = commandsCause 5 wordMost k r w
+cause5 k r w = commandsCause 5 mostWord k r w
 
 -- equal lists
 abbrev pub same : List ℕ → List ℕ → Bool
@@ -61,17 +63,17 @@ machineIn s = machineOf (content 1 s)
 -- the machine that the program holds for any sheet: that of as many bytes as the largest machine has. It is the sheet's machine where
 -- cause 3 is absent: held-is, in Causes.Laws
 unfoldable pub held : List ℕ → Mealy
-held s = machineOf (take (2 + 2 * entries) (content 1 s))
+held s = machineOf (take (2 + 2 * mostEntries) (content 1 s))
 
 -- causes 1 to 4, for a service that needs the machine and the kinds that it says
-unfoldable pub causes1to4 : Needs → List ℕ → List Check
-causes1to4 n s = causes12 (needed n) s ++ (cause3 (the 1 s) (content 1 s) ∷ cause4 (the 1 s) (content 1 s) ∷ [])
+unfoldable pub machineCauses : Needs → List ℕ → List Check
+machineCauses n s = sheetCauses (needed n) s ++ (cause3 (the 1 s) (content 1 s) ∷ cause4 (the 1 s) (content 1 s) ∷ [])
 
 -- causes 5 and 6, where the word is needed
-unfoldable pub causes5to6 : Bool → List ℕ → List Check
-causes5to6 true s = cause5 (machineIn s .k) (the 2 s) (content 2 s) ∷ cause6 (machineIn s) (content 2 s) ∷ []
-causes5to6 false s = []
+unfoldable pub wordCauses : Bool → List ℕ → List Check
+wordCauses true s = cause5 (machineIn s .k) (the 2 s) (content 2 s) ∷ cause6 (machineIn s) (content 2 s) ∷ []
+wordCauses false s = []
 
 -- causes 1 to 6, "the rest by number, as far as the service needs them"
-unfoldable pub causes1to6 : Needs → List ℕ → List Check
-causes1to6 n s = causes1to4 n s ++ causes5to6 (n .word) s
+unfoldable pub loadCauses : Needs → List ℕ → List Check
+loadCauses n s = machineCauses n s ++ wordCauses (n .word) s

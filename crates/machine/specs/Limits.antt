@@ -6,28 +6,28 @@ use Rattle.sheet.specs.Format.{longest, header}
 use Rattle.machine.specs.declared.machine.Limits.{Limits}
 
 -- "n is 1 to 10"
-abbrev pub states : ℕ
-states = 10
+abbrev pub mostStates : ℕ
+mostStates = 10
 
 -- "k is 1 to 8"
-abbrev pub commands : ℕ
-commands = 8
+abbrev pub mostCommands : ℕ
+mostCommands = 8
 
 -- word: "1 to 16 commands"
-abbrev pub wordMost : ℕ
-wordMost = 16
+abbrev pub mostWord : ℕ
+mostWord = 16
 
 -- sequence: "1 to 20,355 commands"
-abbrev pub sequenceMost : ℕ
-sequenceMost = 20355
+abbrev pub mostSequence : ℕ
+mostSequence = 20355
 
 -- the most entries, n·k
-abbrev pub entries : ℕ
-entries = states * commands
+abbrev pub mostEntries : ℕ
+mostEntries = mostStates * mostCommands
 
 abbrev pub limits : Limits
-limits = record { states = states; commands = commands; word = wordMost; sequence = sequenceMost }
+limits = record { states = mostStates; commands = mostCommands; word = mostWord; sequence = mostSequence }
 
 -- the longest sheet is that of the largest machine, word, sequence and answers
-pub longest-is : longest ≡ header + (2 + 2 * entries) + (header + wordMost) + (header + sequenceMost) + (header + sequenceMost)
+pub longest-is : longest ≡ header + (2 + 2 * mostEntries) + (header + mostWord) + (header + mostSequence) + (header + mostSequence)
 longest-is = refl

@@ -1,21 +1,25 @@
--- What every service begins with: the first refusal of causes 1 to 6, or the machine and where its word stands.
+-- What a service that needs the machine begins with: the first refusal of causes 1 to 6, or the machine and where its word stands.
 use Prim.Native.Nat.{ℕ}
 use mathlib.Core.Path.{_≡_}
+use mathlib.Core.Bool.{true}
 use mathlib.Core.List.{List}
 use Rattle.sheet.specs.declared.check.Check.the-variants.{Clear}
 use Rattle.sheet.specs.declared.reader.Needs.{Needs}
 use Rattle.sheet.specs.Check.{firstCause}
-use Rattle.sheet.specs.Reader.{part}
+use Rattle.sheet.specs.Reader.{part, content}
 use Rattle.machine.specs.declared.loading.Loaded.{Loaded}
-use Rattle.machine.specs.Machine.{meaning}
-use Rattle.machine.specs.Causes.{machineIn, held, causes1to6}
+use Rattle.machine.specs.Machine.{meaning, Proper, Distinguishes}
+use Rattle.machine.specs.Causes.{machineIn, held, loadCauses}
 
+-- the kinds n needed, the sheet s, and what loading it answers
 pub record LoadedFrom (n : Needs) (s : List ℕ) (l : Loaded) : Type 0 where
   -- the first refusal, or Clear
-  pub check : l .check ≡ firstCause (causes1to6 n s)
-  -- the machine of the sheet where nothing is refused
-  pub machine : l .check ≡ Clear → meaning (l .machine) ≡ machineIn s
-  -- the machine that is held in any case
-  pub holds : meaning (l .machine) ≡ held s
+  pub check : l .check ≡ firstCause (loadCauses n s)
   -- where the word stands
   pub word : l .word ≡ part 2 s
+  -- where nothing is refused: the machine of the sheet, within its limits, and a word that separates its states
+  pub machine : l .check ≡ Clear → meaning (l .machine) ≡ machineIn s
+  pub proper : l .check ≡ Clear → Proper (machineIn s)
+  pub distinguishes : n .word ≡ true → l .check ≡ Clear → Distinguishes (machineIn s) (content 2 s)
+  -- on a refusal document 01 leaves the machine free: it is this one in any case
+  pub holds : meaning (l .machine) ≡ held s

@@ -1,9 +1,10 @@
 -- The machine that a sheet specifies, and its runs (document 01, "The sheet" and "Recognition"; separation, "Causes" row 6).
 -- The laws stand in Machine.Laws.
-use Prim.Native.Nat.{ℕ, _+_, _*_, _<_}
+use Prim.Native.Nat.{ℕ, _+_, _*_, _≤_, _<_}
 use mathlib.Core.Path.{_≡_}
 use mathlib.Core.List.{List, [], _∷_}
-use lib.ListN.{getD, take}
+use lib.ListN.{length, getD, take}
+use Rattle.machine.specs.Limits.{mostStates, mostCommands, mostWord}
 use Rattle.machine.specs.declared.machine.Machine.{Machine}
 pub mod Laws
 
@@ -20,7 +21,7 @@ pub record Mealy : Type 0 where
 abbrev pub pairAt : ℕ → ℕ
 pairAt e = 2 + 2 * e
 
--- the machine of a payload: "all commands of state 0 first. States count from 0, and 0 is the start."
+-- the machine of a payload: "all commands of state 0 first", and "States count from 0, and 0 is the start."
 unfoldable pub machineOf : List ℕ → Mealy
 machineOf p = record {
   n = getD p 0 0;
@@ -30,15 +31,19 @@ machineOf p = record {
   answer = λ s c. getD p (pairAt (s * getD p 1 0 + c) + 1) 0;
 }
 
--- the machine that the program holds in a value of its type Machine
-unfoldable pub meaning : Machine → Mealy
-meaning m = record {
-  n = m .n;
-  k = m .k;
-  start = m .start;
-  next = λ s c. getD (m .next) (s * m .k + c) 0;
-  answer = λ s c. getD (m .answer) (s * m .k + c) 0;
+-- the machine of a table's two columns, entry (s, c) at s·k + c
+unfoldable pub tabled : ℕ → ℕ → ℕ → List ℕ → List ℕ → Mealy
+tabled n k start next answer = record {
+  n = n;
+  k = k;
+  start = start;
+  next = λ s c. getD next (s * k + c) 0;
+  answer = λ s c. getD answer (s * k + c) 0;
 }
+
+-- the machine that the program holds in a value of its type Machine
+abbrev pub meaning : Machine → Mealy
+meaning m = tabled (m .n) (m .k) (m .start) (m .next) (m .answer)
 
 -- the state after some commands
 unfoldable pub run : Mealy → ℕ → List ℕ → ℕ
@@ -51,9 +56,29 @@ answers M s [] = []
 answers M s (c ∷ w) = M .answer s c ∷ answers M (M .next s c) w
 
 -- "Run the machine from state 0 along the sequence: places 0 to N, place p has a state."
-unfoldable pub place : Mealy → List ℕ → ℕ → ℕ
-place M xs p = run M (M .start) (take p xs)
+unfoldable pub stateAt : Mealy → List ℕ → ℕ → ℕ
+stateAt M xs p = run M (M .start) (take p xs)
 
 -- the word separates the states, that is, it is a preset distinguishing sequence: no two answer it alike
 abbrev pub Separates : Mealy → List ℕ → Type 0
 Separates M w = (i j : ℕ) → i < M .n → j < M .n → answers M i w ≡ answers M j w → i ≡ j
+
+-- a machine within the limits, whose start and next states are states
+pub record Proper (M : Mealy) : Type 0 where
+  pub some-states : 1 ≤ M .n
+  pub few-states : M .n ≤ mostStates
+  pub some-commands : 1 ≤ M .k
+  pub few-commands : M .k ≤ mostCommands
+  pub starts : M .start < M .n
+  pub stays : (s c : ℕ) → s < M .n → c < M .k → M .next s c < M .n
+
+-- a word or a sequence: 1 to most commands, each below k
+pub record Commands (most k : ℕ) (w : List ℕ) : Type 0 where
+  pub some : 1 ≤ length w
+  pub few : length w ≤ most
+  pub low : (i : ℕ) → i < length w → getD w i 0 < k
+
+-- a word within the limits that separates the states
+pub record Distinguishes (M : Mealy) (w : List ℕ) : Type 0 where
+  pub commands : Commands mostWord (M .k) w
+  pub separates : Separates M w

@@ -11,7 +11,7 @@ use sheet::Check;
 use sheet::HEADER;
 use sheet::Record;
 use sheet::byte;
-use sheet::either;
+use sheet::first_of;
 use sheet::read;
 use sheet::record_of;
 use sheet::refuse;
@@ -40,7 +40,10 @@ fn scan(
     while i < count {
         let at = from + stride * i;
         let check = refuse(number, base + at, bound <= byte(part, at));
-        if let Check::Refused { number: _, place: _ } = check {
+        if let Check::Refused {
+            number: _,
+            place: _,
+        } = check {
             return check;
         }
         i += 1;
@@ -77,5 +80,5 @@ pub fn commands(sheet: &[u8], kind: u16, number: u8, most: usize, k: u8) -> Chec
     let w = read(sheet, kind);
     let length = refuse(number, r.start, outside(1, most, w.len()));
     let high = scan(number, r.start + HEADER, w, 0, 1, w.len(), k);
-    either(length, high)
+    first_of(length, high)
 }

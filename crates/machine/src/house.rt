@@ -10,6 +10,7 @@ pub struct Entry {
 
 // Next states and answers, four commands a state.
 const NEXT: [u8; 16] = [0, 1, 2, 0, 1, 0, 3, 1, 2, 2, 2, 0, 3, 3, 3, 1];
+
 const ANSWER: [u8; 16] = [31, 6, 6, 21, 2, 6, 6, 21, 31, 21, 21, 6, 2, 21, 21, 6];
 
 // The entry of a state and a command; next state 255 and answer 0 above 3.
@@ -17,11 +18,20 @@ pub fn house_entry(state: u8, command: u8) -> Entry
     ensures { λ r. ⌜ r ≡ houseEntry state command ⌝ }
 {
     if 3 < state {
-        return Entry { next: 255, answer: 0 };
+        return Entry {
+            next: 255,
+            answer: 0,
+        };
     }
     if 3 < command {
-        return Entry { next: 255, answer: 0 };
+        return Entry {
+            next: 255,
+            answer: 0,
+        };
     }
     let at = state as usize * 4 + command as usize;
-    Entry { next: NEXT[at], answer: ANSWER[at] }
+    Entry {
+        next: NEXT[at],
+        answer: ANSWER[at],
+    }
 }

@@ -2,7 +2,7 @@
 ghost use mathlib.Core.Path.{_≡_};
 ghost use Rattle.sheet.specs.Check.{firstCause};
 ghost use Rattle.machine.specs.Machine.{meaning};
-ghost use Rattle.machine.specs.Causes.{machineIn, held, causes1to4, causes5to6, causes1to6};
+ghost use Rattle.machine.specs.Causes.{machineIn, held, machineCauses, wordCauses, loadCauses};
 ghost use Rattle.machine.specs.Loading.{LoadedFrom};
 use crate::checks::commands;
 use crate::checks::next_states;
@@ -10,12 +10,12 @@ use crate::checks::shape;
 use crate::machine::Machine;
 use crate::separation::separation;
 use sheet::Check;
-use sheet::MACHINE;
+use sheet::MACHINE_KIND;
 use sheet::Needs;
 use sheet::Part;
-use sheet::WORD;
+use sheet::WORD_KIND;
 use sheet::checks;
-use sheet::either;
+use sheet::first_of;
 use sheet::part_of;
 use sheet::read;
 use sheet::record_of;
@@ -30,27 +30,30 @@ pub struct Loaded {
 
 // Causes 1 to 4.
 fn table_check(sheet: &[u8], needs: Needs) -> Check
-    ensures { λ r. ⌜ r ≡ firstCause (causes1to4 needs (now (sheet .entry))) ⌝ }
+    ensures { λ r. ⌜ r ≡ firstCause (machineCauses needs (now (sheet .entry))) ⌝ }
 {
     let kinds = checks(sheet, needs);
-    let r = record_of(sheet, MACHINE);
-    let p = read(sheet, MACHINE);
+    let r = record_of(sheet, MACHINE_KIND);
+    let p = read(sheet, MACHINE_KIND);
     let three = shape(r, p);
     let four = next_states(r, p);
-    either(kinds, either(three, four))
+    first_of(kinds, first_of(three, four))
 }
 
 // Causes 5 and 6, where the word is needed, for the sheet's machine.
 fn word_check(sheet: &[u8], m: Machine, needed: bool) -> Check
     requires { ⌜ meaning m ≡ machineIn (now sheet) ⌝ }
-    ensures { λ r. ⌜ r ≡ firstCause (causes5to6 needed (now (sheet .entry))) ⌝ }
+    ensures { λ r. ⌜ r ≡ firstCause (wordCauses needed (now (sheet .entry))) ⌝ }
 {
     if needed {
-        let five = commands(sheet, WORD, 5, Machine::WORD, m.k);
-        if let Check::Refused { number: _, place: _ } = five {
+        let five = commands(sheet, WORD_KIND, 5, Machine::WORD, m.k);
+        if let Check::Refused {
+            number: _,
+            place: _,
+        } = five {
             return five;
         }
-        separation(m, read(sheet, WORD))
+        separation(m, read(sheet, WORD_KIND))
     } else {
         Check::Clear
     }
@@ -59,10 +62,13 @@ fn word_check(sheet: &[u8], m: Machine, needed: bool) -> Check
 // Causes 1 to 6, with the machine as it was loaded.
 fn all_checks(sheet: &[u8], needs: Needs, m: Machine) -> Check
     requires { ⌜ meaning m ≡ held (now sheet) ⌝ }
-    ensures { λ r. ⌜ r ≡ firstCause (causes1to6 needs (now (sheet .entry))) ⌝ }
+    ensures { λ r. ⌜ r ≡ firstCause (loadCauses needs (now (sheet .entry))) ⌝ }
 {
     let table = table_check(sheet, needs);
-    if let Check::Refused { number: _, place: _ } = table {
+    if let Check::Refused {
+        number: _,
+        place: _,
+    } = table {
         return table;
     }
     word_check(sheet, m, needs.word)
@@ -72,9 +78,9 @@ fn all_checks(sheet: &[u8], needs: Needs, m: Machine) -> Check
 pub fn load_sheet(sheet: &[u8], needs: Needs) -> Loaded
     ensures { λ r. ⌜ LoadedFrom needs (now (sheet .entry)) r ⌝ }
 {
-    let machine = Machine::load(read(sheet, MACHINE));
+    let machine = Machine::load(read(sheet, MACHINE_KIND));
     let check = all_checks(sheet, needs, machine);
-    let word = part_of(sheet, WORD);
+    let word = part_of(sheet, WORD_KIND);
     Loaded {
         check,
         machine,

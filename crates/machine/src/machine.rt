@@ -2,7 +2,7 @@
 ghost use mathlib.Core.Path.{_≡_};
 ghost use Prim.Native.Nat.{ℕ, _+_, _*_, _≤_, _<_};
 ghost use lib.ListN.{getD, take, length};
-ghost use Rattle.machine.specs.Limits.{entries};
+ghost use Rattle.machine.specs.Limits.{mostEntries};
 ghost use Rattle.machine.specs.Limits.{limits as theLimits};
 ghost use Rattle.machine.specs.Machine.{machineOf, meaning};
 use sheet::byte;
@@ -27,8 +27,11 @@ pub struct Limits {
 impl Machine {
     // The most states, commands, commands in a word and commands in a sequence.
     pub const STATES: usize = 10;
+
     pub const COMMANDS: usize = 8;
+
     pub const WORD: usize = 16;
+
     pub const SEQUENCE: usize = 20_355;
 
     // The most entries.
@@ -36,7 +39,7 @@ impl Machine {
 
     // The machine of a payload, of which it takes as many bytes as the largest machine has.
     pub fn load(p: &[u8]) -> Machine
-        ensures { λ m. ⌜ meaning m ≡ machineOf (take (2 + 2 * entries) (now (p .entry))) ⌝ }
+        ensures { λ m. ⌜ meaning m ≡ machineOf (take (2 + 2 * mostEntries) (now (p .entry))) ⌝ }
     {
         let next = column(p, 2);
         let answer = column(p, 3);
@@ -65,7 +68,7 @@ impl Machine {
 // One column of a payload's pairs: every second byte from a place on.
 fn column(p: &[u8], from: usize) -> [u8; Machine::ENTRIES]
     requires { ⌜ from ≤ 3 ⌝ }
-    ensures { λ r. ⌜ ((e : ℕ) → e < entries → getD r e 0 ≡ getD (now (p .entry)) (from + 2 * e) 0) ⌝ }
+    ensures { λ r. ⌜ ((e : ℕ) → e < mostEntries → getD r e 0 ≡ getD (now (p .entry)) (from + 2 * e) 0) ⌝ }
 {
     let mut cells = [0u8; Machine::ENTRIES];
     let mut e = 0;

@@ -1,22 +1,16 @@
-// Cause 6: whether a word separates the states.
+// Cause 6: whether a word separates the states. The functions below the last take the table's two
+// columns as slices, so that no call copies them.
 ghost use mathlib.Core.Path.{_≡_};
 ghost use Prim.Native.Nat.{_+_, _*_, _<_};
-ghost use lib.ListN.{getD};
 ghost use Rattle.sheet.specs.Check.{first};
-ghost use Rattle.machine.specs.Machine.{meaning, answers};
+ghost use Rattle.machine.specs.Machine.{tabled, meaning, answers};
 ghost use Rattle.machine.specs.Causes.{cause6, same};
-ghost use Rattle.machine.specs.Causes.Laws.{pairCause};
+ghost use Rattle.machine.specs.Causes.Separation.{pairCause};
 use crate::machine::Machine;
 use sheet::Check;
+use sheet::byte;
 
-// A cell of a table, 0 past its end.
-fn cell(table: &[u8; Machine::ENTRIES], i: usize) -> u8
-    ensures { λ r. ⌜ r ≡ getD (now (table .entry)) i 0 ⌝ }
-{
-    if i < Machine::ENTRIES { table[i] } else { 0 }
-}
-
-// Where the entry of a state and a command stands in a table.
+// Where the entry of a state and a command stands in a column.
 fn entry(k: u8, s: u8, c: u8) -> usize
     ensures { λ r. ⌜ r ≡ s * k + c ⌝ }
 {
@@ -24,37 +18,33 @@ fn entry(k: u8, s: u8, c: u8) -> usize
 }
 
 // Whether two states answer a word alike.
-fn agree(m: Machine, w: &[u8], i: u8, j: u8) -> bool
-    ensures { λ r. ⌜ r ≡ same (answers (meaning m) i (now (w .entry))) (answers (meaning m) j (now (w .entry))) ⌝ }
+fn agree(next: &[u8], answer: &[u8], k: u8, w: &[u8], i: u8, j: u8) -> bool
+    ensures { λ r. ⌜ r ≡ same (answers (tabled 0 k 0 (now (next .entry)) (now (answer .entry))) i (now (w .entry))) (answers (tabled 0 k 0 (now (next .entry)) (now (answer .entry))) j (now (w .entry))) ⌝ }
 {
-    let next = m.next;
-    let answer = m.answer;
-    let k = m.k;
     let mut s = i;
     let mut t = j;
     let mut p = 0;
     while p < w.len() {
         let a = entry(k, s, w[p]);
         let b = entry(k, t, w[p]);
-        if cell(&answer, a) != cell(&answer, b) {
+        if byte(answer, a) != byte(answer, b) {
             return false;
         }
-        s = cell(&next, a);
-        t = cell(&next, b);
+        s = byte(next, a);
+        t = byte(next, b);
         p += 1;
     }
     true
 }
 
 // The least j above i whose answers equal those of i.
-fn partner(m: Machine, w: &[u8], i: u8) -> Check
-    requires { ⌜ i < m .n ⌝ }
-    ensures { λ c. ⌜ c ≡ first (m .n) (pairCause (meaning m) (now (w .entry)) i) ⌝ }
+fn partner(next: &[u8], answer: &[u8], n: u8, k: u8, w: &[u8], i: u8) -> Check
+    requires { ⌜ i < n ⌝ }
+    ensures { λ c. ⌜ c ≡ first n (pairCause (tabled 0 k 0 (now (next .entry)) (now (answer .entry))) (now (w .entry)) i) ⌝ }
 {
-    let n = m.n;
     let mut j = i + 1;
     while j < n {
-        if agree(m, w, i, j) {
+        if agree(next, answer, k, w, i, j) {
             return Check::Refused {
                 number: 6,
                 place: 16 * (i as usize) + j as usize,
@@ -65,18 +55,29 @@ fn partner(m: Machine, w: &[u8], i: u8) -> Check
     Check::Clear
 }
 
-// Cause 6.
-pub fn separation(m: Machine, w: &[u8]) -> Check
-    ensures { λ c. ⌜ c ≡ cause6 (meaning m) (now (w .entry)) ⌝ }
+// The least i, then the least j above it.
+fn pair(next: &[u8], answer: &[u8], n: u8, k: u8, w: &[u8]) -> Check
+    ensures { λ c. ⌜ c ≡ cause6 (tabled n k 0 (now (next .entry)) (now (answer .entry))) (now (w .entry)) ⌝ }
 {
-    let n = m.n;
     let mut i: u8 = 0;
     while i < n {
-        let check = partner(m, w, i);
-        if let Check::Refused { number: _, place: _ } = check {
+        let check = partner(next, answer, n, k, w, i);
+        if let Check::Refused {
+            number: _,
+            place: _,
+        } = check {
             return check;
         }
         i += 1;
     }
     Check::Clear
+}
+
+// Cause 6.
+pub fn separation(m: Machine, w: &[u8]) -> Check
+    ensures { λ c. ⌜ c ≡ cause6 (meaning m) (now (w .entry)) ⌝ }
+{
+    let next = m.next;
+    let answer = m.answer;
+    pair(&next, &answer, m.n, m.k, w)
 }

@@ -1,1 +1,1 @@
-mod Walking
+mod Parsing

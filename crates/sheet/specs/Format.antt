@@ -64,37 +64,37 @@ unfoldable pub causeAt : List ℕ → ℕ → ℕ → Check
 causeAt s at last = cause1 s at else cause2 s at last
 
 -- the records from the front that are in order, and what stopped the reading: Clear at the sheet's end
-pub record Walked : Type 0 where
+pub record Parsed : Type 0 where
   pub records : List Record
   pub stop : Check
 
-abbrev pub ended : Check → Walked
+abbrev pub ended : Check → Parsed
 ended c = record { records = []; stop = c }
 
 infixr 15 _before_
-abbrev pub _before_ : Record → Walked → Walked
+abbrev pub _before_ : Record → Parsed → Parsed
 r before w = record { records = r ∷ w .records; stop = w .stop }
 
 -- one step of the reading: at the sheet's end it ends, at a cause it stops, else a record and what follows it
-unfoldable pub onward : Bool → Check → Record → Walked → Walked
+unfoldable pub onward : Bool → Check → Record → Parsed → Parsed
 onward false c r w = ended Clear
 onward true (Refused n p) r w = ended (Refused n p)
 onward true Clear r w = r before w
 
 -- the reading from a place on, last being the rank of the record before. A record takes at least a byte, so as many steps as there are
--- bytes left end it: walk-end and walk-on, in Format.Laws, say that walk reads on without that number
-unfoldable pub walkFrom : ℕ → List ℕ → ℕ → ℕ → Walked
-walkFrom zero s at last = ended Clear
-walkFrom (suc f) s at last =
-    let w : Walked = walkFrom f s (end (recordAt s at)) (rank (kindOf (recordAt s at .kind))) in
+-- bytes left end it: parse-end and parse-on, in Format.Laws, say that parse reads on without that number
+unfoldable pub parseFrom : ℕ → List ℕ → ℕ → ℕ → Parsed
+parseFrom zero s at last = ended Clear
+parseFrom (suc f) s at last =
+    let w : Parsed = parseFrom f s (end (recordAt s at)) (rank (kindOf (recordAt s at .kind))) in
     onward (ltb at (length s)) (causeAt s at last) (recordAt s at) w
 
-unfoldable pub walk : List ℕ → ℕ → ℕ → Walked
-walk s at last = walkFrom (length s - at) s at last
+unfoldable pub parse : List ℕ → ℕ → ℕ → Parsed
+parse s at last = parseFrom (length s - at) s at last
 
 -- the whole sheet
-unfoldable pub walked : List ℕ → Walked
-walked s = walk s 0 0
+unfoldable pub parsed : List ℕ → Parsed
+parsed s = parse s 0 0
 
 -- the record where it is of the kind
 unfoldable pub ofKind : ℕ → Record → Found

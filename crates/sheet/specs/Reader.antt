@@ -14,7 +14,7 @@ use Rattle.sheet.specs.declared.record.Found.the-variants.{At, Missing}
 use Rattle.sheet.specs.declared.reader.Part.{Part}
 use Rattle.sheet.specs.declared.reader.Needs.{Needs}
 use Rattle.sheet.specs.Check.{refusal_with_if_, firstCause}
-use Rattle.sheet.specs.Format.{longest, header, Walked, walked, find}
+use Rattle.sheet.specs.Format.{longest, header, Parsed, parsed, find}
 pub mod Laws
 
 -- "The sheet's length is compared first": cause 1 at "40,912 if longer than that"
@@ -27,11 +27,11 @@ isMissing Missing = true
 
 -- "a needed kind missing, the sheet's length"
 abbrev pub missing : List ℕ → ℕ → Check
-missing s k = refusal 2 with length s if isMissing (find k (walked s .records))
+missing s k = refusal 2 with length s if isMissing (find k (parsed s .records))
 
 -- causes 1 and 2 in order, for the kinds that a service needs; "a missing kind comes last"
-unfoldable pub causes12 : List ℕ → List ℕ → List Check
-causes12 needed s = tooLong s ∷ walked s .stop ∷ map (missing s) needed
+unfoldable pub sheetCauses : List ℕ → List ℕ → List Check
+sheetCauses needed s = tooLong s ∷ parsed s .stop ∷ map (missing s) needed
 
 -- a kind where it is needed
 unfoldable pub when : Bool → ℕ → List ℕ
@@ -44,7 +44,7 @@ needed n = 1 ∷ (when (n .word) 2 ++ (when (n .sequence) 3 ++ when (n .answers)
 
 -- reading "makes checks 1 and 2 only, the wanted kind being the needed one"
 unfoldable pub refusalOf : ℕ → List ℕ → Check
-refusalOf k s = firstCause (causes12 (k ∷ []) s)
+refusalOf k s = firstCause (sheetCauses (k ∷ []) s)
 
 -- the record of a kind; where there is none cause 2 is present, and what this says does not count
 abbrev pub recordOr : Found → Record
@@ -52,20 +52,20 @@ recordOr (At r) = r
 recordOr Missing = record { start = 0; size = 0; kind = 0 }
 
 unfoldable pub the : ℕ → List ℕ → Record
-the k s = recordOr (find k (walked s .records))
+the k s = recordOr (find k (parsed s .records))
 
 -- a record's payload, "header left out"; the empty part at the sheet's start where there is none
-abbrev pub payload : Found → Part
-payload (At r) = record { from = r .start + header; size = r .size }
-payload Missing = record { from = 0; size = 0 }
+abbrev pub payloadPart : Found → Part
+payloadPart (At r) = record { from = r .start + header; size = r .size }
+payloadPart Missing = record { from = 0; size = 0 }
 
 -- the wanted record's payload; "a refusal hands back the empty part at the sheet's start"
 abbrev pub partWhen : Check → Found → Part
-partWhen Clear f = payload f
-partWhen (Refused n p) f = payload Missing
+partWhen Clear f = payloadPart f
+partWhen (Refused n p) f = payloadPart Missing
 
 unfoldable pub part : ℕ → List ℕ → Part
-part k s = partWhen (refusalOf k s) (find k (walked s .records))
+part k s = partWhen (refusalOf k s) (find k (parsed s .records))
 
 -- the bytes of a part of a sheet
 unfoldable pub bytes : Part → List ℕ → List ℕ

@@ -20,7 +20,7 @@ pub fn refuse(number: u8, place: usize, present: bool) -> Check
 }
 
 // The first check, or, where it is clear, the second.
-pub fn either(a: Check, b: Check) -> Check
+pub fn first_of(a: Check, b: Check) -> Check
     ensures { λ r. ⌜ r ≡ (a else b) ⌝ }
 {
     match a {

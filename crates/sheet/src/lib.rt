@@ -1,19 +1,19 @@
 // The byte format of a sheet: records, kinds, checks 1 and 2, and the reader.
 mod check;
+mod parse;
 mod reader;
 mod record;
-mod walk;
 
 pub use check::Check;
-pub use check::either;
+pub use check::first_of;
 pub use check::refuse;
-pub use reader::ANSWERS;
+pub use reader::ANSWERS_KIND;
 pub use reader::LONGEST;
-pub use reader::MACHINE;
+pub use reader::MACHINE_KIND;
 pub use reader::Needs;
 pub use reader::Part;
-pub use reader::SEQUENCE;
-pub use reader::WORD;
+pub use reader::SEQUENCE_KIND;
+pub use reader::WORD_KIND;
 pub use reader::checks;
 pub use reader::part_of;
 pub use reader::read;

@@ -3,30 +3,30 @@ ghost use mathlib.Core.Path.{_≡_};
 ghost use Prim.Native.Nat.{_+_, _≤_};
 ghost use lib.ListN.{length};
 ghost use Rattle.sheet.specs.Check.{refusal_with_if_, firstCause};
-ghost use Rattle.sheet.specs.Format.{walked, find};
-ghost use Rattle.sheet.specs.Reader.{tooLong, isMissing, missing, causes12, needed, refusalOf, seen, handed};
+ghost use Rattle.sheet.specs.Format.{parsed, find};
+ghost use Rattle.sheet.specs.Reader.{tooLong, isMissing, missing, sheetCauses, needed, refusalOf, seen, handed};
 ghost use Rattle.sheet.specs.Reader.{part as partOf, the as theOf};
 ghost use Rattle.sheet.specs.Reader.Laws.{whenMissing};
 use crate::check::Check;
-use crate::check::either;
+use crate::check::first_of;
 use crate::check::refuse;
+use crate::parse::Parsed;
+use crate::parse::parse;
 use crate::record::Found;
 use crate::record::HEADER;
 use crate::record::Record;
-use crate::walk::Walked;
-use crate::walk::walk;
 
 // The bytes of the longest sheet.
 pub const LONGEST: usize = 40_912;
 
 // The numbers of the kinds.
-pub const MACHINE: u16 = 1;
+pub const MACHINE_KIND: u16 = 1;
 
-pub const WORD: u16 = 2;
+pub const WORD_KIND: u16 = 2;
 
-pub const SEQUENCE: u16 = 3;
+pub const SEQUENCE_KIND: u16 = 3;
 
-pub const ANSWERS: u16 = 4;
+pub const ANSWERS_KIND: u16 = 4;
 
 // A part of a sheet: where it starts and its length.
 pub struct Part {
@@ -56,23 +56,23 @@ fn is_missing(found: Found) -> bool
     }
 }
 
-// Checks 1 and 2 from what the walk answered: length, records, wanted kind.
-fn outcome(sheet: &[u8], kind: u16, w: Walked) -> Check
-    requires { ⌜ (w .stop ≡ walked (now sheet) .stop) × (w .found ≡ find kind (walked (now sheet) .records)) ⌝ }
+// Checks 1 and 2 from what the parse answered: length, records, wanted kind.
+fn outcome(sheet: &[u8], kind: u16, w: Parsed) -> Check
+    requires { ⌜ (w .stop ≡ parsed (now sheet) .stop) × (w .found ≡ find kind (parsed (now sheet) .records)) ⌝ }
     ensures { λ r. ⌜ r ≡ refusalOf kind (now (sheet .entry)) ⌝ }
 {
     let stop = w.stop;
     let found = w.found;
     let long = too_long(sheet);
     let lacking = refuse(2, sheet.len(), is_missing(found));
-    either(long, either(stop, lacking))
+    first_of(long, first_of(stop, lacking))
 }
 
 // The refusal's number and place of reading a kind, or that there is none.
 pub fn refusal(sheet: &[u8], kind: u16) -> Check
     ensures { λ r. ⌜ r ≡ refusalOf kind (now (sheet .entry)) ⌝ }
 {
-    let w = walk(sheet, kind);
+    let w = parse(sheet, kind);
     outcome(sheet, kind, w)
 }
 
@@ -80,27 +80,27 @@ pub fn refusal(sheet: &[u8], kind: u16) -> Check
 fn required(sheet: &[u8], kind: u16, needed: bool) -> Check
     ensures { λ r. ⌜ r ≡ whenMissing (now (sheet .entry)) kind needed ⌝ }
 {
-    let w = walk(sheet, kind);
+    let w = parse(sheet, kind);
     let found = w.found;
     refuse(2, sheet.len(), needed & is_missing(found))
 }
 
 // Checks 1 and 2 for the kinds that a service needs.
 pub fn checks(sheet: &[u8], needs: Needs) -> Check
-    ensures { λ r. ⌜ r ≡ firstCause (causes12 (needed needs) (now (sheet .entry))) ⌝ }
+    ensures { λ r. ⌜ r ≡ firstCause (sheetCauses (needed needs) (now (sheet .entry))) ⌝ }
 {
-    let machine = refusal(sheet, MACHINE);
-    let word = required(sheet, WORD, needs.word);
-    let sequence = required(sheet, SEQUENCE, needs.sequence);
-    let answers = required(sheet, ANSWERS, needs.answers);
-    either(machine, either(word, either(sequence, answers)))
+    let machine = refusal(sheet, MACHINE_KIND);
+    let word = required(sheet, WORD_KIND, needs.word);
+    let sequence = required(sheet, SEQUENCE_KIND, needs.sequence);
+    let answers = required(sheet, ANSWERS_KIND, needs.answers);
+    first_of(machine, first_of(word, first_of(sequence, answers)))
 }
 
 // The record of a kind, an empty one where there is none.
 pub fn record_of(sheet: &[u8], kind: u16) -> Record
     ensures { λ r. ⌜ r ≡ theOf kind (now (sheet .entry)) ⌝ }
 {
-    let w = walk(sheet, kind);
+    let w = parse(sheet, kind);
     let found = w.found;
     match found {
         Found::At(r) => r,
@@ -117,7 +117,7 @@ pub fn part_of(sheet: &[u8], kind: u16) -> Part
     ensures value { λ r. ⌜ r ≡ partOf kind (now (sheet .entry)) ⌝ }
     ensures inside { λ r. ⌜ r .from + r .size ≤ length (now (sheet .entry)) ⌝ }
 {
-    let w = walk(sheet, kind);
+    let w = parse(sheet, kind);
     let found = w.found;
     let check = outcome(sheet, kind, w);
     let empty = Part { from: 0, size: 0 };

@@ -5,7 +5,7 @@ ghost use lib.ListN.{length, getD};
 ghost use Rattle.sheet.specs.Format.{recordAt, kindOf, cause1, cause2, causeAt, ofKind, _or_};
 ghost use Rattle.sheet.specs.Format.{rank as rankOf};
 use crate::check::Check;
-use crate::check::either;
+use crate::check::first_of;
 use crate::check::refuse;
 
 // The bytes of a record's header: 4 of payload length, 2 of kind.
@@ -117,7 +117,7 @@ pub fn check_at(s: &[u8], at: usize, last: u8) -> Check
 {
     let one = cut(s, at);
     let two = misplaced(s, at, last);
-    either(one, two)
+    first_of(one, two)
 }
 
 // The record where it is of the kind.

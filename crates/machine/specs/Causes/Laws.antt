@@ -1,19 +1,28 @@
--- The laws of causes 3 to 6.
+-- The laws of causes 3, 4, 5 and 7: each as the code looks for it, and what it shows where it is clear.
 use Prim.Native.Nat.{ℕ, _+_, _*_, _<_, _≤_}
-use mathlib.Core.Path.{_≡_, refl, sym, ap, _∙_, fun-ext}
-use mathlib.Core.Bool.{Bool, true, false, not, _&&_, _||_}
-use mathlib.Core.List.{List, [], _∷_, _++_}
+use mathlib.Core.Path.{_≡_, refl, ap, fun-ext}
+use mathlib.Core.Bool.{Bool, false, not, _||_}
+use mathlib.Core.List.{List}
 use native.Mathlib.Omega.{arith}
-use native.Mathlib.Nat.{zero-add, one-mul}
+use native.Mathlib.Nat.{zero-add, one-mul, add-mul, mul-le-mul, mul-le-mul-right}
+use borrow.Author.Tests.{ltb-false, leb-false, eqb-true, not-false}
 use lib.Dec.{leb, ltb, eqb}
 use lib.ListN.{length, getD}
 use Rattle.sheet.specs.declared.check.Check.{Check}
-use Rattle.sheet.specs.declared.check.Check.the-variants.{Clear, Refused}
+use Rattle.sheet.specs.declared.check.Check.the-variants.{Clear}
 use Rattle.sheet.specs.declared.record.Record.{Record}
-use Rattle.sheet.specs.Check.{refusal_with_if_, _else_, firstCause, first}
+use Rattle.sheet.specs.Check.{refusal_with_if_, _else_, first}
+use Rattle.sheet.specs.Check.Laws.{neither, clear-absent, both-clear, first-clear-at}
 use Rattle.sheet.specs.Format.{header, offset}
-use Rattle.machine.specs.Machine.{Mealy, pairAt, answers}
-use Rattle.machine.specs.Causes.{outside, cause3, cause4, commandsCause, same, cause6}
+use Rattle.machine.specs.Limits.{mostStates, mostCommands, mostEntries}
+use Rattle.machine.specs.Machine.{pairAt, Commands}
+use Rattle.machine.specs.Causes.{outside, cause3, cause4, commandsCause}
+
+-- cause 3, of the bytes and tests as the code has them
+pub cause3-is : (r : Record) (p : List ℕ) {n k : ℕ} → n ≡ getD p 0 0 → k ≡ getD p 1 0 → {a b : Bool} → a ≡ outside 1 mostStates n → b ≡ outside 1 mostCommands k
+    → (refusal 3 with r .start if (a || b || not (eqb (length p) (2 + 2 * (n * k))))) ≡ cause3 r p
+unfolding cause3
+cause3-is r p {n} {k} ne ke {a} {b} ae be = rw (ae, be, ne, ke)
 
 -- the cause at byte from + stride * i of a part that starts at base in the sheet: the byte is bound or more
 unfoldable pub byteCause : ℕ → ℕ → List ℕ → ℕ → ℕ → ℕ → ℕ → Check
@@ -32,10 +41,60 @@ commands-cause-is number most k r w =
     ap (λ (f : ℕ → Check). (refusal number with r .start if outside 1 most (length w)) else first (length w) f)
     (fun-ext (λ i. simp (zero-add, one-mul)))
 
--- the cause at a pair of states
-unfoldable pub pairCause : Mealy → List ℕ → ℕ → ℕ → Check
-pairCause M w i j = refusal 6 with 16 * i + j if (ltb i j && same (answers M i w) (answers M j w))
+-- ---- what a clear check shows
+not-outside : (least most x : ℕ) → outside least most x ≡ false → (least ≤ x) × (x ≤ most)
+not-outside least most x e =
+    let h = neither (ltb x least) (ltb most x) e in
+    (ltb-false _ _ (h .0), ltb-false _ _ (h .1))
 
-pub cause6-is : (M : Mealy) (w : List ℕ) → first (M .n) (λ i. first (M .n) (pairCause M w i)) ≡ cause6 M w
-unfolding cause6 pairCause
-cause6-is M w = refl
+-- the shape of a machine's payload
+pub record Shape (p : List ℕ) : Type 0 where
+  pub some-states : 1 ≤ getD p 0 0
+  pub few-states : getD p 0 0 ≤ mostStates
+  pub some-commands : 1 ≤ getD p 1 0
+  pub few-commands : getD p 1 0 ≤ mostCommands
+  pub long : length p ≡ 2 + 2 * (getD p 0 0 * getD p 1 0)
+
+pub clear-shape : (r : Record) (p : List ℕ) → cause3 r p ≡ Clear → Shape p
+unfolding cause3
+clear-shape r p e =
+    let n = getD p 0 0 in
+    let k = getD p 1 0 in
+    let sized = not (eqb (length p) (2 + 2 * (n * k))) in
+    let all = neither (outside 1 mostStates n || outside 1 mostCommands k) sized (clear-absent 3 (r .start) _ e) in
+    let two = neither (outside 1 mostStates n) (outside 1 mostCommands k) (all .0) in
+    record {
+      some-states = not-outside 1 mostStates n (two .0) .0;
+      few-states = not-outside 1 mostStates n (two .0) .1;
+      some-commands = not-outside 1 mostCommands k (two .1) .0;
+      few-commands = not-outside 1 mostCommands k (two .1) .1;
+      long = eqb-true _ _ (not-false _ (all .1));
+    }
+
+-- a machine with few states and commands has few entries
+pub few-entries : (p : List ℕ) → Shape p → getD p 0 0 * getD p 1 0 ≤ mostEntries
+few-entries p h = mul-le-mul {n₁ = getD p 0 0} {m₁ = getD p 1 0} {n₂ = mostStates} {m₂ = mostCommands} (h .few-states) (h .few-commands)
+
+-- entry (s, c) stands among the n·k
+pub entry-below : (n k s c : ℕ) → s < n → c < k → s * k + c < n * k
+entry-below n k s c p q = omega (arith, add-mul s 1 k, one-mul k, mul-le-mul-right {m = s + 1} {n = n} k (omega arith))
+
+pub clear-next : (r : Record) (p : List ℕ) → cause4 r p ≡ Clear → (s c : ℕ) → s < getD p 0 0 → c < getD p 1 0
+    → getD p (pairAt (s * getD p 1 0 + c)) 0 < getD p 0 0
+unfolding cause4
+clear-next r p e s c sl cl =
+    let i = s * getD p 1 0 + c in
+    leb-false _ _ (clear-absent 4 (offset r (pairAt i)) _ (first-clear-at _ i _ e (entry-below (getD p 0 0) (getD p 1 0) s c sl cl)))
+
+-- the commands of a word or a sequence
+pub clear-commands : (number most k : ℕ) (r : Record) (w : List ℕ) → commandsCause number most k r w ≡ Clear → Commands most k w
+unfolding commandsCause
+clear-commands number most k r w e =
+    let long = outside 1 most (length w) in
+    let both = both-clear (refusal number with r .start if long) (first (length w) (λ i. refusal number with offset r i if leb k (getD w i 0))) e in
+    let l = not-outside 1 most (length w) (clear-absent number (r .start) long (both .0)) in
+    record {
+      some = l .0;
+      few = l .1;
+      low = λ i h. leb-false _ _ (clear-absent number (offset r i) _ (first-clear-at (length w) i _ (both .1) h));
+    }

@@ -1,7 +1,7 @@
 -- The laws of checks: how a cause, two checks in a row, a list of causes and a first cause answer.
-use Prim.Native.Nat.{ℕ, zero, suc, _+_, _<_}
+use Prim.Native.Nat.{ℕ, zero, suc, _+_, _≤_, _<_}
 use mathlib.Core.Path.{_≡_, refl, sym, ap, _∙_}
-use mathlib.Core.Bool.{Bool, true, false}
+use mathlib.Core.Bool.{Bool, true, false, _||_}
 use mathlib.Core.List.{List, [], _∷_, _++_}
 use native.Mathlib.Omega.{arith}
 use native.Mathlib.Nat.{le-of-suc-le-suc, eq-or-lt-of-le, not-suc-le-zero}
@@ -12,6 +12,11 @@ use Rattle.sheet.specs.declared.check.Check.the-variants.{Clear, Refused
 use Rattle.sheet.specs.Check.{refusal_with_if_, _else_, firstCause, first}
 
 -- ---- one cause
+-- a test of two parts fails where both fail
+pub neither : (a b : Bool) → (a || b) ≡ false → (a ≡ false) × (b ≡ false)
+neither true b e = (e, cc)
+neither false b e = (refl, e)
+
 pub absent : (n p : ℕ) {b : Bool} → b ≡ false → (refusal n with p if b) ≡ Clear
 unfolding refusal_with_if_
 absent n p e = rw e
@@ -103,3 +108,14 @@ pub first-clear : (n : ℕ) (f : ℕ → Check) → ((i : ℕ) → i < n → f i
 unfolding first
 first-clear zero f h = refl
 first-clear (suc n) f h = rw (first-clear n f (λ i l. h i (omega arith)), h n (omega arith)) (else-clear Clear)
+
+-- ---- a loop that looks for the first: c is the check that it makes at i
+module _ (f : ℕ → Check) where
+  pub first-stops : {n i : ℕ} → i < n → first i f ≡ Clear → {c : Check} → c ≡ f i → {a b : ℕ} → c ≡ Refused a b → c ≡ first n f
+  first-stops {n} {i} l h ce e = e ∙ sym (first-found n i f l h (sym ce ∙ e))
+
+  pub first-goes-on : (i : ℕ) → first i f ≡ Clear → {c : Check} → c ≡ f i → c ≡ Clear → first (i + 1) f ≡ Clear
+  first-goes-on i h ce e = first-passed i f h (sym ce ∙ e)
+
+  pub first-ends : {n i : ℕ} → i ≤ n → n ≤ i → first i f ≡ Clear → Clear ≡ first n f
+  first-ends {n} {i} l m h = sym h ∙ ap (λ (x : ℕ). first x f) (omega arith)

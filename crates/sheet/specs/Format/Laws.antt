@@ -13,17 +13,13 @@ use Rattle.sheet.specs.declared.record.Record.{Record}
 use Rattle.sheet.specs.declared.record.Found.{Found}
 use Rattle.sheet.specs.declared.record.Found.the-variants.{At, Missing}
 use Rattle.sheet.specs.Check.{refusal_with_if_}
-use Rattle.sheet.specs.Check.Laws.{both-clear, clear-absent}
-use Rattle.sheet.specs.Format.{header, recordAt, offset, end, kindOf, rank, cause1, cause2, causeAt, Walked, ended, _before_, onward, walkFrom, walk, ofKind, _or_, find}
+use Rattle.sheet.specs.Check.Laws.{neither, both-clear, clear-absent}
+use Rattle.sheet.specs.Format.{header, recordAt, offset, end, kindOf, rank, cause1, cause2, causeAt, Parsed, ended, _before_, onward, parseFrom, parse, ofKind, _or_, find}
 
 abbrev pub rankAt : List ℕ → ℕ → ℕ
 rankAt s at = rank (kindOf (recordAt s at .kind))
 
 -- ---- what a clear record shows
-neither : (a b : Bool) → (a || b) ≡ false → (a ≡ false) × (b ≡ false)
-neither true b e = (e, cc)
-neither false b e = (refl, e)
-
 pub clear-inside : (s : List ℕ) (at last : ℕ) → causeAt s at last ≡ Clear → end (recordAt s at) ≤ length s
 unfolding causeAt cause1
 clear-inside s at last e =
@@ -50,51 +46,51 @@ unfolding cause1
 cause1-is s at r e = rw (← end-is s at r e)
 
 -- ---- the number of steps is nothing to believe
-onward-at-end : (s : List ℕ) (at : ℕ) → length s ≤ at → (c : Check) (r : Record) (w : Walked) → onward (ltb at (length s)) c r w ≡ ended Clear
+onward-at-end : (s : List ℕ) (at : ℕ) → length s ≤ at → (c : Check) (r : Record) (w : Parsed) → onward (ltb at (length s)) c r w ≡ ended Clear
 unfolding onward
 onward-at-end s at h c r w = rw (le-ltb at (length s) h)
 
-enough : (f g : ℕ) (s : List ℕ) (at last : ℕ) → length s - at ≤ f → length s - at ≤ g → walkFrom f s at last ≡ walkFrom g s at last
-unfolding walkFrom
+enough : (f g : ℕ) (s : List ℕ) (at last : ℕ) → length s - at ≤ f → length s - at ≤ g → parseFrom f s at last ≡ parseFrom g s at last
+unfolding parseFrom
 enough zero zero s at last p q = refl
-enough zero (suc g) s at last p q = sym (onward-at-end s at (omega arith) (causeAt s at last) (recordAt s at) (walkFrom g s (end (recordAt s at)) (rankAt s at)))
-enough (suc f) zero s at last p q = onward-at-end s at (omega arith) (causeAt s at last) (recordAt s at) (walkFrom f s (end (recordAt s at)) (rankAt s at))
+enough zero (suc g) s at last p q = sym (onward-at-end s at (omega arith) (causeAt s at last) (recordAt s at) (parseFrom g s (end (recordAt s at)) (rankAt s at)))
+enough (suc f) zero s at last p q = onward-at-end s at (omega arith) (causeAt s at last) (recordAt s at) (parseFrom f s (end (recordAt s at)) (rankAt s at))
 enough (suc f) (suc g) s at last p q =
-    ap (λ (w : Walked). onward (ltb at (length s)) (causeAt s at last) (recordAt s at) w)
+    ap (λ (w : Parsed). onward (ltb at (length s)) (causeAt s at last) (recordAt s at) w)
     (enough f g s (end (recordAt s at)) (rankAt s at) (omega (arith, end-after s at)) (omega (arith, end-after s at)))
 
 -- at the sheet's end the reading ends
-pub walk-end : (s : List ℕ) (at last : ℕ) → length s ≤ at → walk s at last ≡ ended Clear
-unfolding walk
-walk-end s at last h = enough (length s - at) 0 s at last (omega arith) (omega arith) ∙ none
+pub parse-end : (s : List ℕ) (at last : ℕ) → length s ≤ at → parse s at last ≡ ended Clear
+unfolding parse
+parse-end s at last h = enough (length s - at) 0 s at last (omega arith) (omega arith) ∙ none
   where
-    none : walkFrom 0 s at last ≡ ended Clear
-    none = unfold walkFrom in refl
+    none : parseFrom 0 s at last ≡ ended Clear
+    none = unfold parseFrom in refl
 
 -- before it, a cause stops it, and else the record comes before what follows it
-pub walk-on : (s : List ℕ) (at last : ℕ) → at < length s
-    → walk s at last ≡ onward true (causeAt s at last) (recordAt s at) (walk s (end (recordAt s at)) (rankAt s at))
-unfolding walk
-walk-on s at last h =
+pub parse-on : (s : List ℕ) (at last : ℕ) → at < length s
+    → parse s at last ≡ onward true (causeAt s at last) (recordAt s at) (parse s (end (recordAt s at)) (rankAt s at))
+unfolding parse
+parse-on s at last h =
     enough (length s - at) (suc (length s - (at + 1))) s at last (omega arith) (omega arith)
     ∙ one
-    ∙ ap (λ (w : Walked). onward true (causeAt s at last) (recordAt s at) w)
+    ∙ ap (λ (w : Parsed). onward true (causeAt s at last) (recordAt s at) w)
     (enough (length s - (at + 1)) (length s - end (recordAt s at)) s (end (recordAt s at)) (rankAt s at) (omega (arith, end-after s at)) (omega arith))
   where
-    one : walkFrom (suc (length s - (at + 1))) s at last
-        ≡ onward true (causeAt s at last) (recordAt s at) (walkFrom (length s - (at + 1)) s (end (recordAt s at)) (rankAt s at))
-    one = unfold walkFrom in rw (lt-ltb at (length s) h)
+    one : parseFrom (suc (length s - (at + 1))) s at last
+        ≡ onward true (causeAt s at last) (recordAt s at) (parseFrom (length s - (at + 1)) s (end (recordAt s at)) (rankAt s at))
+    one = unfold parseFrom in rw (lt-ltb at (length s) h)
 
 -- the record that stops the reading
-pub walk-stopped : (s : List ℕ) (at last n p : ℕ) → at < length s → causeAt s at last ≡ Refused n p → walk s at last ≡ ended (Refused n p)
+pub parse-stopped : (s : List ℕ) (at last n p : ℕ) → at < length s → causeAt s at last ≡ Refused n p → parse s at last ≡ ended (Refused n p)
 unfolding onward
-walk-stopped s at last n p h e = walk-on s at last h ∙ rw e
+parse-stopped s at last n p h e = parse-on s at last h ∙ rw e
 
 -- a record in order
-pub walk-record : (s : List ℕ) (at last : ℕ) → at < length s → causeAt s at last ≡ Clear
-    → walk s at last ≡ (recordAt s at before walk s (end (recordAt s at)) (rankAt s at))
+pub parse-record : (s : List ℕ) (at last : ℕ) → at < length s → causeAt s at last ≡ Clear
+    → parse s at last ≡ (recordAt s at before parse s (end (recordAt s at)) (rankAt s at))
 unfolding onward
-walk-record s at last h e = walk-on s at last h ∙ rw e
+parse-record s at last h e = parse-on s at last h ∙ rw e
 
 -- ---- looking for a kind
 pub or-missing : (f : Found) → (f or Missing) ≡ f

@@ -17,18 +17,18 @@ use Rattle.sheet.specs.declared.reader.Part.{Part}
 use Rattle.sheet.specs.declared.reader.Needs.{Needs}
 use Rattle.sheet.specs.Check.{refusal_with_if_, _else_, firstCause}
 use Rattle.sheet.specs.Check.Laws.{absent, present, else-end, else-assoc, cause-none, cause-cons, cause-one, cause-append, both-clear}
-use Rattle.sheet.specs.Format.{header, recordAt, offset, end, kindOf, rank, causeAt, Walked, ended, _before_, onward, walkFrom, walk, walked, ofKind, _or_, find}
+use Rattle.sheet.specs.Format.{header, recordAt, offset, end, kindOf, rank, causeAt, Parsed, ended, _before_, onward, parseFrom, parse, parsed, ofKind, _or_, find}
 use Rattle.sheet.specs.Format.Laws.{rankAt, clear-inside, clear-rank, missing-or, find-none, find-cons}
-use Rattle.sheet.specs.Reader.{tooLong, isMissing, missing, causes12, when, needed, refusalOf, recordOr, the, payload, partWhen, part, bytes, content, seen, handed}
+use Rattle.sheet.specs.Reader.{tooLong, isMissing, missing, sheetCauses, when, needed, refusalOf, recordOr, the, payloadPart, partWhen, part, bytes, content, seen, handed}
 use denote.Ref.{RefT, now}
 
 -- ---- the causes, written out
-pub refusal-is : (k : ℕ) (s : List ℕ) → refusalOf k s ≡ (tooLong s else (walked s .stop else missing s k))
-unfolding refusalOf causes12
+pub refusal-is : (k : ℕ) (s : List ℕ) → refusalOf k s ≡ (tooLong s else (parsed s .stop else missing s k))
+unfolding refusalOf sheetCauses
 refusal-is k s =
-    cause-cons (tooLong s) (walked s .stop ∷ missing s k ∷ [])
+    cause-cons (tooLong s) (parsed s .stop ∷ missing s k ∷ [])
     ∙ ap (λ (c : Check). tooLong s else c)
-    (cause-cons (walked s .stop) (missing s k ∷ []) ∙ ap (λ (c : Check). walked s .stop else c) (cause-one (missing s k)))
+    (cause-cons (parsed s .stop) (missing s k ∷ []) ∙ ap (λ (c : Check). parsed s .stop else c) (cause-one (missing s k)))
 
 map-append : (s : List ℕ) (ks ls : List ℕ) → map (missing s) (ks ++ ls) ≡ map (missing s) ks ++ map (missing s) ls
 map-append s [] ls = refl
@@ -39,24 +39,24 @@ pub whenMissing : List ℕ → ℕ → Bool → Check
 whenMissing s k b = firstCause (map (missing s) (when b k))
 
 pub when-missing : (s : List ℕ) (k : ℕ) (b : Bool)
-    → (refusal 2 with length s if (b && isMissing (find k (walked s .records)))) ≡ whenMissing s k b
+    → (refusal 2 with length s if (b && isMissing (find k (parsed s .records)))) ≡ whenMissing s k b
 unfolding whenMissing when
 when-missing s k true = sym (cause-one (missing s k))
 when-missing s k false = absent 2 (length s) refl ∙ sym cause-none
 
 -- more needed kinds come after
-pub causes-more : (ks ls s : List ℕ) → firstCause (causes12 (ks ++ ls) s) ≡ (firstCause (causes12 ks s) else firstCause (map (missing s) ls))
-unfolding causes12
+pub causes-more : (ks ls s : List ℕ) → firstCause (sheetCauses (ks ++ ls) s) ≡ (firstCause (sheetCauses ks s) else firstCause (map (missing s) ls))
+unfolding sheetCauses
 causes-more ks ls s =
-    ap (λ (cs : List Check). firstCause (tooLong s ∷ walked s .stop ∷ cs)) (map-append s ks ls)
-    ∙ cause-append (tooLong s ∷ walked s .stop ∷ map (missing s) ks) (map (missing s) ls)
+    ap (λ (cs : List Check). firstCause (tooLong s ∷ parsed s .stop ∷ cs)) (map-append s ks ls)
+    ∙ cause-append (tooLong s ∷ parsed s .stop ∷ map (missing s) ks) (map (missing s) ls)
 
-pub checks-are : (n : Needs) (s : List ℕ) → firstCause (causes12 (needed n) s)
+pub checks-are : (n : Needs) (s : List ℕ) → firstCause (sheetCauses (needed n) s)
     ≡ (refusalOf 1 s else (whenMissing s 2 (n .word) else (whenMissing s 3 (n .sequence) else whenMissing s 4 (n .answers))))
 unfolding needed refusalOf whenMissing
 checks-are n s =
     causes-more (1 ∷ []) (when (n .word) 2 ++ (when (n .sequence) 3 ++ when (n .answers) 4)) s
-    ∙ ap (λ (c : Check). firstCause (causes12 (1 ∷ []) s) else c)
+    ∙ ap (λ (c : Check). firstCause (sheetCauses (1 ∷ []) s) else c)
     (both (when (n .word) 2) (when (n .sequence) 3 ++ when (n .answers) 4)
     ∙ ap (λ (c : Check). firstCause (map (missing s) (when (n .word) 2)) else c) (both (when (n .sequence) 3) (when (n .answers) 4)))
   where
@@ -80,7 +80,7 @@ found-or Missing g r e = inr e
 never-missing : (r : Record) → Missing ≡ At r → ⊥
 never-missing r e = let z : _≡_ {A = ℕ} 0 1 = cc in omega arith
 
-found-on : (b : Bool) (c : Check) (r₀ : Record) (w : Walked) (k : ℕ) (r : Record) → find k (onward b c r₀ w .records) ≡ At r
+found-on : (b : Bool) (c : Check) (r₀ : Record) (w : Parsed) (k : ℕ) (r : Record) → find k (onward b c r₀ w .records) ≡ At r
     → ((c ≡ Clear) × (ofKind k r₀ ≡ At r)) ⊎ (find k (w .records) ≡ At r)
 unfolding onward find
 found-on false c r₀ w k r e = absurd (never-missing r e)
@@ -89,63 +89,63 @@ found-on true Clear r₀ w k r e = ⊎-elim (λ (q : ofKind k r₀ ≡ At r). in
 
 -- what holds of every record that has no cause 1 or 2 holds of the one that is found, and that one is of the kind
 module _ (s : List ℕ) (P : Record → Type 0) (all : (at last : ℕ) → causeAt s at last ≡ Clear → P (recordAt s at)) where
-  found-from : (f at last k : ℕ) (r : Record) → find k (walkFrom f s at last .records) ≡ At r → P r × (r .kind ≡ k)
-  unfolding walkFrom
+  found-from : (f at last k : ℕ) (r : Record) → find k (parseFrom f s at last .records) ≡ At r → P r × (r .kind ≡ k)
+  unfolding parseFrom
   found-from zero at last k r e = absurd (never-missing r (sym (find-none k) ∙ e))
   found-from (suc f) at last k r e =
       ⊎-elim
       (λ (q : (causeAt s at last ≡ Clear) × (ofKind k (recordAt s at) ≡ At r)).
       let h = of-kind-at k (recordAt s at) r (q .1) in
       (subst P (h .0) (all at last (q .0)), ap (λ (x : Record). x .kind) (sym (h .0)) ∙ h .1))
-      (λ (q : find k (walkFrom f s (end (recordAt s at)) (rankAt s at) .records) ≡ At r). found-from f (end (recordAt s at)) (rankAt s at) k r q)
-      (found-on (ltb at (length s)) (causeAt s at last) (recordAt s at) (walkFrom f s (end (recordAt s at)) (rankAt s at)) k r e)
+      (λ (q : find k (parseFrom f s (end (recordAt s at)) (rankAt s at) .records) ≡ At r). found-from f (end (recordAt s at)) (rankAt s at) k r q)
+      (found-on (ltb at (length s)) (causeAt s at last) (recordAt s at) (parseFrom f s (end (recordAt s at)) (rankAt s at)) k r e)
 
-  found-has : (k : ℕ) (r : Record) → find k (walked s .records) ≡ At r → P r × (r .kind ≡ k)
-  unfolding walked walk
+  found-has : (k : ℕ) (r : Record) → find k (parsed s .records) ≡ At r → P r × (r .kind ≡ k)
+  unfolding parsed parse
   found-has k r e = found-from (length s - 0) 0 0 k r e
 
 -- it lies inside the sheet
-pub found-inside : (s : List ℕ) (k : ℕ) (r : Record) → find k (walked s .records) ≡ At r → end r ≤ length s
+pub found-inside : (s : List ℕ) (k : ℕ) (r : Record) → find k (parsed s .records) ≡ At r → end r ≤ length s
 found-inside s k r e = found-has s (λ (x : Record). end x ≤ length s) (clear-inside s) k r e .0
 
 -- its kind is a known one
-pub found-known : (s : List ℕ) (k : ℕ) (r : Record) → find k (walked s .records) ≡ At r → 0 < rank (kindOf k)
+pub found-known : (s : List ℕ) (k : ℕ) (r : Record) → find k (parsed s .records) ≡ At r → 0 < rank (kindOf k)
 found-known s k r e =
     let h = found-has s (λ (x : Record). 0 < rank (kindOf (x .kind))) (λ at last q. omega (arith, clear-rank s at last q)) k r e in
     subst (λ (x : ℕ). 0 < rank (kindOf x)) (h .1) (h .0)
 
 -- a wanted kind that no sheet can have is missing from every sheet: refusal 2 at the sheet's length, where nothing comes before it
 pub unknown-missing : (s : List ℕ) (k : ℕ) → rank (kindOf k) ≡ 0 → missing s k ≡ Refused 2 (length s)
-unknown-missing s k h = present 2 (length s) (go (find k (walked s .records)) refl)
+unknown-missing s k h = present 2 (length s) (go (find k (parsed s .records)) refl)
   where
-    go : (f : Found) → find k (walked s .records) ≡ f → isMissing (find k (walked s .records)) ≡ true
+    go : (f : Found) → find k (parsed s .records) ≡ f → isMissing (find k (parsed s .records)) ≡ true
     go (At r) e = absurd (omega (arith, found-known s k r e))
     go Missing e = rw e
 
-pub unknown-refused : (s : List ℕ) (k : ℕ) → rank (kindOf k) ≡ 0 → refusalOf k s ≡ (tooLong s else (walked s .stop else Refused 2 (length s)))
-unknown-refused s k h = refusal-is k s ∙ ap (λ (c : Check). tooLong s else (walked s .stop else c)) (unknown-missing s k h)
+pub unknown-refused : (s : List ℕ) (k : ℕ) → rank (kindOf k) ≡ 0 → refusalOf k s ≡ (tooLong s else (parsed s .stop else Refused 2 (length s)))
+unknown-refused s k h = refusal-is k s ∙ ap (λ (c : Check). tooLong s else (parsed s .stop else c)) (unknown-missing s k h)
 
 -- ---- the part that is handed back
-pub payload-inside : (s : List ℕ) (k : ℕ) (f : Found) → f ≡ find k (walked s .records) → payload f .from + payload f .size ≤ length s
+pub payload-inside : (s : List ℕ) (k : ℕ) (f : Found) → f ≡ find k (parsed s .records) → payloadPart f .from + payloadPart f .size ≤ length s
 unfolding end offset
 payload-inside s k (At r) e = omega (arith, found-inside s k r (sym e))
 payload-inside s k Missing e = omega arith
 
 -- where nothing is refused it is the record's payload, and on a refusal the empty part at the sheet's start
-pub part-clear : (k : ℕ) (s : List ℕ) {c : Check} {f : Found} → c ≡ refusalOf k s → c ≡ Clear → f ≡ find k (walked s .records) → payload f ≡ part k s
+pub part-clear : (k : ℕ) (s : List ℕ) {c : Check} {f : Found} → c ≡ refusalOf k s → c ≡ Clear → f ≡ find k (parsed s .records) → payloadPart f ≡ part k s
 unfolding part
 part-clear k s ce e fe = rw (← ce, e, ← fe)
 
-pub part-refused : (k : ℕ) (s : List ℕ) {c : Check} {n p : ℕ} → c ≡ refusalOf k s → c ≡ Refused n p → payload Missing ≡ part k s
+pub part-refused : (k : ℕ) (s : List ℕ) {c : Check} {n p : ℕ} → c ≡ refusalOf k s → c ≡ Refused n p → payloadPart Missing ≡ part k s
 unfolding part
 part-refused k s ce e = rw (← ce, e)
 
-pub the-found : (k : ℕ) (s : List ℕ) {f g : Found} → f ≡ find k (walked s .records) → f ≡ g → recordOr g ≡ the k s
+pub the-found : (k : ℕ) (s : List ℕ) {f g : Found} → f ≡ find k (parsed s .records) → f ≡ g → recordOr g ≡ the k s
 unfolding the
 the-found k s fe e = ap recordOr (sym e ∙ fe)
 
 -- a record starts inside the sheet, and its payload ends there
-inside-of : (s : List ℕ) (c : Check) (f : Found) → payload f .from + payload f .size ≤ length s → recordOr f .start + length (bytes (partWhen c f) s) ≤ length s
+inside-of : (s : List ℕ) (c : Check) (f : Found) → payloadPart f .from + payloadPart f .size ≤ length s → recordOr f .start + length (bytes (partWhen c f) s) ≤ length s
 unfolding bytes
 inside-of s Clear (At r) h = simp length-take (omega arith)
 inside-of s Clear Missing h = omega arith
@@ -154,7 +154,7 @@ inside-of s (Refused n p) Missing h = omega arith
 
 pub the-inside : (k : ℕ) (s : List ℕ) → the k s .start + length (content k s) ≤ length s
 unfolding the content part
-the-inside k s = inside-of s (refusalOf k s) (find k (walked s .records)) (payload-inside s k (find k (walked s .records)) refl)
+the-inside k s = inside-of s (refusalOf k s) (find k (parsed s .records)) (payload-inside s k (find k (parsed s .records)) refl)
 
 -- what reading hands back, as bytes
 pub handed-content : (k : ℕ) (s w : RefT (List ℕ)) → seen w ≡ handed s (part k (now s)) → now w ≡ content k (now s)

@@ -1,46 +1,36 @@
+-- `machine::checks::commands` meets its contract: the length, then every byte of what reading hands back.
+-- Assumes nothing.
+use native.Mathlib.Omega.{arith}
 use borrow.Author.Needs.{needs}
+use denote.Ref.{now}
+use Rattle.sheet.specs.Reader.Laws.{handed-content}
+use Rattle.machine.proofs.Loadings.{record-inside, commands-are}
 use Rattle.machine.proofs.checks.commands.Statement.{statement}
 use Rattle.machine.proofs.checks.commands.Tie as tie
-use Rattle.machine.proofs.checks.commands.Reads as reads
-use Rattle.machine.proofs.checks.commands.Lts as lts
-use Rattle.machine.proofs.checks.outside.Reads as outside-reads
-use Rattle.machine.proofs.checks.scan.Reads as scan-reads
-use Rattle.sheet.proofs.either.Reads as either-reads
-use Rattle.sheet.proofs.refuse.Reads as refuse-reads
-use Rattle.sheet.proofs.read.Reads as read-reads
-use Rattle.sheet.proofs.record_of.Reads as record-of-reads
 
--- src/checks.rt:76:9
 record-of-requires : tie.Need-record-of-requires
 record-of-requires c κs = search needs
 
--- src/checks.rt:77:9
 read-requires : tie.Need-read-requires
 read-requires c κs = search needs
 
--- src/checks.rt:78:42
 outside-requires : tie.Need-outside-requires
 outside-requires c κs = search needs
 
--- src/checks.rt:78:9
 refuse-requires : tie.Need-refuse-requires
 refuse-requires c κs = search needs
 
--- src/checks.rt:79:29
 add-scan : tie.Need-add-scan
-add-scan c = ?
+add-scan c = omega (arith, record-inside (c .before .before .before .before .before .before .args .kind) (now (c .before .before .before .before .before .before .args .sheet)) (c .before .before .before .before .record-of .ensures) (handed-content _ (c .before .before .before .before .before .before .args .sheet) (c .before .before .before .read .result) (c .before .before .before .read .ensures)))
 
--- src/checks.rt:79:9
 scan-requires : tie.Need-scan-requires
-scan-requires c κs = ?
+scan-requires c κs = omega (arith, record-inside (c .before .before .before .before .before .before .args .kind) (now (c .before .before .before .before .before .before .args .sheet)) (c .before .before .before .before .record-of .ensures) (handed-content _ (c .before .before .before .before .before .before .args .sheet) (c .before .before .before .read .result) (c .before .before .before .read .ensures)))
 
--- src/checks.rt:80:5
-either-requires : tie.Need-either-requires
-either-requires c κs = search needs
+first-of-requires : tie.Need-first-of-requires
+first-of-requires c κs = search needs
 
--- src/checks.rt:73:1
 returns : tie.Need-returns
-returns c = ?
+returns c = commands-are _ _ _ (c .before .before .before .before .before .before .before .before .args .kind) (now (c .before .before .before .before .before .before .before .before .args .sheet)) (c .before .before .before .before .before .before .record-of .ensures) (handed-content _ (c .before .before .before .before .before .before .before .before .args .sheet) (c .before .before .before .before .before .read .result) (c .before .before .before .before .before .read .ensures)) (c .before .before .before .before .outside .ensures) (c .before .before .before .refuse .ensures) (c .before .scan .ensures) (c .first-of .ensures)
 
 pub commands-spec : {M : Type 1} → statement M
 commands-spec =
@@ -52,5 +42,5 @@ commands-spec =
     refuse-requires
     add-scan
     scan-requires
-    either-requires
+    first-of-requires
     returns)

@@ -1,42 +1,39 @@
+-- `machine::checks::next_states` meets its contract: it scans every second byte from 2 on.
+-- Assumes nothing.
+use native.Mathlib.Omega.{arith}
 use borrow.Author.Needs.{needs}
+use Prim.Native.Nat.{ℕ, _*_, _+_}
+use mathlib.Core.Path.{_∙_, ap₂}
+use denote.Ref.{now}
+use Rattle.sheet.specs.Check.{first}
+use Rattle.machine.proofs.Numbers.{bytes-product}
+use Rattle.machine.specs.Causes.Laws.{byteCause, cause4-is}
 use Rattle.machine.proofs.checks.next_states.Statement.{statement}
 use Rattle.machine.proofs.checks.next_states.Tie as tie
-use Rattle.machine.proofs.checks.next_states.Reads as reads
-use Rattle.machine.proofs.checks.next_states.Lts as lts
-use Rattle.machine.proofs.checks.scan.Reads as scan-reads
-use Rattle.sheet.proofs.byte.Reads as byte-reads
 
--- src/checks.rt:67:9
 byte-requires : tie.Need-byte-requires
 byte-requires c κs = search needs
 
--- src/checks.rt:68:9
 byte-requires-2 : tie.Need-byte-requires-2
 byte-requires-2 c κs = search needs
 
--- src/checks.rt:69:13
 add-scan : tie.Need-add-scan
 add-scan c = search needs
 
--- src/checks.rt:69:40
 cast-scan : tie.Need-cast-scan
 cast-scan c = search needs
 
--- src/checks.rt:69:53
 cast-scan-2 : tie.Need-cast-scan-2
 cast-scan-2 c = search needs
 
--- src/checks.rt:69:40
 mul-scan : tie.Need-mul-scan
-mul-scan c = ?
+mul-scan c = omega (arith, bytes-product (c .before .before .byte .result) (c .before .byte2 .result) (search needs) (search needs))
 
--- src/checks.rt:69:5
 scan-requires : tie.Need-scan-requires
-scan-requires c κs = ?
+scan-requires c κs = omega (arith, bytes-product (c .before .before .byte .result) (c .before .byte2 .result) (search needs) (search needs))
 
--- src/checks.rt:63:1
 returns : tie.Need-returns
-returns c = ?
+returns c = c .scan .ensures ∙ ap₂ (λ (n k : ℕ). first (n * k) (byteCause 4 (c .before .before .before .before .before .args .r .start + 6) (now (c .before .before .before .before .before .args .p)) 2 2 n)) (c .before .before .before .byte .ensures) (c .before .before .byte2 .ensures) ∙ cause4-is _ _
 
 pub next-states-spec : {M : Type 1} → statement M
 next-states-spec =

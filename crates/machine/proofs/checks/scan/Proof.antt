@@ -1,13 +1,14 @@
 -- `machine::checks::scan` meets its contract. The loop's invariant: no byte before i is refused.
 -- Assumes nothing.
+use native.Mathlib.Omega.{arith}
 use borrow.Author.Needs.{needs}
 use Prim.Native.Nat.{_-_, _≤_}
-use mathlib.Core.Path.{_≡_, sym, _∙_}
+use mathlib.Core.Path.{_≡_}
 use Rattle.sheet.specs.declared.check.Check.the-variants.{Clear}
 use Rattle.sheet.specs.Check.{first}
-use Rattle.sheet.specs.Check.Laws.{first-none, first-passed, first-found}
+use Rattle.sheet.specs.Check.Laws.{first-none, first-stops, first-goes-on, first-ends}
 use Rattle.machine.specs.Causes.Laws.{byteCause}
-use Rattle.machine.proofs.Scanning.{index-fits}
+use Rattle.machine.proofs.Scanning.{index-fits, check-there}
 use Rattle.machine.proofs.checks.scan.Statement.{statement}
 use Rattle.machine.proofs.checks.scan.Tie as tie
 
@@ -21,13 +22,13 @@ loop-holds : tie.Need-loop-holds Inv-loop μ-loop
 loop-holds c = (search needs, first-none _)
 
 mul-at : tie.Need-mul-at Inv-loop μ-loop
-mul-at c = ?
+mul-at c = omega (arith, index-fits (c .before .before .before .args .base) (c .before .before .before .args .from) (c .before .before .before .args .stride) (c .before .loop .i) (c .before .before .before .args .count) (search needs) (c .before .before .before .pre))
 
 add-at : tie.Need-add-at Inv-loop μ-loop
-add-at c = ?
+add-at c = omega (arith, index-fits (c .before .before .before .args .base) (c .before .before .before .args .from) (c .before .before .before .args .stride) (c .before .loop .i) (c .before .before .before .args .count) (search needs) (c .before .before .before .pre))
 
 add-refuse : tie.Need-add-refuse Inv-loop μ-loop
-add-refuse c = ?
+add-refuse c = omega (arith, index-fits (c .before .before .before .args .base) (c .before .before .before .args .from) (c .before .before .before .args .stride) (c .before .loop .i) (c .before .before .before .args .count) (search needs) (c .before .before .before .pre))
 
 byte-requires : tie.Need-byte-requires Inv-loop μ-loop
 byte-requires c κs = search needs
@@ -39,7 +40,7 @@ enum-told : tie.Need-enum-told Inv-loop μ-loop
 enum-told c = search needs
 
 returns : tie.Need-returns Inv-loop μ-loop
-returns c = ?
+returns c = first-stops _ (search needs) (c .before .before .before .before .before .loop .inv .1) (check-there _ _ _ _ _ _ _ (c .before .before .before .byte .ensures) (c .before .before .refuse .ensures)) (c .enum-told .given .1)
 
 enum-told-2 : tie.Need-enum-told-2 Inv-loop μ-loop
 enum-told-2 c = search needs
@@ -51,10 +52,10 @@ loop-less : tie.Need-loop-less Inv-loop μ-loop
 loop-less c = search needs
 
 loop-again : tie.Need-loop-again Inv-loop μ-loop
-loop-again c = ?
+loop-again c = (search needs, first-goes-on _ _ (c .before .before .before .before .before .loop .inv .1) (check-there _ _ _ _ _ _ _ (c .before .before .before .byte .ensures) (c .before .before .refuse .ensures)) (c .enum-told2 .given .1))
 
 returns-2 : tie.Need-returns-2 Inv-loop μ-loop
-returns-2 c = ?
+returns-2 c = first-ends _ (c .before .loop .inv .0) (c .loop-test .left) (c .before .loop .inv .1)
 
 pub scan-spec : {M : Type 1} → statement M
 scan-spec =

@@ -4,7 +4,7 @@ use native.Mathlib.Omega.{arith}
 use borrow.Author.Needs.{needs}
 use mathlib.Core.Path.{_∙_}
 use Rattle.machine.proofs.Numbers.{bytes-product}
-use Rattle.machine.specs.Causes.{cause3}
+use Rattle.machine.specs.Causes.Laws.{cause3-is}
 use Rattle.machine.proofs.checks.shape.Statement.{statement}
 use Rattle.machine.proofs.checks.shape.Tie as tie
 
@@ -39,8 +39,7 @@ refuse-requires : tie.Need-refuse-requires
 refuse-requires c κs = search needs
 
 returns : tie.Need-returns
-unfolding cause3
-returns c = c .refuse .ensures ∙ ?
+returns c = c .refuse .ensures ∙ cause3-is _ _ (c .before .before .before .before .byte .ensures) (c .before .before .before .byte2 .ensures) (c .before .before .outside .ensures) (c .before .outside2 .ensures)
 
 pub shape-spec : {M : Type 1} → statement M
 shape-spec =

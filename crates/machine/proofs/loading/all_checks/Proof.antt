@@ -1,33 +1,30 @@
+-- `machine::loading::all_checks` meets its contract: causes 1 to 4, and where they are clear 5 and 6 of the sheet's machine.
+-- Assumes nothing.
 use borrow.Author.Needs.{needs}
+use mathlib.Core.Path.{sym, _∙_}
+use denote.Ref.{now}
+use Rattle.machine.specs.Causes.Lists.{held-is}
+use Rattle.machine.proofs.Loadings.{load-stops, load-goes-on}
 use Rattle.machine.proofs.loading.all_checks.Statement.{statement}
 use Rattle.machine.proofs.loading.all_checks.Tie as tie
-use Rattle.machine.proofs.loading.all_checks.Reads as reads
-use Rattle.machine.proofs.loading.all_checks.Lts as lts
-use Rattle.machine.proofs.loading.table_check.Reads as table-check-reads
-use Rattle.machine.proofs.loading.word_check.Reads as word-check-reads
 
--- src/loading.rt:64:9
 table-check-requires : tie.Need-table-check-requires
 table-check-requires c κs = search needs
 
--- src/loading.rt:66:9
 enum-told : tie.Need-enum-told
 enum-told c = search needs
 
--- src/loading.rt:66:9
 returns : tie.Need-returns
-returns c = ?
+returns c = load-stops (c .before .before .before .before .args .needs) (now (c .before .before .before .before .args .sheet)) (c .before .before .table-check .ensures) (c .enum-told .given .1)
 
 enum-told-2 : tie.Need-enum-told-2
 enum-told-2 c = search needs
 
--- src/loading.rt:68:5
 word-check-requires : tie.Need-word-check-requires
-word-check-requires c κs = ?
+word-check-requires c κs = c .before .before .before .before .pre ∙ held-is (c .before .before .before .before .args .needs) (now (c .before .before .before .before .args .sheet)) (sym (c .before .before .table-check .ensures) ∙ c .enum-told2 .given .1)
 
--- src/loading.rt:60:1
 returns-2 : tie.Need-returns-2
-returns-2 c = ?
+returns-2 c = load-goes-on (c .before .before .before .before .before .args .needs) (now (c .before .before .before .before .before .args .sheet)) (c .before .before .before .table-check .ensures) (c .before .enum-told2 .given .1) (c .word-check .ensures)
 
 pub all-checks-spec : {M : Type 1} → statement M
 all-checks-spec =

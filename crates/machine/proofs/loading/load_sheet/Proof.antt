@@ -1,32 +1,26 @@
+-- `machine::loading::load_sheet` meets its contract.
+-- Assumes nothing.
 use borrow.Author.Needs.{needs}
+use denote.Ref.{now}
+use Rattle.sheet.specs.Reader.Laws.{handed-content}
+use Rattle.machine.proofs.Loadings.{loaded-is, loaded-from}
 use Rattle.machine.proofs.loading.load_sheet.Statement.{statement}
 use Rattle.machine.proofs.loading.load_sheet.Tie as tie
-use Rattle.machine.proofs.loading.load_sheet.Reads as reads
-use Rattle.machine.proofs.loading.load_sheet.Lts as lts
-use Rattle.machine.proofs.loading.all_checks.Reads as all-checks-reads
-use Rattle.machine.proofs.machine.Machine.load.Reads as load-reads
-use Rattle.sheet.proofs.part_of.Reads as part-of-reads
-use Rattle.sheet.proofs.read.Reads as read-reads
 
--- src/loading.rt:75:33
 read-requires : tie.Need-read-requires
 read-requires c κs = search needs
 
--- src/loading.rt:75:9
 load-requires : tie.Need-load-requires
 load-requires c κs = search needs
 
--- src/loading.rt:76:9
 all-checks-requires : tie.Need-all-checks-requires
-all-checks-requires c κs = ?
+all-checks-requires c κs = loaded-is (now (c .before .before .before .args .sheet)) (handed-content _ (c .before .before .before .args .sheet) (c .before .read .result) (c .before .read .ensures)) (c .load .ensures)
 
--- src/loading.rt:77:9
 part-of-requires : tie.Need-part-of-requires
 part-of-requires c κs = search needs
 
--- src/loading.rt:72:1
 returns : tie.Need-returns
-returns c = ?
+returns c = loaded-from (c .before .before .before .before .before .args .needs) (now (c .before .before .before .before .before .args .sheet)) _ (c .before .all-checks .ensures) (loaded-is (now (c .before .before .before .before .before .args .sheet)) (handed-content _ (c .before .before .before .before .before .args .sheet) (c .before .before .before .read .result) (c .before .before .before .read .ensures)) (c .before .before .load .ensures)) (c .part-of .ensures .0)
 
 pub load-sheet-spec : {M : Type 1} → statement M
 load-sheet-spec =

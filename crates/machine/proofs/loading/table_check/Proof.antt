@@ -1,46 +1,36 @@
+-- `machine::loading::table_check` meets its contract: causes 1 and 2, then 3, then 4.
+-- Assumes nothing.
+use native.Mathlib.Omega.{arith}
 use borrow.Author.Needs.{needs}
+use denote.Ref.{now}
+use Rattle.sheet.specs.Reader.Laws.{handed-content}
+use Rattle.machine.proofs.Loadings.{record-inside, table-are}
 use Rattle.machine.proofs.loading.table_check.Statement.{statement}
 use Rattle.machine.proofs.loading.table_check.Tie as tie
-use Rattle.machine.proofs.loading.table_check.Reads as reads
-use Rattle.machine.proofs.loading.table_check.Lts as lts
-use Rattle.machine.proofs.checks.next_states.Reads as next-states-reads
-use Rattle.machine.proofs.checks.shape.Reads as shape-reads
-use Rattle.sheet.proofs.either.Reads as either-reads
-use Rattle.sheet.proofs.checks.Reads as checks-reads
-use Rattle.sheet.proofs.read.Reads as read-reads
-use Rattle.sheet.proofs.record_of.Reads as record-of-reads
 
--- src/loading.rt:35:9
 checks-requires : tie.Need-checks-requires
 checks-requires c κs = search needs
 
--- src/loading.rt:36:9
 record-of-requires : tie.Need-record-of-requires
 record-of-requires c κs = search needs
 
--- src/loading.rt:37:9
 read-requires : tie.Need-read-requires
 read-requires c κs = search needs
 
--- src/loading.rt:38:9
 shape-requires : tie.Need-shape-requires
 shape-requires c κs = search needs
 
--- src/loading.rt:39:9
 next-states-requires : tie.Need-next-states-requires
-next-states-requires c κs = ?
+next-states-requires c κs = omega (arith, record-inside 1 (now (c .before .before .before .before .before .args .sheet)) (c .before .before .record-of .ensures) (handed-content _ (c .before .before .before .before .before .args .sheet) (c .before .read .result) (c .before .read .ensures)))
 
--- src/loading.rt:40:19
-either-requires : tie.Need-either-requires
-either-requires c κs = search needs
+first-of-requires : tie.Need-first-of-requires
+first-of-requires c κs = search needs
 
--- src/loading.rt:40:5
-either-requires-2 : tie.Need-either-requires-2
-either-requires-2 c κs = search needs
+first-of-requires-2 : tie.Need-first-of-requires-2
+first-of-requires-2 c κs = search needs
 
--- src/loading.rt:32:1
 returns : tie.Need-returns
-returns c = ?
+returns c = table-are (c .before .before .before .before .before .before .before .before .args .needs) (now (c .before .before .before .before .before .before .before .before .args .sheet)) (c .before .before .before .before .before .before .checks .ensures) (c .before .before .before .before .before .record-of .ensures) (handed-content _ (c .before .before .before .before .before .before .before .before .args .sheet) (c .before .before .before .before .read .result) (c .before .before .before .before .read .ensures)) (c .before .before .before .shape .ensures) (c .before .before .next-states .ensures) (c .before .first-of .ensures) (c .first-of2 .ensures)
 
 pub table-check-spec : {M : Type 1} → statement M
 table-check-spec =
@@ -51,6 +41,6 @@ table-check-spec =
     read-requires
     shape-requires
     next-states-requires
-    either-requires
-    either-requires-2
+    first-of-requires
+    first-of-requires-2
     returns)

@@ -1,42 +1,35 @@
+-- `machine::loading::word_check` meets its contract: cause 5, and where it is clear cause 6.
+-- Assumes nothing.
 use borrow.Author.Needs.{needs}
+use denote.Ref.{now}
+use Rattle.sheet.specs.Reader.Laws.{handed-content}
+use Rattle.machine.proofs.Loadings.{word-stops, word-goes-on, word-off, word-on}
 use Rattle.machine.proofs.loading.word_check.Statement.{statement}
 use Rattle.machine.proofs.loading.word_check.Tie as tie
-use Rattle.machine.proofs.loading.word_check.Reads as reads
-use Rattle.machine.proofs.loading.word_check.Lts as lts
-use Rattle.machine.proofs.checks.commands.Reads as commands-reads
-use Rattle.machine.proofs.separation.separation.Reads as separation-reads
-use Rattle.sheet.proofs.read.Reads as read-reads
 
--- src/loading.rt:49:13
 commands-requires : tie.Need-commands-requires
 commands-requires c κs = search needs
 
--- src/loading.rt:51:13
 enum-told : tie.Need-enum-told
 enum-told c = search needs
 
--- src/loading.rt:51:13
 returns : tie.Need-returns
-returns c = ?
+returns c = word-on (now (c .before .before .before .before .before .args .sheet)) (c .before .before .before .if1 .taken) (word-stops (now (c .before .before .before .before .before .args .sheet)) (c .before .before .before .before .before .args .m) (c .before .before .before .before .before .pre) (c .before .before .commands .ensures) (c .enum-told .given .1))
 
 enum-told-2 : tie.Need-enum-told-2
 enum-told-2 c = search needs
 
--- src/loading.rt:53:23
 read-requires : tie.Need-read-requires
 read-requires c κs = search needs
 
--- src/loading.rt:53:9
 separation-requires : tie.Need-separation-requires
 separation-requires c κs = search needs
 
--- src/loading.rt:44:1
 returns-2 : tie.Need-returns-2
-returns-2 c = ?
+returns-2 c = word-on (now (c .before .before .before .before .before .before .before .args .sheet)) (c .before .before .before .before .before .if1 .taken) (word-goes-on (now (c .before .before .before .before .before .before .before .args .sheet)) (c .before .before .before .before .before .before .before .args .m) (c .before .before .before .before .before .before .before .pre) (c .before .before .before .before .commands .ensures) (c .before .before .enum-told2 .given .1) (handed-content _ (c .before .before .before .before .before .before .before .args .sheet) (c .before .read .result) (c .before .read .ensures)) (c .separation .ensures))
 
--- src/loading.rt:44:1
 returns-3 : tie.Need-returns-3
-returns-3 c = ?
+returns-3 c = word-off (now (c .before .before .args .sheet)) (c .if1 .left)
 
 pub word-check-spec : {M : Type 1} → statement M
 word-check-spec =

@@ -1,22 +1,24 @@
 -- `machine::machine::column` meets its contract. The loop's invariant: the cells before e are the payload's bytes.
 -- Assumes nothing.
+use native.Mathlib.Omega.{arith}
 use borrow.Author.Needs.{needs}
 use Prim.Native.Nat.{ℕ, _+_, _*_, _-_, _≤_, _<_}
-use mathlib.Core.Path.{_≡_}
-use lib.ListN.{length, getD, length-set, length-replicate}
-use Rattle.machine.specs.Limits.{entries}
+use mathlib.Core.Path.{_≡_, refl}
+use lib.ListN.{length, getD, length-set}
+use denote.Ref.{now}
+use Rattle.machine.specs.Limits.{mostEntries}
 use Rattle.machine.proofs.Columns.{column-more}
 use Rattle.machine.proofs.machine.column.Statement.{statement}
 use Rattle.machine.proofs.machine.column.Tie as tie
 
 abbrev Inv-loop : tie.InvT-loop
-Inv-loop p from cells₀ e₀ cells e = (e ≤ entries) × (length cells ≡ entries) × ((j : ℕ) → j < e → getD cells j 0 ≡ getD p (from + 2 * j) 0)
+Inv-loop p from cells₀ e₀ cells e = (e ≤ mostEntries) × (length cells ≡ mostEntries) × ((j : ℕ) → j < e → getD cells j 0 ≡ getD p (from + 2 * j) 0)
 
 abbrev μ-loop : tie.MeasureT-loop
-μ-loop p from cells₀ e₀ cells e = entries - e
+μ-loop p from cells₀ e₀ cells e = mostEntries - e
 
 loop-holds : tie.Need-loop-holds Inv-loop μ-loop
-loop-holds c = ?
+loop-holds c = (search needs, refl, λ j l. absurd (omega arith))
 
 mul-byte : tie.Need-mul-byte Inv-loop μ-loop
 mul-byte c = search needs
@@ -37,10 +39,10 @@ loop-less : tie.Need-loop-less Inv-loop μ-loop
 loop-less c = search needs
 
 loop-again : tie.Need-loop-again Inv-loop μ-loop
-loop-again c = ?
+loop-again c = (search needs, simp length-set (c .before .before .loop .inv .1), column-more (c .before .before .loop .cells) (λ (j : ℕ). getD (now (c .before .before .before .before .args .p)) (c .before .before .before .before .args .from + 2 * j) 0) (c .before .before .loop .e) (c .byte .result) (search needs) (c .before .before .loop .inv .2) (c .byte .ensures))
 
 returns : tie.Need-returns Inv-loop μ-loop
-returns c = ?
+returns c = λ e l. c .before .loop .inv .2 e (omega arith)
 
 pub column-spec : {M : Type 1} → statement M
 column-spec =

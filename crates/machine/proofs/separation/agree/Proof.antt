@@ -1,71 +1,73 @@
+-- `machine::separation::agree` meets its contract. The loop's invariant is `Alike`: the runs from here compare as those from the front.
+-- Assumes nothing.
+use borrow.Author.Needs.{needs}
+use Prim.Native.Nat.{_-_}
+use lib.ListN.{length}
+use denote.Ref.{now}
+use Rattle.machine.specs.Machine.{tabled}
+use Rattle.machine.proofs.Runs.{Alike, alike-start, alike-end, alike-differs, alike-next, cell-is}
 use Rattle.machine.proofs.separation.agree.Statement.{statement}
 use Rattle.machine.proofs.separation.agree.Tie as tie
-use Rattle.machine.proofs.separation.agree.Reads as reads
-use Rattle.machine.proofs.separation.agree.Lts as lts
-use Rattle.machine.proofs.separation.cell.Reads as cell-reads
-use Rattle.machine.proofs.separation.entry.Reads as entry-reads
 
 abbrev Inv-loop : tie.InvT-loop
-Inv-loop w i j next answer k s₀ t₀ p₀ s t p = ?
+Inv-loop next answer k w i j s₀ t₀ p₀ s t p = Alike (tabled 0 k 0 next answer) w i j s t p
 
 abbrev μ-loop : tie.MeasureT-loop
-μ-loop w i j next answer k s₀ t₀ p₀ s t p = ?
+μ-loop next answer k w i j s₀ t₀ p₀ s t p = length w - p
 
--- src/separation.rt:36:5
 loop-holds : tie.Need-loop-holds Inv-loop μ-loop
-loop-holds c = ?
+loop-holds c = alike-start _ _ _ _
 
--- src/separation.rt:37:29
 shared-slice-read-entry : tie.Need-shared-slice-read-entry Inv-loop μ-loop
-shared-slice-read-entry c = ?
+shared-slice-read-entry c = search needs
 
--- src/separation.rt:37:13
 entry-requires : tie.Need-entry-requires Inv-loop μ-loop
-entry-requires c κs = ?
+entry-requires c κs = search needs
 
--- src/separation.rt:38:29
 shared-slice-read-entry-2 : tie.Need-shared-slice-read-entry-2 Inv-loop μ-loop
-shared-slice-read-entry-2 c = ?
+shared-slice-read-entry-2 c = search needs
 
--- src/separation.rt:38:13
 entry-requires-2 : tie.Need-entry-requires-2 Inv-loop μ-loop
-entry-requires-2 c κs = ?
+entry-requires-2 c κs = search needs
 
--- src/separation.rt:39:12
-cell-requires : tie.Need-cell-requires Inv-loop μ-loop
-cell-requires c κs = ?
+byte-requires : tie.Need-byte-requires Inv-loop μ-loop
+byte-requires c κs = search needs
 
--- src/separation.rt:39:32
-cell-requires-2 : tie.Need-cell-requires-2 Inv-loop μ-loop
-cell-requires-2 c κs = ?
+byte-requires-2 : tie.Need-byte-requires-2 Inv-loop μ-loop
+byte-requires-2 c κs = search needs
 
--- src/separation.rt:40:13
 returns : tie.Need-returns Inv-loop μ-loop
-returns c = ?
+unfolding tabled
+returns c =
+    alike-differs _ _ _ _ (c .before .before .before .before .before .before .before .before .loop .inv) (c .before .before .before .before .before .before .before .loop-test .taken)
+    (cell-is _ (now (c .before .before .before .before .before .before .before .before .before .before .before .before .args .answer)) _ _ (c .before .before .byte .ensures) (c .before .before .before .before .before .entry .ensures))
+    (cell-is _ (now (c .before .before .before .before .before .before .before .before .before .before .before .before .args .answer)) _ _ (c .before .byte2 .ensures) (c .before .before .before .entry2 .ensures))
+    (c .if1 .taken)
 
--- src/separation.rt:42:9
-cell-requires-3 : tie.Need-cell-requires-3 Inv-loop μ-loop
-cell-requires-3 c κs = ?
+byte-requires-3 : tie.Need-byte-requires-3 Inv-loop μ-loop
+byte-requires-3 c κs = search needs
 
--- src/separation.rt:43:9
-cell-requires-4 : tie.Need-cell-requires-4 Inv-loop μ-loop
-cell-requires-4 c κs = ?
+byte-requires-4 : tie.Need-byte-requires-4 Inv-loop μ-loop
+byte-requires-4 c κs = search needs
 
--- src/separation.rt:44:9
 add-p : tie.Need-add-p Inv-loop μ-loop
-add-p c = ?
+add-p c = search needs
 
--- src/separation.rt:36:5
 loop-less : tie.Need-loop-less Inv-loop μ-loop
-loop-less c = ?
+loop-less c = search needs
 
--- src/separation.rt:36:5
 loop-again : tie.Need-loop-again Inv-loop μ-loop
-loop-again c = ?
+unfolding tabled
+loop-again c =
+    alike-next _ _ _ _ (c .before .before .before .before .before .before .before .before .before .before .loop .inv) (c .before .before .before .before .before .before .before .before .before .loop-test .taken)
+    (cell-is _ (now (c .before .before .before .before .before .before .before .before .before .before .before .before .before .before .args .answer)) _ _ (c .before .before .before .before .byte .ensures) (c .before .before .before .before .before .before .before .entry .ensures))
+    (cell-is _ (now (c .before .before .before .before .before .before .before .before .before .before .before .before .before .before .args .answer)) _ _ (c .before .before .before .byte2 .ensures) (c .before .before .before .before .before .entry2 .ensures))
+    (c .before .before .if1 .left)
+    (cell-is _ (now (c .before .before .before .before .before .before .before .before .before .before .before .before .before .before .args .next)) _ _ (c .before .byte3 .ensures) (c .before .before .before .before .before .before .before .entry .ensures))
+    (cell-is _ (now (c .before .before .before .before .before .before .before .before .before .before .before .before .before .before .args .next)) _ _ (c .byte4 .ensures) (c .before .before .before .before .before .entry2 .ensures))
 
--- src/separation.rt:27:1
 returns-2 : tie.Need-returns-2 Inv-loop μ-loop
-returns-2 c = ?
+returns-2 c = alike-end _ _ _ _ (c .before .loop .inv) (c .loop-test .left)
 
 pub agree-spec : {M : Type 1} → statement M
 agree-spec =
@@ -78,11 +80,11 @@ agree-spec =
     entry-requires
     shared-slice-read-entry-2
     entry-requires-2
-    cell-requires
-    cell-requires-2
+    byte-requires
+    byte-requires-2
     returns
-    cell-requires-3
-    cell-requires-4
+    byte-requires-3
+    byte-requires-4
     add-p
     loop-less
     loop-again

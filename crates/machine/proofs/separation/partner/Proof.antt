@@ -1,58 +1,55 @@
+-- `machine::separation::partner` meets its contract. The loop's invariant: no j below this one is a partner of i.
+-- Assumes nothing.
+use borrow.Author.Needs.{needs}
+use Prim.Native.Nat.{_-_, _≤_, _<_}
+use mathlib.Core.Path.{_≡_, refl}
+use Rattle.sheet.specs.declared.check.Check.the-variants.{Clear}
+use Rattle.sheet.specs.Check.{first}
+use Rattle.sheet.specs.Check.Laws.{first-stops, first-goes-on, first-ends}
+use Rattle.machine.specs.Machine.{tabled}
+use Rattle.machine.specs.Causes.Separation.{pairCause}
+use Rattle.machine.proofs.Pairs.{low-clear, pair-present, pair-absent}
 use Rattle.machine.proofs.separation.partner.Statement.{statement}
 use Rattle.machine.proofs.separation.partner.Tie as tie
-use Rattle.machine.proofs.separation.partner.Reads as reads
-use Rattle.machine.proofs.separation.partner.Lts as lts
-use Rattle.machine.proofs.separation.agree.Reads as agree-reads
 
 abbrev Inv-loop : tie.InvT-loop
-Inv-loop m w i n j₀ j = ?
+Inv-loop next answer n k w i j₀ j = (i < j) × (j ≤ n) × (first j (pairCause (tabled 0 k 0 next answer) w i) ≡ Clear)
 
 abbrev μ-loop : tie.MeasureT-loop
-μ-loop m w i n j₀ j = ?
+μ-loop next answer n k w i j₀ j = n - j
 
--- src/separation.rt:55:17
 add-j : tie.Need-add-j Inv-loop μ-loop
-add-j c = ?
+add-j c = search needs
 
--- src/separation.rt:56:5
 loop-holds : tie.Need-loop-holds Inv-loop μ-loop
-loop-holds c = ?
+loop-holds c = (search needs, search needs, low-clear _ _ _)
 
--- src/separation.rt:57:12
 agree-requires : tie.Need-agree-requires Inv-loop μ-loop
-agree-requires c κs = ?
+agree-requires c κs = search needs
 
--- src/separation.rt:60:24
-mul-t9 : tie.Need-mul-t9 Inv-loop μ-loop
-mul-t9 c = ?
+mul-t11 : tie.Need-mul-t11 Inv-loop μ-loop
+mul-t11 c = search needs
 
--- src/separation.rt:60:44
-cast-t10 : tie.Need-cast-t10 Inv-loop μ-loop
-cast-t10 c = ?
+cast-t12 : tie.Need-cast-t12 Inv-loop μ-loop
+cast-t12 c = search needs
 
--- src/separation.rt:60:24
-add-t11 : tie.Need-add-t11 Inv-loop μ-loop
-add-t11 c = ?
+add-t13 : tie.Need-add-t13 Inv-loop μ-loop
+add-t13 c = search needs
 
--- src/separation.rt:58:13
 returns : tie.Need-returns Inv-loop μ-loop
-returns c = ?
+returns c = first-stops _ (search needs) (c .before .before .before .loop .inv .2) (pair-present _ _ _ _ (search needs) (c .before .agree .ensures) (c .if1 .taken)) refl
 
--- src/separation.rt:63:9
 add-j-2 : tie.Need-add-j-2 Inv-loop μ-loop
-add-j-2 c = ?
+add-j-2 c = search needs
 
--- src/separation.rt:56:5
 loop-less : tie.Need-loop-less Inv-loop μ-loop
-loop-less c = ?
+loop-less c = search needs
 
--- src/separation.rt:56:5
 loop-again : tie.Need-loop-again Inv-loop μ-loop
-loop-again c = ?
+loop-again c = (search needs, search needs, first-goes-on _ _ (c .before .before .before .loop .inv .2) (pair-absent _ _ _ _ (search needs) (c .before .agree .ensures) (c .if1 .left)) refl)
 
--- src/separation.rt:50:1
 returns-2 : tie.Need-returns-2 Inv-loop μ-loop
-returns-2 c = ?
+returns-2 c = first-ends _ (c .before .loop .inv .1) (c .loop-test .left) (c .before .loop .inv .2)
 
 pub partner-spec : {M : Type 1} → statement M
 partner-spec =
@@ -63,9 +60,9 @@ partner-spec =
     add-j
     loop-holds
     agree-requires
-    mul-t9
-    cast-t10
-    add-t11
+    mul-t11
+    cast-t12
+    add-t13
     returns
     add-j-2
     loop-less

@@ -19,22 +19,22 @@ required-requires-2 c κs = search needs
 required-requires-3 : tie.Need-required-requires-3
 required-requires-3 c κs = search needs
 
-either-requires : tie.Need-either-requires
-either-requires c κs = search needs
+first-of-requires : tie.Need-first-of-requires
+first-of-requires c κs = search needs
 
-either-requires-2 : tie.Need-either-requires-2
-either-requires-2 c κs = search needs
+first-of-requires-2 : tie.Need-first-of-requires-2
+first-of-requires-2 c κs = search needs
 
-either-requires-3 : tie.Need-either-requires-3
-either-requires-3 c κs = search needs
+first-of-requires-3 : tie.Need-first-of-requires-3
+first-of-requires-3 c κs = search needs
 
 returns : tie.Need-returns
 returns c =
-    c .either3 .ensures
+    c .first-of3 .ensures
     ∙ ap₂ _else_ (c .before .before .before .before .before .before .refusal .ensures)
-    (c .before .either2 .ensures
+    (c .before .first-of2 .ensures
     ∙ ap₂ _else_ (c .before .before .before .before .before .required .ensures)
-    (c .before .before .either .ensures ∙ ap₂ _else_ (c .before .before .before .before .required2 .ensures) (c .before .before .before .required3 .ensures)))
+    (c .before .before .first-of .ensures ∙ ap₂ _else_ (c .before .before .before .before .required2 .ensures) (c .before .before .before .required3 .ensures)))
     ∙ sym (checks-are (c .before .before .before .before .before .before .before .before .args .needs) _)
 
 pub checks-spec : {M : Type 1} → statement M
@@ -45,7 +45,7 @@ checks-spec =
     required-requires
     required-requires-2
     required-requires-3
-    either-requires
-    either-requires-2
-    either-requires-3
+    first-of-requires
+    first-of-requires-2
+    first-of-requires-3
     returns)

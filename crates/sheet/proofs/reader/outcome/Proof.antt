@@ -20,17 +20,17 @@ is-missing-requires c κs = search needs
 refuse-requires : tie.Need-refuse-requires
 refuse-requires c κs = search needs
 
-either-requires : tie.Need-either-requires
-either-requires c κs = search needs
+first-of-requires : tie.Need-first-of-requires
+first-of-requires c κs = search needs
 
-either-requires-2 : tie.Need-either-requires-2
-either-requires-2 c κs = search needs
+first-of-requires-2 : tie.Need-first-of-requires-2
+first-of-requires-2 c κs = search needs
 
 returns : tie.Need-returns
 returns c =
-    c .either2 .ensures
+    c .first-of2 .ensures
     ∙ ap₂ _else_ (c .before .before .before .before .too-long .ensures)
-    (c .before .either .ensures
+    (c .before .first-of .ensures
     ∙ ap₂ _else_ (c .before .before .before .before .before .before .pre .0)
     (c .before .before .refuse .ensures ∙ ap (λ (b : Bool). refusal 2 with length (now (c .before .before .before .before .before .before .args .sheet)) if b) (c .before .before .before .is-missing .ensures ∙ ap isMissing (c .before .before .before .before .before .before .pre .1))))
     ∙ sym (refusal-is _ _)
@@ -42,6 +42,6 @@ outcome-spec =
     too-long-requires
     is-missing-requires
     refuse-requires
-    either-requires
-    either-requires-2
+    first-of-requires
+    first-of-requires-2
     returns)

@@ -8,8 +8,8 @@ use Rattle.sheet.specs.Reader.Laws.{payload-inside, part-clear, part-ref
 use Rattle.sheet.proofs.reader.part_of.Statement.{statement}
 use Rattle.sheet.proofs.reader.part_of.Tie as tie
 
-walk-requires : tie.Need-walk-requires
-walk-requires c κs = search needs
+parse-requires : tie.Need-parse-requires
+parse-requires c κs = search needs
 
 outcome-requires : tie.Need-outcome-requires
 outcome-requires c κs = search needs
@@ -21,7 +21,7 @@ enum-known-found : tie.Need-enum-known-found
 enum-known-found c = search needs
 
 add-t10 : tie.Need-add-t10
-add-t10 c = omega (arith, payload-inside (now (c .before .before .before .before .before .before .before .before .before .args .sheet)) (c .before .before .before .before .before .before .before .before .before .args .kind) _ (sym (c .before .before .found .given .1) ∙ c .before .before .before .before .before .before .before .walk .ensures .1))
+add-t10 c = omega (arith, payload-inside (now (c .before .before .before .before .before .before .before .before .before .args .sheet)) (c .before .before .before .before .before .before .before .before .before .args .kind) _ (sym (c .before .before .found .given .1) ∙ c .before .before .before .before .before .before .before .parse .ensures .1))
 
 enum-told-2 : tie.Need-enum-told-2
 enum-told-2 c = search needs
@@ -30,10 +30,10 @@ enum-told-3 : tie.Need-enum-told-3
 enum-told-3 c = search needs
 
 returns : tie.Need-returns
-returns c = (part-clear _ _ (c .before .before .before .before .before .before .outcome .ensures) (c .before .before .before .before .enum-told .given .1) (sym (c .before .before .found .given .1) ∙ c .before .before .before .before .before .before .before .walk .ensures .1), payload-inside _ _ _ (sym (c .before .before .found .given .1) ∙ c .before .before .before .before .before .before .before .walk .ensures .1))
+returns c = (part-clear _ _ (c .before .before .before .before .before .before .outcome .ensures) (c .before .before .before .before .enum-told .given .1) (sym (c .before .before .found .given .1) ∙ c .before .before .before .before .before .before .before .parse .ensures .1), payload-inside _ _ _ (sym (c .before .before .found .given .1) ∙ c .before .before .before .before .before .before .before .parse .ensures .1))
 
 returns-2 : tie.Need-returns-2
-returns-2 c = (part-clear _ _ (c .before .before .before .before .outcome .ensures) (c .before .before .enum-told .given .1) (sym (c .enum-told2 .given .1) ∙ c .before .before .before .before .before .walk .ensures .1), search needs)
+returns-2 c = (part-clear _ _ (c .before .before .before .before .outcome .ensures) (c .before .before .enum-told .given .1) (sym (c .enum-told2 .given .1) ∙ c .before .before .before .before .before .parse .ensures .1), search needs)
 
 returns-3 : tie.Need-returns-3
 returns-3 c = (part-refused _ _ (c .before .before .outcome .ensures) (c .enum-told3 .given .1), search needs)
@@ -42,7 +42,7 @@ pub part-of-spec : {M : Type 1} → statement M
 part-of-spec =
     tie.close
     (tie.spec
-    walk-requires
+    parse-requires
     outcome-requires
     enum-told
     enum-known-found

@@ -11,8 +11,8 @@ use Rattle.sheet.specs.Reader.Laws.{when-missing}
 use Rattle.sheet.proofs.reader.required.Statement.{statement}
 use Rattle.sheet.proofs.reader.required.Tie as tie
 
-walk-requires : tie.Need-walk-requires
-walk-requires c κs = search needs
+parse-requires : tie.Need-parse-requires
+parse-requires c κs = search needs
 
 is-missing-requires : tie.Need-is-missing-requires
 is-missing-requires c κs = search needs
@@ -23,8 +23,8 @@ refuse-requires c κs = search needs
 returns : tie.Need-returns
 returns c =
     c .refuse .ensures
-    ∙ ap (λ (b : Bool). refusal 2 with length (now (c .before .before .before .before .args .sheet)) if (c .before .before .before .before .args .needed && b)) (c .before .is-missing .ensures ∙ ap isMissing (c .before .before .walk .ensures .1))
+    ∙ ap (λ (b : Bool). refusal 2 with length (now (c .before .before .before .before .args .sheet)) if (c .before .before .before .before .args .needed && b)) (c .before .is-missing .ensures ∙ ap isMissing (c .before .before .parse .ensures .1))
     ∙ when-missing _ _ (c .before .before .before .before .args .needed)
 
 pub required-spec : {M : Type 1} → statement M
-required-spec = tie.close (tie.spec walk-requires is-missing-requires refuse-requires returns)
+required-spec = tie.close (tie.spec parse-requires is-missing-requires refuse-requires returns)

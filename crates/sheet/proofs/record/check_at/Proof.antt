@@ -11,12 +11,12 @@ cut-requires c κs = search needs
 misplaced-requires : tie.Need-misplaced-requires
 misplaced-requires c κs = search needs
 
-either-requires : tie.Need-either-requires
-either-requires c κs = search needs
+first-of-requires : tie.Need-first-of-requires
+first-of-requires c κs = search needs
 
 returns : tie.Need-returns
 unfolding causeAt
 returns c = cc
 
 pub check-at-spec : {M : Type 1} → statement M
-check-at-spec = tie.close (tie.spec cut-requires misplaced-requires either-requires returns)
+check-at-spec = tie.close (tie.spec cut-requires misplaced-requires first-of-requires returns)

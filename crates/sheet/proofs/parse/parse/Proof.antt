@@ -1,5 +1,5 @@
--- `sheet::walk::walk` meets its contract. The loop's invariant is `Head`: what is found so far and what the walk from here finds are
--- what the whole walk finds. Each turn passes a record, so the measure is the bytes that are left.
+-- `sheet::parse::parse` meets its contract. The loop's invariant is `Head`: what is found so far and what the parse from here finds are
+-- what the whole parse finds. Each turn passes a record, so the measure is the bytes that are left.
 -- Assumes nothing.
 use native.Mathlib.Omega.{arith}
 use borrow.Author.Needs.{needs}
@@ -7,9 +7,9 @@ use Prim.Native.Nat.{_+_, _-_, _≤_}
 use denote.Ref.{now}
 use mathlib.Core.Path.{sym, _∙_}
 use lib.ListN.{length}
-use Rattle.sheet.proofs.Walking.{Head, Turn, head-start, head-end, head-stop, turn-inside, turn-next}
-use Rattle.sheet.proofs.walk.walk.Statement.{statement}
-use Rattle.sheet.proofs.walk.walk.Tie as tie
+use Rattle.sheet.proofs.Parsing.{Head, Turn, head-start, head-end, head-stop, turn-inside, turn-next}
+use Rattle.sheet.proofs.parse.parse.Statement.{statement}
+use Rattle.sheet.proofs.parse.parse.Tie as tie
 
 abbrev Inv-loop : tie.InvT-loop
 Inv-loop s kind at₀ last₀ found₀ at last found = Head s kind at last found
@@ -79,8 +79,8 @@ loop-again c = turn-next (c .before .before .before .before .before .before .bef
 returns-2 : tie.Need-returns-2 Inv-loop μ-loop
 returns-2 c = let a = head-end (c .before .loop .inv) (search needs) in (a .stop, a .finds)
 
-pub walk-spec : {M : Type 1} → statement M
-walk-spec =
+pub parse-spec : {M : Type 1} → statement M
+parse-spec =
     tie.close
     (tie.spec
     Inv-loop

@@ -1,4 +1,4 @@
--- What the loop of `walk` keeps at its head, and how each way through a turn keeps it.
+-- What the loop of `parse` keeps at its head, and how each way through a turn keeps it.
 -- Assumes nothing.
 use Prim.Native.Nat.{ℕ, _+_, _≤_, _<_}
 use mathlib.Core.Path.{_≡_, refl, sym, ap, _∙_, subst₃}
@@ -11,47 +11,47 @@ use Rattle.sheet.specs.declared.record.Found.{Found}
 use Rattle.sheet.specs.declared.record.Found.the-variants.{Missing}
 use Rattle.sheet.specs.declared.record.Record.{Record}
 use Rattle.sheet.specs.declared.record.Kind.{Kind}
-use Rattle.sheet.specs.Format.{recordAt, kindOf, rank, end, causeAt, Walked, ended, _before_, walk, walked, ofKind, _or_, find}
-use Rattle.sheet.specs.Format.Laws.{rankAt, end-is, clear-inside, walk-end, walk-stopped, walk-record, or-missing, missing-or, or-assoc, find-none, find-cons}
+use Rattle.sheet.specs.Format.{recordAt, kindOf, rank, end, causeAt, Parsed, ended, _before_, parse, parsed, ofKind, _or_, find}
+use Rattle.sheet.specs.Format.Laws.{rankAt, end-is, clear-inside, parse-end, parse-stopped, parse-record, or-missing, missing-or, or-assoc, find-none, find-cons}
 
 pub record Head (s : List ℕ) (k at last : ℕ) (found : Found) : Type 0 where
   pub inside : at ≤ length s
-  pub stop : walk s at last .stop ≡ walked s .stop
-  pub finds : (found or find k (walk s at last .records)) ≡ find k (walked s .records)
+  pub stop : parse s at last .stop ≡ parsed s .stop
+  pub finds : (found or find k (parse s at last .records)) ≡ find k (parsed s .records)
 
--- what the walk answers
+-- what the parse answers
 pub record Answer (s : List ℕ) (k : ℕ) (c : Check) (found : Found) : Type 0 where
-  pub stop : c ≡ walked s .stop
-  pub finds : found ≡ find k (walked s .records)
+  pub stop : c ≡ parsed s .stop
+  pub finds : found ≡ find k (parsed s .records)
 
 pub head-start : (s : List ℕ) (k : ℕ) → Head s k 0 0 Missing
-unfolding walked
-head-start s k = record { inside = omega arith; stop = refl; finds = missing-or (find k (walk s 0 0 .records)) }
+unfolding parsed
+head-start s k = record { inside = omega arith; stop = refl; finds = missing-or (find k (parse s 0 0 .records)) }
 
 module _ {s : List ℕ} {k at last : ℕ} {found : Found} (h : Head s k at last found) where
-  answer : (w : Walked) → walk s at last ≡ w → find k (w .records) ≡ Missing → Answer s k (w .stop) found
+  answer : (w : Parsed) → parse s at last ≡ w → find k (w .records) ≡ Missing → Answer s k (w .stop) found
   answer w e none = record {
-    stop = ap (λ (x : Walked). x .stop) (sym e) ∙ h .stop;
+    stop = ap (λ (x : Parsed). x .stop) (sym e) ∙ h .stop;
     finds = sym (or-missing found) ∙ (rw (← none, ← e) (h .finds));
   }
 
   pub head-end : length s ≤ at → Answer s k Clear found
-  head-end l = answer (ended Clear) (walk-end s at last l) (find-none k)
+  head-end l = answer (ended Clear) (parse-end s at last l) (find-none k)
 
   pub head-stop : at < length s → {c : Check} → c ≡ causeAt s at last → {n p : ℕ} → c ≡ Refused n p → Answer s k c found
-  head-stop l ce {n} {p} e = rw e (answer (ended (Refused n p)) (walk-stopped s at last n p l (sym ce ∙ e)) (find-none k))
+  head-stop l ce {n} {p} e = rw e (answer (ended (Refused n p)) (parse-stopped s at last n p l (sym ce ∙ e)) (find-none k))
 
   pub head-on : at < length s → causeAt s at last ≡ Clear
       → Head s k (end (recordAt s at)) (rankAt s at) (found or ofKind k (recordAt s at))
   head-on l e =
       let r = recordAt s at in
-      let w = walk s (end r) (rankAt s at) in
-      let on : walk s at last ≡ (r before w) = walk-record s at last l e in
+      let w = parse s (end r) (rankAt s at) in
+      let on : parse s at last ≡ (r before w) = parse-record s at last l e in
       record {
         inside = clear-inside s at last e;
-        stop = ap (λ (x : Walked). x .stop) (sym on) ∙ h .stop;
+        stop = ap (λ (x : Parsed). x .stop) (sym on) ∙ h .stop;
         finds = or-assoc found (ofKind k r) (find k (w .records))
-            ∙ ap (λ (f : Found). found or f) (sym (find-cons k r (w .records)) ∙ ap (λ (x : Walked). find k (x .records)) (sym on))
+            ∙ ap (λ (f : Found). found or f) (sym (find-cons k r (w .records)) ∙ ap (λ (x : Parsed). find k (x .records)) (sym on))
             ∙ h .finds;
       }
 

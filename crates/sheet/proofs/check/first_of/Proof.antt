@@ -1,9 +1,9 @@
 use borrow.Author.Needs.{needs}
 use Rattle.sheet.specs.Check.{_else_}
-use Rattle.sheet.proofs.check.either.Statement.{statement}
-use Rattle.sheet.proofs.check.either.Tie as tie
-use Rattle.sheet.proofs.check.either.Reads as reads
-use Rattle.sheet.proofs.check.either.Lts as lts
+use Rattle.sheet.proofs.check.first_of.Statement.{statement}
+use Rattle.sheet.proofs.check.first_of.Tie as tie
+use Rattle.sheet.proofs.check.first_of.Reads as reads
+use Rattle.sheet.proofs.check.first_of.Lts as lts
 
 -- src/check.rt:27:25
 enum-told : tie.Need-enum-told
@@ -23,5 +23,5 @@ returns-2 : tie.Need-returns-2
 unfolding _else_
 returns-2 c = cc
 
-pub either-spec : {M : Type 1} → statement M
-either-spec = tie.close (tie.spec enum-told enum-told-2 returns returns-2)
+pub first-of-spec : {M : Type 1} → statement M
+first-of-spec = tie.close (tie.spec enum-told enum-told-2 returns returns-2)

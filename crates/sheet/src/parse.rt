@@ -1,6 +1,6 @@
-// The walk over a sheet's records from the front.
+// The parse over a sheet's records from the front.
 ghost use mathlib.Core.Path.{_≡_};
-ghost use Rattle.sheet.specs.Format.{walked, find};
+ghost use Rattle.sheet.specs.Format.{parsed, find};
 use crate::check::Check;
 use crate::record::Found;
 use crate::record::HEADER;
@@ -11,16 +11,16 @@ use crate::record::of_kind;
 use crate::record::rank;
 use crate::record::record_at;
 
-// What stopped the walk, Clear at the sheet's end, and the record of one kind.
-pub struct Walked {
+// What stopped the parse, Clear at the sheet's end, and the record of one kind.
+pub struct Parsed {
     pub stop: Check,
     pub found: Found,
 }
 
 // Walks the whole sheet and looks for the record of a kind.
-pub fn walk(s: &[u8], kind: u16) -> Walked
-    ensures stop { λ r. ⌜ r .stop ≡ walked (now (s .entry)) .stop ⌝ }
-    ensures found { λ r. ⌜ r .found ≡ find kind (walked (now (s .entry)) .records) ⌝ }
+pub fn parse(s: &[u8], kind: u16) -> Parsed
+    ensures stop { λ r. ⌜ r .stop ≡ parsed (now (s .entry)) .stop ⌝ }
+    ensures found { λ r. ⌜ r .found ≡ find kind (parsed (now (s .entry)) .records) ⌝ }
 {
     let mut at: usize = 0;
     let mut last: u8 = 0;
@@ -31,14 +31,14 @@ pub fn walk(s: &[u8], kind: u16) -> Walked
             number: _,
             place: _,
         } = check {
-            return Walked { stop: check, found };
+            return Parsed { stop: check, found };
         }
         let r = record_at(s, at);
         found = first_found(found, of_kind(r, kind));
         last = rank(kind_of(r.kind));
         at = at + HEADER + r.size;
     }
-    Walked {
+    Parsed {
         stop: Check::Clear,
         found,
     }

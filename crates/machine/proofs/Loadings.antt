@@ -1,0 +1,109 @@
+-- How the code's checks, made one by one, are the first cause of the lists.
+-- Assumes nothing.
+use Prim.Native.Nat.{ℕ, _+_, _*_, _≤_}
+use mathlib.Core.Path.{_≡_, refl, sym, ap, ap₂, _∙_, subst}
+use mathlib.Core.Bool.{Bool, true, false}
+use mathlib.Core.List.{List}
+use lib.ListN.{length, take}
+use Rattle.sheet.specs.declared.check.Check.{Check}
+use Rattle.sheet.specs.declared.check.Check.the-variants.{Clear, Refused}
+use Rattle.sheet.specs.declared.record.Record.{Record}
+use Rattle.sheet.specs.declared.reader.Needs.{Needs}
+use Rattle.sheet.specs.Check.{refusal_with_if_, _else_, firstCause, first}
+use Rattle.sheet.specs.Check.Laws.{else-clear, else-refused}
+use Rattle.sheet.specs.Format.{header}
+use Rattle.sheet.specs.Reader.{sheetCauses, needed, the, part, content}
+use Rattle.sheet.specs.Reader.Laws.{the-inside}
+use Rattle.machine.specs.declared.machine.Machine.{Machine}
+use Rattle.machine.specs.Limits.{mostEntries, mostWord}
+use Rattle.machine.specs.Machine.{Mealy, tabled, meaning, machineOf}
+use Rattle.machine.specs.Causes.{outside, cause3, cause4, cause5, commandsCause, cause6, machineIn, held, machineCauses, wordCauses, loadCauses}
+use Rattle.machine.specs.Causes.Laws.{byteCause, commands-cause-is}
+use Rattle.machine.specs.Causes.Lists.{machine-causes-are, word-causes-are, word-causes-none, load-causes-are, clear-table, held-is, machine-proper, word-distinguishes}
+use Rattle.machine.specs.declared.loading.Loaded.{Loaded}
+use Rattle.machine.specs.Loading.{LoadedFrom}
+
+-- a record that is read, and what reading hands back, lie inside the sheet
+pub record-inside : (k : ℕ) (s : List ℕ) {r : Record} {w : List ℕ} → r ≡ the k s → w ≡ content k s → r .start + length w ≤ length s
+record-inside k s re we = rw (re, we) (the-inside k s)
+
+-- causes 5 and 7
+pub commands-are : (number most k kind : ℕ) (s : List ℕ) {r : Record} {w : List ℕ} {o : Bool} {a b c : Check} → r ≡ the kind s → w ≡ content kind s
+    → o ≡ outside 1 most (length w) → a ≡ (refusal number with r .start if o) → b ≡ first (length w) (byteCause number (r .start + header) w 0 1 k)
+    → c ≡ (a else b) → c ≡ commandsCause number most k (the kind s) (content kind s)
+commands-are number most k kind s {r} {w} re we oe ae be ce =
+    ce
+    ∙ ap₂ _else_ (ae ∙ ap (λ (x : Bool). refusal number with r .start if x) oe) be
+    ∙ commands-cause-is number most k r w
+    ∙ ap₂ (commandsCause number most k) re we
+
+-- causes 1 to 4
+pub table-are : (n : Needs) (s : List ℕ) {r : Record} {p : List ℕ} {kinds three four inner c : Check} → kinds ≡ firstCause (sheetCauses (needed n) s)
+    → r ≡ the 1 s → p ≡ content 1 s → three ≡ cause3 r p → four ≡ cause4 r p → inner ≡ (three else four) → c ≡ (kinds else inner)
+    → c ≡ firstCause (machineCauses n s)
+table-are n s ke re pe te fe ie ce =
+    ce ∙ ap₂ _else_ ke (ie ∙ ap₂ _else_ (te ∙ ap₂ cause3 re pe) (fe ∙ ap₂ cause4 re pe)) ∙ sym (machine-causes-are n s)
+
+-- causes 5 and 6, of the machine that the program holds
+module _ (s : List ℕ) (m : Machine) (h : meaning m ≡ machineIn s) where
+  commands-same : m .k ≡ machineIn s .k
+  unfolding tabled
+  commands-same = ap (λ (x : Mealy). x .k) h
+
+  five-is : {c : Check} → c ≡ commandsCause 5 mostWord (m .k) (the 2 s) (content 2 s) → c ≡ cause5 (machineIn s .k) (the 2 s) (content 2 s)
+  five-is ce = ce ∙ ap (λ (x : ℕ). commandsCause 5 mostWord x (the 2 s) (content 2 s)) commands-same
+
+  pub word-stops : {c : Check} → c ≡ commandsCause 5 mostWord (m .k) (the 2 s) (content 2 s) → {a b : ℕ} → c ≡ Refused a b
+      → c ≡ firstCause (wordCauses true s)
+  word-stops ce {a} {b} e =
+      e
+      ∙ sym (else-refused a b (cause6 (machineIn s) (content 2 s)))
+      ∙ ap (λ (x : Check). x else cause6 (machineIn s) (content 2 s)) (sym e ∙ five-is ce)
+      ∙ sym (word-causes-are s)
+
+  pub word-goes-on : {c : Check} → c ≡ commandsCause 5 mostWord (m .k) (the 2 s) (content 2 s) → c ≡ Clear
+      → {w : List ℕ} → w ≡ content 2 s → {d : Check} → d ≡ cause6 (meaning m) w → d ≡ firstCause (wordCauses true s)
+  word-goes-on ce e we de =
+      de
+      ∙ ap₂ cause6 h we
+      ∙ sym (else-clear (cause6 (machineIn s) (content 2 s)))
+      ∙ ap (λ (x : Check). x else cause6 (machineIn s) (content 2 s)) (sym e ∙ five-is ce)
+      ∙ sym (word-causes-are s)
+
+pub word-off : (s : List ℕ) {b : Bool} → b ≡ false → Clear ≡ firstCause (wordCauses b s)
+word-off s e = sym (word-causes-none s) ∙ ap (λ (x : Bool). firstCause (wordCauses x s)) (sym e)
+
+pub word-on : (s : List ℕ) {b : Bool} → b ≡ true → {c : Check} → c ≡ firstCause (wordCauses true s) → c ≡ firstCause (wordCauses b s)
+word-on s e ce = ce ∙ ap (λ (x : Bool). firstCause (wordCauses x s)) (sym e)
+
+-- causes 1 to 6
+module _ (n : Needs) (s : List ℕ) {t : Check} (te : t ≡ firstCause (machineCauses n s)) where
+  pub load-stops : {a b : ℕ} → t ≡ Refused a b → t ≡ firstCause (loadCauses n s)
+  load-stops {a} {b} e =
+      e
+      ∙ sym (else-refused a b (firstCause (wordCauses (n .word) s)))
+      ∙ ap (λ (x : Check). x else firstCause (wordCauses (n .word) s)) (sym e ∙ te)
+      ∙ sym (load-causes-are n s)
+
+  pub load-goes-on : t ≡ Clear → {c : Check} → c ≡ firstCause (wordCauses (n .word) s) → c ≡ firstCause (loadCauses n s)
+  load-goes-on e ce =
+      ce
+      ∙ sym (else-clear (firstCause (wordCauses (n .word) s)))
+      ∙ ap (λ (x : Check). x else firstCause (wordCauses (n .word) s)) (sym e ∙ te)
+      ∙ sym (load-causes-are n s)
+
+-- the machine that is loaded from what reading hands back
+pub loaded-is : (s : List ℕ) {p : List ℕ} {M : Mealy} → p ≡ content 1 s → M ≡ machineOf (take (2 + 2 * mostEntries) p) → M ≡ held s
+unfolding held
+loaded-is s pe e = e ∙ ap (λ (x : List ℕ). machineOf (take (2 + 2 * mostEntries) x)) pe
+
+-- all that loading promises
+pub loaded-from : (n : Needs) (s : List ℕ) (l : Loaded) → l .check ≡ firstCause (loadCauses n s) → meaning (l .machine) ≡ held s → l .word ≡ part 2 s → LoadedFrom n s l
+loaded-from n s l ce he we = record {
+  check = ce;
+  word = we;
+  machine = λ e. he ∙ held-is n s (clear-table n s (sym ce ∙ e));
+  proper = λ e. machine-proper n s (clear-table n s (sym ce ∙ e));
+  distinguishes = λ t e. word-distinguishes n s t (sym ce ∙ e);
+  holds = he;
+}

@@ -1,0 +1,81 @@
+-- The laws of causes 1 to 6 in order, and what a sheet shows where they are clear.
+use Prim.Native.Nat.{ℕ, _+_, _*_, _≤_, _<_}
+use mathlib.Core.Path.{_≡_, refl, sym, ap, ap₂, _∙_, subst}
+use mathlib.Core.Bool.{Bool, true, false}
+use mathlib.Core.List.{List, [], _∷_, _++_}
+use native.Mathlib.Omega.{arith}
+use lib.ListN.{length, getD, take}
+use lib.Seq.{take-all}
+use Rattle.sheet.specs.declared.check.Check.{Check}
+use Rattle.sheet.specs.declared.check.Check.the-variants.{Clear, Refused}
+use Rattle.sheet.specs.declared.reader.Needs.{Needs}
+use Rattle.sheet.specs.Check.{_else_, firstCause}
+use Rattle.sheet.specs.Check.Laws.{else-clear, else-refused, both-clear, cause-none, cause-cons, cause-one, cause-append}
+use Rattle.sheet.specs.Reader.{sheetCauses, needed, the, content}
+use Rattle.machine.specs.Limits.{mostEntries, mostWord}
+use Rattle.machine.specs.Machine.{machineOf, Proper, Distinguishes}
+use Rattle.machine.specs.Causes.{cause3, cause4, cause5, cause6, machineIn, held, machineCauses, wordCauses, loadCauses}
+use Rattle.machine.specs.Causes.Laws.{Shape, clear-shape, few-entries, clear-next, clear-commands}
+use Rattle.machine.specs.Causes.Separation.{clear-separates}
+
+-- ---- the lists, written out
+cause-two : (a b : Check) → firstCause (a ∷ b ∷ []) ≡ (a else b)
+cause-two a b = cause-cons a (b ∷ []) ∙ ap (λ (c : Check). a else c) (cause-one b)
+
+pub machine-causes-are : (n : Needs) (s : List ℕ) → firstCause (machineCauses n s)
+    ≡ (firstCause (sheetCauses (needed n) s) else (cause3 (the 1 s) (content 1 s) else cause4 (the 1 s) (content 1 s)))
+unfolding machineCauses
+machine-causes-are n s =
+    cause-append (sheetCauses (needed n) s) (cause3 (the 1 s) (content 1 s) ∷ cause4 (the 1 s) (content 1 s) ∷ [])
+    ∙ ap (λ (c : Check). firstCause (sheetCauses (needed n) s) else c) (cause-two (cause3 (the 1 s) (content 1 s)) (cause4 (the 1 s) (content 1 s)))
+
+pub word-causes-are : (s : List ℕ) → firstCause (wordCauses true s)
+    ≡ (cause5 (machineIn s .k) (the 2 s) (content 2 s) else cause6 (machineIn s) (content 2 s))
+unfolding wordCauses
+word-causes-are s = cause-two (cause5 (machineIn s .k) (the 2 s) (content 2 s)) (cause6 (machineIn s) (content 2 s))
+
+pub word-causes-none : (s : List ℕ) → firstCause (wordCauses false s) ≡ Clear
+unfolding wordCauses
+word-causes-none s = cause-none
+
+pub load-causes-are : (n : Needs) (s : List ℕ) → firstCause (loadCauses n s) ≡ (firstCause (machineCauses n s) else firstCause (wordCauses (n .word) s))
+unfolding loadCauses
+load-causes-are n s = cause-append (machineCauses n s) (wordCauses (n .word) s)
+
+-- ---- where they are clear
+module _ (n : Needs) (s : List ℕ) (e : firstCause (machineCauses n s) ≡ Clear) where
+  table-clear : (cause3 (the 1 s) (content 1 s) ≡ Clear) × (cause4 (the 1 s) (content 1 s) ≡ Clear)
+  table-clear = both-clear _ _ (both-clear _ _ (sym (machine-causes-are n s) ∙ e) .1)
+
+  pub shape-of : Shape (content 1 s)
+  shape-of = clear-shape (the 1 s) (content 1 s) (table-clear .0)
+
+  -- the machine that is held is the sheet's
+  pub held-is : held s ≡ machineIn s
+  unfolding held machineIn
+  held-is = ap machineOf (take-all (2 + 2 * mostEntries) (content 1 s) (omega (arith, shape-of .long, few-entries (content 1 s) shape-of)))
+
+pub machine-proper : (n : Needs) (s : List ℕ) → firstCause (machineCauses n s) ≡ Clear → Proper (machineIn s)
+unfolding machineIn machineOf
+machine-proper n s e =
+    let h = shape-of n s e in
+    record {
+      some-states = h .some-states;
+      few-states = h .few-states;
+      some-commands = h .some-commands;
+      few-commands = h .few-commands;
+      starts = h .some-states;
+      stays = clear-next (the 1 s) (content 1 s) (table-clear n s e .1);
+    }
+
+pub clear-table : (n : Needs) (s : List ℕ) → firstCause (loadCauses n s) ≡ Clear → firstCause (machineCauses n s) ≡ Clear
+clear-table n s e = both-clear _ _ (sym (load-causes-are n s) ∙ e) .0
+
+pub word-distinguishes : (n : Needs) (s : List ℕ) → n .word ≡ true → firstCause (loadCauses n s) ≡ Clear → Distinguishes (machineIn s) (content 2 s)
+word-distinguishes n s t e =
+    let five : firstCause (wordCauses true s) ≡ Clear = rw (← t) (both-clear _ _ (sym (load-causes-are n s) ∙ e) .1) in
+    let two = both-clear _ _ (sym (word-causes-are s) ∙ five) in
+    record {
+      commands = clear-commands 5 mostWord (machineIn s .k) (the 2 s) (content 2 s) (two .0);
+      separates = clear-separates (machineIn s) (content 2 s) (two .1);
+    }

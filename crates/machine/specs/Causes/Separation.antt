@@ -1,0 +1,87 @@
+-- The laws of cause 6: it is clear exactly where the word separates the states.
+use Prim.Native.Nat.{ℕ, _+_, _*_, _<_, _≤_}
+use mathlib.Core.Path.{_≡_, refl, sym, ap, ap₂, _∙_, fun-ext}
+use mathlib.Core.Bool.{Bool, true, false, true≢false, _&&_}
+use mathlib.Core.List.{List, [], _∷_}
+use native.Mathlib.Omega.{arith}
+use lib.Dec.{ltb, eqb}
+use borrow.Author.Tests.{lt-ltb, ltb-true, ltb-false, eq-eqb, eqb-true}
+use Rattle.sheet.specs.declared.check.Check.{Check}
+use Rattle.sheet.specs.declared.check.Check.the-variants.{Clear}
+use Rattle.sheet.specs.Check.{refusal_with_if_, first}
+use Rattle.sheet.specs.Check.Laws.{absent, clear-absent, first-clear, first-clear-at}
+use Rattle.machine.specs.Machine.{Mealy, tabled, answers, Separates}
+use Rattle.machine.specs.Machine.Laws.{answers-tabled}
+use Rattle.machine.specs.Causes.{same, cause6}
+
+-- the cause at a pair of states
+unfoldable pub pairCause : Mealy → List ℕ → ℕ → ℕ → Check
+pairCause M w i j = refusal 6 with 16 * i + j if (ltb i j && same (answers M i w) (answers M j w))
+
+pub cause6-is : (M : Mealy) (w : List ℕ) → first (M .n) (λ i. first (M .n) (pairCause M w i)) ≡ cause6 M w
+unfolding cause6 pairCause
+cause6-is M w = refl
+
+pub pairs-tabled : (n k start n′ start′ : ℕ) (next answer w : List ℕ) (i : ℕ)
+    → pairCause (tabled n k start next answer) w i ≡ pairCause (tabled n′ k start′ next answer) w i
+unfolding pairCause
+pairs-tabled n k start n′ start′ next answer w i =
+    fun-ext (λ j. ap₂ (λ (x y : List ℕ). refusal 6 with 16 * i + j if (ltb i j && same x y))
+    (answers-tabled n k start n′ start′ next answer i w)
+    (answers-tabled n k start n′ start′ next answer j w))
+
+pub cause6-tabled : (n k start start′ : ℕ) (next answer w : List ℕ) → cause6 (tabled n k start next answer) w ≡ cause6 (tabled n k start′ next answer) w
+unfolding tabled
+cause6-tabled n k start start′ next answer w =
+    sym (cause6-is (tabled n k start next answer) w)
+    ∙ ap (first n) (fun-ext (λ i. ap (first n) (pairs-tabled n k start n start′ next answer w i)))
+    ∙ cause6-is (tabled n k start′ next answer) w
+
+-- ---- equal lists
+both-true : (a b : Bool) → (a && b) ≡ true → (a ≡ true) × (b ≡ true)
+both-true true b e = (refl, e)
+both-true false b e = (e, cc)
+
+pub same-refl : (xs : List ℕ) → same xs xs ≡ true
+same-refl [] = refl
+same-refl (x ∷ xs) = rw (eq-eqb x x refl, same-refl xs)
+
+pub same-equal : (xs ys : List ℕ) → same xs ys ≡ true → xs ≡ ys
+same-equal [] [] e = refl
+same-equal [] (y ∷ ys) e = cc
+same-equal (x ∷ xs) [] e = cc
+same-equal (x ∷ xs) (y ∷ ys) e =
+    let h = both-true (eqb x y) (same xs ys) e in
+    ap₂ _∷_ (eqb-true x y (h .0)) (same-equal xs ys (h .1))
+
+-- ---- cause 6 and separation
+pair-clear : (M : Mealy) (w : List ℕ) → cause6 M w ≡ Clear → (i j : ℕ) → i < M .n → j < M .n → (ltb i j && same (answers M i w) (answers M j w)) ≡ false
+unfolding pairCause
+pair-clear M w e i j il jl = clear-absent 6 (16 * i + j) _ (first-clear-at (M .n) j (pairCause M w i) (first-clear-at (M .n) i _ (cause6-is M w ∙ e) il) jl)
+
+never-below : (M : Mealy) (w : List ℕ) → cause6 M w ≡ Clear → (i j : ℕ) → i < M .n → j < M .n → answers M i w ≡ answers M j w → i < j → ⊥
+never-below M w e i j il jl q l =
+    let t : (ltb i j && same (answers M i w) (answers M j w)) ≡ true = ap₂ _&&_ (lt-ltb i j l) (ap (same (answers M i w)) (sym q) ∙ same-refl (answers M i w)) in
+    true≢false (sym t ∙ pair-clear M w e i j il jl)
+
+pub clear-separates : (M : Mealy) (w : List ℕ) → cause6 M w ≡ Clear → Separates M w
+clear-separates M w e i j il jl q = go (ltb i j) refl (ltb j i) refl
+  where
+    go : (a : Bool) → ltb i j ≡ a → (b : Bool) → ltb j i ≡ b → i ≡ j
+    go true t b u = absurd (never-below M w e i j il jl q (ltb-true i j t))
+    go false t true u = absurd (never-below M w e j i jl il (sym q) (ltb-true j i u))
+    go false t false u = let a : j ≤ i = ltb-false i j t in let b : i ≤ j = ltb-false j i u in omega arith
+
+pub separates-clear : (M : Mealy) (w : List ℕ) → Separates M w → cause6 M w ≡ Clear
+unfolding pairCause
+separates-clear M w h =
+    sym (cause6-is M w)
+    ∙ first-clear (M .n) _ (λ i il. first-clear (M .n) (pairCause M w i) (λ j jl. absent 6 (16 * i + j) (go i j il jl _ refl)))
+  where
+    go : (i j : ℕ) → i < M .n → j < M .n → (b : Bool) → (ltb i j && same (answers M i w) (answers M j w)) ≡ b → (ltb i j && same (answers M i w) (answers M j w)) ≡ false
+    go i j il jl false e = e
+    go i j il jl true e =
+        let t = both-true (ltb i j) (same (answers M i w) (answers M j w)) e in
+        let q : i ≡ j = h i j il jl (same-equal (answers M i w) (answers M j w) (t .1)) in
+        let l : i < j = ltb-true i j (t .0) in
+        absurd (omega arith)
