@@ -1,4 +1,5 @@
--- Causes 3 to 6, and causes 1 to 6 in order (document 01, "Causes, in the order they are checked"). The laws stand in Causes.Laws.
+-- Causes 3 to 6, and causes 1 to 6 in order (document 01, "Causes, in the order they are checked"). The laws stand in Causes.Laws (3, 4, 5
+-- and 7), Causes.Separation (6) and Causes.Lists (the lists).
 use Prim.Native.Nat.{ℕ, _+_, _*_}
 use mathlib.Core.Bool.{Bool, true, false, not, _&&_, _||_}
 use mathlib.Core.List.{List, [], _∷_, _++_}
@@ -60,12 +61,12 @@ cause6 M w =
 unfoldable pub machineIn : List ℕ → Mealy
 machineIn s = machineOf (content 1 s)
 
--- the machine that the program holds for any sheet: that of as many bytes as the largest machine has. It is the sheet's machine where
--- cause 3 is absent: held-is, in Causes.Laws
+-- the machine that the program holds for any sheet: that of at most as many bytes as the largest machine has. It is the sheet's machine
+-- where cause 3 is absent: held-is, in Causes.Lists
 unfoldable pub held : List ℕ → Mealy
 held s = machineOf (take (2 + 2 * mostEntries) (content 1 s))
 
--- causes 1 to 4, for a service that needs the machine and the kinds that it says
+-- causes 1 to 4, for a service on a machine and the kinds that it needs besides
 unfoldable pub machineCauses : Needs → List ℕ → List Check
 machineCauses n s = sheetCauses (needed n) s ++ (cause3 (the 1 s) (content 1 s) ∷ cause4 (the 1 s) (content 1 s) ∷ [])
 

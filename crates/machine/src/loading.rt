@@ -1,4 +1,5 @@
-// Causes 1 to 6 of a sheet, its machine, and where its word stands: what every service begins with.
+// Causes 1 to 6 of a sheet, its machine, and where its word stands: what every service on a machine
+// begins with.
 ghost use mathlib.Core.Path.{_≡_};
 ghost use Rattle.sheet.specs.Check.{firstCause};
 ghost use Rattle.machine.specs.Machine.{meaning};
@@ -74,7 +75,7 @@ fn all_checks(sheet: &[u8], needs: Needs, m: Machine) -> Check
     word_check(sheet, m, needs.word)
 }
 
-// What a service that needs the machine, and the kinds that it says, begins with.
+// Loads a sheet for a service that needs the machine and these kinds besides.
 pub fn load_sheet(sheet: &[u8], needs: Needs) -> Loaded
     ensures { λ r. ⌜ LoadedFrom needs (now (sheet .entry)) r ⌝ }
 {

@@ -37,7 +37,7 @@ impl Machine {
     // The most entries.
     pub const ENTRIES: usize = Machine::STATES * Machine::COMMANDS;
 
-    // The machine of a payload, of which it takes as many bytes as the largest machine has.
+    // The machine of a payload, of which it reads at most as many bytes as the largest machine has.
     pub fn load(p: &[u8]) -> Machine
         ensures { λ m. ⌜ meaning m ≡ machineOf (take (2 + 2 * mostEntries) (now (p .entry))) ⌝ }
     {

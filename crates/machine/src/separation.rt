@@ -1,5 +1,6 @@
-// Cause 6: whether a word separates the states. The functions below the last take the table's two
-// columns as slices, so that no call copies them.
+// Cause 6: whether a word separates the states. All but the last function take the table's two
+// columns as slices, so that no call copies them. Answers depend on the entries alone: the contracts
+// have 0 for a number of states or a start that plays no part.
 ghost use mathlib.Core.Path.{_≡_};
 ghost use Prim.Native.Nat.{_+_, _*_, _<_};
 ghost use Rattle.sheet.specs.Check.{first};

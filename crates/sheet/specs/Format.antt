@@ -23,7 +23,7 @@ longest = 40912
 abbrev pub header : ℕ
 header = 6
 
--- the record whose header starts at this place, "both little-endian"; bytes past the sheet's end count as 0
+-- the record whose header starts at this place, "both little-endian". Bytes past the sheet's end count as 0; cause 1 is present there
 unfoldable pub recordAt : List ℕ → ℕ → Record
 recordAt s at = record {
   start = at;
@@ -68,10 +68,12 @@ pub record Parsed : Type 0 where
   pub records : List Record
   pub stop : Check
 
+-- nothing more is read
 abbrev pub ended : Check → Parsed
 ended c = record { records = []; stop = c }
 
 infixr 15 _before_
+-- a record, then what follows it
 abbrev pub _before_ : Record → Parsed → Parsed
 r before w = record { records = r ∷ w .records; stop = w .stop }
 
@@ -81,14 +83,15 @@ onward false c r w = ended Clear
 onward true (Refused n p) r w = ended (Refused n p)
 onward true Clear r w = r before w
 
--- the reading from a place on, last being the rank of the record before. A record takes at least a byte, so as many steps as there are
--- bytes left end it: parse-end and parse-on, in Format.Laws, say that parse reads on without that number
+-- the reading from a place on, last being the rank of the record before. The first number bounds the steps, for the recursion; parse-end
+-- and parse-on, in Format.Laws, are the equations of parse without it
 unfoldable pub parseFrom : ℕ → List ℕ → ℕ → ℕ → Parsed
 parseFrom zero s at last = ended Clear
 parseFrom (suc f) s at last =
     let w : Parsed = parseFrom f s (end (recordAt s at)) (rank (kindOf (recordAt s at .kind))) in
     onward (ltb at (length s)) (causeAt s at last) (recordAt s at) w
 
+-- a record takes at least its header, so as many steps as there are bytes left are enough
 unfoldable pub parse : List ℕ → ℕ → ℕ → Parsed
 parse s at last = parseFrom (length s - at) s at last
 

@@ -21,6 +21,7 @@ pub mod Laws
 abbrev pub tooLong : List ℕ → Check
 tooLong s = refusal 1 with longest if ltb longest (length s)
 
+-- no record was found
 abbrev pub isMissing : Found → Bool
 isMissing (At r) = false
 isMissing Missing = true
@@ -38,7 +39,7 @@ unfoldable pub when : Bool → ℕ → List ℕ
 when true k = k ∷ []
 when false k = []
 
--- the kinds that a service needs: the machine always, the others as it says
+-- the kinds that a service on a machine needs: kind 1 always, the others as it says
 unfoldable pub needed : Needs → List ℕ
 needed n = 1 ∷ (when (n .word) 2 ++ (when (n .sequence) 3 ++ when (n .answers) 4))
 
@@ -54,7 +55,7 @@ recordOr Missing = record { start = 0; size = 0; kind = 0 }
 unfoldable pub the : ℕ → List ℕ → Record
 the k s = recordOr (find k (parsed s .records))
 
--- a record's payload, "header left out"; the empty part at the sheet's start where there is none
+-- where a record's payload lies, "header left out"; the empty part at the sheet's start where there is none
 abbrev pub payloadPart : Found → Part
 payloadPart (At r) = record { from = r .start + header; size = r .size }
 payloadPart Missing = record { from = 0; size = 0 }
@@ -64,6 +65,7 @@ abbrev pub partWhen : Check → Found → Part
 partWhen Clear f = payloadPart f
 partWhen (Refused n p) f = payloadPart Missing
 
+-- where what reading a kind hands back lies
 unfoldable pub part : ℕ → List ℕ → Part
 part k s = partWhen (refusalOf k s) (find k (parsed s .records))
 
@@ -75,7 +77,7 @@ bytes p s = take (p .size) (drop (p .from) s)
 unfoldable pub content : ℕ → List ℕ → List ℕ
 content k s = bytes (part k s) s
 
--- a reference as its holder sees it: where it points, block and offset, and what it refers to
+-- a reference: where it points, block and offset, and the bytes that it refers to
 abbrev pub seen : RefT (List ℕ) → (ℕ × ℕ) × List ℕ
 seen r = (r .ptr, now r)
 

@@ -1,4 +1,4 @@
-// The parse over a sheet's records from the front.
+// Parsing a sheet: its records from the front.
 ghost use mathlib.Core.Path.{_≡_};
 ghost use Rattle.sheet.specs.Format.{parsed, find};
 use crate::check::Check;
@@ -11,13 +11,13 @@ use crate::record::of_kind;
 use crate::record::rank;
 use crate::record::record_at;
 
-// What stopped the parse, Clear at the sheet's end, and the record of one kind.
+// What stopped the parsing, Clear at the sheet's end, and the record of one kind.
 pub struct Parsed {
     pub stop: Check,
     pub found: Found,
 }
 
-// Walks the whole sheet and looks for the record of a kind.
+// Parses the whole sheet and looks for the record of a kind.
 pub fn parse(s: &[u8], kind: u16) -> Parsed
     ensures stop { λ r. ⌜ r .stop ≡ parsed (now (s .entry)) .stop ⌝ }
     ensures found { λ r. ⌜ r .found ≡ find kind (parsed (now (s .entry)) .records) ⌝ }

@@ -34,7 +34,7 @@ pub struct Part {
     pub size: usize,
 }
 
-// The kinds that a service needs besides the machine.
+// The kinds that a service on a machine needs besides kind 1, the machine.
 pub struct Needs {
     pub word: bool,
     pub sequence: bool,
@@ -56,7 +56,7 @@ fn is_missing(found: Found) -> bool
     }
 }
 
-// Checks 1 and 2 from what the parse answered: length, records, wanted kind.
+// Checks 1 and 2 of reading a kind, from what the parse found: length, records, wanted kind.
 fn outcome(sheet: &[u8], kind: u16, w: Parsed) -> Check
     requires { ⌜ (w .stop ≡ parsed (now sheet) .stop) × (w .found ≡ find kind (parsed (now sheet) .records)) ⌝ }
     ensures { λ r. ⌜ r ≡ refusalOf kind (now (sheet .entry)) ⌝ }
@@ -85,7 +85,7 @@ fn required(sheet: &[u8], kind: u16, needed: bool) -> Check
     refuse(2, sheet.len(), needed & is_missing(found))
 }
 
-// Checks 1 and 2 for the kinds that a service needs.
+// Checks 1 and 2 for kind 1 and the kinds that a service needs besides.
 pub fn checks(sheet: &[u8], needs: Needs) -> Check
     ensures { λ r. ⌜ r ≡ firstCause (sheetCauses (needed needs) (now (sheet .entry))) ⌝ }
 {
@@ -96,7 +96,7 @@ pub fn checks(sheet: &[u8], needs: Needs) -> Check
     first_of(machine, first_of(word, first_of(sequence, answers)))
 }
 
-// The record of a kind, an empty one where there is none.
+// The record of a kind, an empty one where there is none: it counts where checks 1 and 2 are clear.
 pub fn record_of(sheet: &[u8], kind: u16) -> Record
     ensures { λ r. ⌜ r ≡ theOf kind (now (sheet .entry)) ⌝ }
 {

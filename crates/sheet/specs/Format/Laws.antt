@@ -45,7 +45,7 @@ pub cause1-is : (s : List ℕ) (at : ℕ) (r : Record) → r ≡ recordAt s at
 unfolding cause1
 cause1-is s at r e = rw (← end-is s at r e)
 
--- ---- the number of steps is nothing to believe
+-- ---- the bound on the steps plays no part
 onward-at-end : (s : List ℕ) (at : ℕ) → length s ≤ at → (c : Check) (r : Record) (w : Parsed) → onward (ltb at (length s)) c r w ≡ ended Clear
 unfolding onward
 onward-at-end s at h c r w = rw (le-ltb at (length s) h)
