@@ -38,6 +38,13 @@ fn agree(next: &[u8], answer: &[u8], k: u8, w: &[u8], i: u8, j: u8) -> bool
     true
 }
 
+// The place of a pair of states: 16i+j.
+fn pair_place(i: u8, j: u8) -> usize
+    ensures { λ r. ⌜ r ≡ 16 * i + j ⌝ }
+{
+    16 * (i as usize) + j as usize
+}
+
 // The least j above i whose answers equal those of i.
 fn partner(next: &[u8], answer: &[u8], n: u8, k: u8, w: &[u8], i: u8) -> Check
     requires { ⌜ i < n ⌝ }
@@ -46,10 +53,8 @@ fn partner(next: &[u8], answer: &[u8], n: u8, k: u8, w: &[u8], i: u8) -> Check
     let mut j = i + 1;
     while j < n {
         if agree(next, answer, k, w, i, j) {
-            return Check::Refused {
-                number: 6,
-                place: 16 * (i as usize) + j as usize,
-            };
+            let place = pair_place(i, j);
+            return Check::Refused { number: 6, place };
         }
         j += 1;
     }

@@ -123,10 +123,10 @@ pub fn part_of(sheet: &[u8], kind: u16) -> Part
     let empty = Part { from: 0, size: 0 };
     match check {
         Check::Clear => match found {
-            Found::At(r) => Part {
-                from: r.start + HEADER,
-                size: r.size,
-            },
+            Found::At(r) => {
+                let from = r.start + HEADER;
+                Part { from, size: r.size }
+            }
             Found::Missing => empty,
         },
         Check::Refused {

@@ -2,8 +2,8 @@
 -- Assumes nothing.
 use borrow.Author.Needs.{needs}
 use Prim.Native.Nat.{_-_, _≤_, _<_}
-use mathlib.Core.Path.{_≡_, refl}
-use Rattle.sheet.specs.declared.check.Check.the-variants.{Clear}
+use mathlib.Core.Path.{_≡_, refl, ap, _∙_}
+use Rattle.sheet.specs.declared.check.Check.the-variants.{Clear, Refused}
 use Rattle.sheet.specs.Check.{first}
 use Rattle.sheet.specs.Check.Laws.{first-stops, first-goes-on, first-ends}
 use Rattle.machine.specs.Machine.{tabled}
@@ -27,17 +27,13 @@ loop-holds c = (search needs, search needs, low-clear _ _ _)
 agree-requires : tie.Need-agree-requires Inv-loop μ-loop
 agree-requires c κs = search needs
 
-mul-t11 : tie.Need-mul-t11 Inv-loop μ-loop
-mul-t11 c = search needs
-
-cast-t12 : tie.Need-cast-t12 Inv-loop μ-loop
-cast-t12 c = search needs
-
-add-t13 : tie.Need-add-t13 Inv-loop μ-loop
-add-t13 c = search needs
+pair-place-requires : tie.Need-pair-place-requires Inv-loop μ-loop
+pair-place-requires c κs = search needs
 
 returns : tie.Need-returns Inv-loop μ-loop
-returns c = first-stops _ (search needs) (c .before .before .before .loop .inv .2) (pair-present _ _ _ _ (search needs) (c .before .agree .ensures) (c .if1 .taken)) refl
+returns c =
+    first-stops _ (search needs) (c .before .before .before .before .loop .inv .2)
+    (ap (Refused 6) (c .pair-place .ensures) ∙ pair-present _ _ _ _ (search needs) (c .before .before .agree .ensures) (c .before .if1 .taken)) refl
 
 add-j-2 : tie.Need-add-j-2 Inv-loop μ-loop
 add-j-2 c = search needs
@@ -60,9 +56,7 @@ partner-spec =
     add-j
     loop-holds
     agree-requires
-    mul-t11
-    cast-t12
-    add-t13
+    pair-place-requires
     returns
     add-j-2
     loop-less

@@ -20,8 +20,8 @@ enum-told c = search needs
 enum-known-found : tie.Need-enum-known-found
 enum-known-found c = search needs
 
-add-t10 : tie.Need-add-t10
-add-t10 c = omega (arith, payload-inside (now (c .before .before .before .before .before .before .before .before .before .args .sheet)) (c .before .before .before .before .before .before .before .before .before .args .kind) _ (sym (c .before .before .found .given .1) ∙ c .before .before .before .before .before .before .before .parse .ensures .1))
+add-from : tie.Need-add-from
+add-from c = omega (arith, payload-inside (now (c .before .before .before .before .before .before .before .before .before .args .sheet)) (c .before .before .before .before .before .before .before .before .before .args .kind) _ (sym (c .before .before .found .given .1) ∙ c .before .before .before .before .before .before .before .parse .ensures .1))
 
 enum-told-2 : tie.Need-enum-told-2
 enum-told-2 c = search needs
@@ -46,7 +46,7 @@ part-of-spec =
     outcome-requires
     enum-told
     enum-known-found
-    add-t10
+    add-from
     enum-told-2
     enum-told-3
     returns
