@@ -1,8 +1,12 @@
 -- The laws of machines and their runs.
-use Prim.Native.Nat.{ℕ}
+use Prim.Native.Nat.{ℕ, suc, _+_, _<_}
 use mathlib.Core.Path.{_≡_, refl, sym, ap, ap₂, _∙_}
-use mathlib.Core.List.{List, [], _∷_}
-use Rattle.machine.specs.Machine.{Mealy, tabled, answers}
+use mathlib.Core.List.{List, [], _∷_, _++_}
+use native.Mathlib.Omega.{arith}
+use native.Mathlib.Numerals.{add-one}
+use lib.ListN.{length, getD, take}
+use lib.Seq.{take-suc}
+use Rattle.machine.specs.Machine.{Mealy, tabled, run, answers, stateAt, Proper}
 
 -- two machines are equal where they have the same states, commands, start and entries
 pub mealy-same : (a b : Mealy) → a .n ≡ b .n → a .k ≡ b .k → a .start ≡ b .start
@@ -30,3 +34,37 @@ answers-cons M s c w = refl
 pub answers-none : (M : Mealy) (s : ℕ) → answers M s [] ≡ []
 unfolding answers
 answers-none M s = refl
+
+-- ---- runs
+pub run-append : (M : Mealy) (s : ℕ) (u v : List ℕ) → run M s (u ++ v) ≡ run M (run M s u) v
+unfolding run
+run-append M s [] v = refl
+run-append M s (c ∷ u) v = run-append M (M .next s c) u v
+
+pub answers-append : (M : Mealy) (s : ℕ) (u v : List ℕ) → answers M s (u ++ v) ≡ answers M s u ++ answers M (run M s u) v
+unfolding run answers
+answers-append M s [] v = refl
+answers-append M s (c ∷ u) v = ap (λ (l : List ℕ). M .answer s c ∷ l) (answers-append M (M .next s c) u v)
+
+pub answers-length : (M : Mealy) (s : ℕ) (w : List ℕ) → length (answers M s w) ≡ length w
+unfolding answers
+answers-length M s [] = refl
+answers-length M s (c ∷ w) = ap suc (answers-length M (M .next s c) w)
+
+-- the state of place 0 is the start, and that of each later place is the next state at the command before it
+pub state-start : (M : Mealy) (xs : List ℕ) → stateAt M xs 0 ≡ M .start
+unfolding stateAt run
+state-start M xs = refl
+
+pub state-next : (M : Mealy) (xs : List ℕ) (p : ℕ) → p < length xs → stateAt M xs (p + 1) ≡ M .next (stateAt M xs p) (getD xs p 0)
+unfolding stateAt run
+state-next M xs p l =
+    ap (λ (x : ℕ). run M (M .start) (take x xs)) (add-one p)
+    ∙ ap (run M (M .start)) (take-suc xs p 0 l)
+    ∙ run-append M (M .start) (take p xs) (getD xs p 0 ∷ [])
+
+-- a proper machine stays among its states
+pub run-stays : (M : Mealy) → Proper M → (s : ℕ) (w : List ℕ) → s < M .n → ((i : ℕ) → i < length w → getD w i 0 < M .k) → run M s w < M .n
+unfolding run
+run-stays M h s [] sl low = sl
+run-stays M h s (c ∷ w) sl low = run-stays M h (M .next s c) w (h .stays s c sl (low 0 (omega arith))) (λ i l. low (suc i) (omega arith))
