@@ -21,16 +21,24 @@ refuse-requires : tie.Need-refuse-requires
 refuse-requires c κs = search needs
 
 add-scan : tie.Need-add-scan
-add-scan c = omega (arith, record-inside (c .before .before .before .before .before .before .args .kind) (now (c .before .before .before .before .before .before .args .sheet)) (c .before .before .before .before .record-of .ensures) (handed-content _ (c .before .before .before .before .before .before .args .sheet) (c .before .before .before .read .result) (c .before .before .before .read .ensures)))
+add-scan c =
+    let start = c .before .before .before .before .before .before in
+    omega (arith, record-inside (start .args .kind) (now (start .args .sheet)) (c .before .before .before .before .record-of .ensures) (handed-content _ (start .args .sheet) (c .before .before .before .read .result) (c .before .before .before .read .ensures)))
 
 scan-requires : tie.Need-scan-requires
-scan-requires c κs = omega (arith, record-inside (c .before .before .before .before .before .before .args .kind) (now (c .before .before .before .before .before .before .args .sheet)) (c .before .before .before .before .record-of .ensures) (handed-content _ (c .before .before .before .before .before .before .args .sheet) (c .before .before .before .read .result) (c .before .before .before .read .ensures)))
+scan-requires c κs =
+    let start = c .before .before .before .before .before .before in
+    omega (arith, record-inside (start .args .kind) (now (start .args .sheet)) (c .before .before .before .before .record-of .ensures) (handed-content _ (start .args .sheet) (c .before .before .before .read .result) (c .before .before .before .read .ensures)))
 
 first-of-requires : tie.Need-first-of-requires
 first-of-requires c κs = search needs
 
 returns : tie.Need-returns
-returns c = commands-are _ _ _ (c .before .before .before .before .before .before .before .before .args .kind) (now (c .before .before .before .before .before .before .before .before .args .sheet)) (c .before .before .before .before .before .before .record-of .ensures) (handed-content _ (c .before .before .before .before .before .before .before .before .args .sheet) (c .before .before .before .before .before .read .result) (c .before .before .before .before .before .read .ensures)) (c .before .before .before .before .outside .ensures) (c .before .before .before .refuse .ensures) (c .before .scan .ensures) (c .first-of .ensures)
+returns c =
+    let start = c .before .before .before .before .before .before .before .before in
+    commands-are _ _ _ (start .args .kind) (now (start .args .sheet)) (c .before .before .before .before .before .before .record-of .ensures)
+    (handed-content _ (start .args .sheet) (c .before .before .before .before .before .read .result) (c .before .before .before .before .before .read .ensures))
+    (c .before .before .before .before .outside .ensures) (c .before .before .before .refuse .ensures) (c .before .scan .ensures) (c .first-of .ensures)
 
 pub commands-spec : {M : Type 1} → statement M
 commands-spec =

@@ -22,13 +22,19 @@ loop-holds : tie.Need-loop-holds Inv-loop μ-loop
 loop-holds c = (search needs, first-none _)
 
 mul-at : tie.Need-mul-at Inv-loop μ-loop
-mul-at c = omega (arith, index-fits (c .before .before .before .args .base) (c .before .before .before .args .from) (c .before .before .before .args .stride) (c .before .loop .i) (c .before .before .before .args .count) (search needs) (c .before .before .before .pre))
+mul-at c =
+    let start = c .before .before .before in
+    omega (arith, index-fits (start .args .base) (start .args .from) (start .args .stride) (c .before .loop .i) (start .args .count) (search needs) (start .pre))
 
 add-at : tie.Need-add-at Inv-loop μ-loop
-add-at c = omega (arith, index-fits (c .before .before .before .args .base) (c .before .before .before .args .from) (c .before .before .before .args .stride) (c .before .loop .i) (c .before .before .before .args .count) (search needs) (c .before .before .before .pre))
+add-at c =
+    let start = c .before .before .before in
+    omega (arith, index-fits (start .args .base) (start .args .from) (start .args .stride) (c .before .loop .i) (start .args .count) (search needs) (start .pre))
 
 add-refuse : tie.Need-add-refuse Inv-loop μ-loop
-add-refuse c = omega (arith, index-fits (c .before .before .before .args .base) (c .before .before .before .args .from) (c .before .before .before .args .stride) (c .before .loop .i) (c .before .before .before .args .count) (search needs) (c .before .before .before .pre))
+add-refuse c =
+    let start = c .before .before .before in
+    omega (arith, index-fits (start .args .base) (start .args .from) (start .args .stride) (c .before .loop .i) (start .args .count) (search needs) (start .pre))
 
 byte-requires : tie.Need-byte-requires Inv-loop μ-loop
 byte-requires c κs = search needs
@@ -40,7 +46,10 @@ enum-told : tie.Need-enum-told Inv-loop μ-loop
 enum-told c = search needs
 
 returns : tie.Need-returns Inv-loop μ-loop
-returns c = first-stops _ (search needs) (c .before .before .before .before .before .loop .inv .1) (check-there _ _ _ _ _ _ _ (c .before .before .before .byte .ensures) (c .before .before .refuse .ensures)) (c .enum-told .given .1)
+returns c =
+    first-stops _ (search needs) (c .before .before .before .before .before .loop .inv .1)
+    (check-there _ _ _ _ _ _ _ (c .before .before .before .byte .ensures) (c .before .before .refuse .ensures))
+    (c .enum-told .given .1)
 
 enum-told-2 : tie.Need-enum-told-2 Inv-loop μ-loop
 enum-told-2 c = search needs
@@ -52,7 +61,12 @@ loop-less : tie.Need-loop-less Inv-loop μ-loop
 loop-less c = search needs
 
 loop-again : tie.Need-loop-again Inv-loop μ-loop
-loop-again c = (search needs, first-goes-on _ _ (c .before .before .before .before .before .loop .inv .1) (check-there _ _ _ _ _ _ _ (c .before .before .before .byte .ensures) (c .before .before .refuse .ensures)) (c .enum-told2 .given .1))
+loop-again c = (
+  search needs,
+  first-goes-on _ _ (c .before .before .before .before .before .loop .inv .1)
+      (check-there _ _ _ _ _ _ _ (c .before .before .before .byte .ensures) (c .before .before .refuse .ensures))
+      (c .enum-told2 .given .1),
+)
 
 returns-2 : tie.Need-returns-2 Inv-loop μ-loop
 returns-2 c = first-ends _ (c .before .loop .inv .0) (c .loop-test .left) (c .before .loop .inv .1)

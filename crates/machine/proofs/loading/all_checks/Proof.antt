@@ -15,16 +15,23 @@ enum-told : tie.Need-enum-told
 enum-told c = search needs
 
 returns : tie.Need-returns
-returns c = load-stops (c .before .before .before .before .args .needs) (now (c .before .before .before .before .args .sheet)) (c .before .before .table-check .ensures) (c .enum-told .given .1)
+returns c =
+    let start = c .before .before .before .before in
+    load-stops (start .args .needs) (now (start .args .sheet)) (c .before .before .table-check .ensures) (c .enum-told .given .1)
 
 enum-told-2 : tie.Need-enum-told-2
 enum-told-2 c = search needs
 
 word-check-requires : tie.Need-word-check-requires
-word-check-requires c κs = c .before .before .before .before .pre ∙ held-is (c .before .before .before .before .args .needs) (now (c .before .before .before .before .args .sheet)) (sym (c .before .before .table-check .ensures) ∙ c .enum-told2 .given .1)
+word-check-requires c κs =
+    let start = c .before .before .before .before in
+    start .pre ∙ held-is (start .args .needs) (now (start .args .sheet)) (sym (c .before .before .table-check .ensures) ∙ c .enum-told2 .given .1)
 
 returns-2 : tie.Need-returns-2
-returns-2 c = load-goes-on (c .before .before .before .before .before .args .needs) (now (c .before .before .before .before .before .args .sheet)) (c .before .before .before .table-check .ensures) (c .before .enum-told2 .given .1) (c .word-check .ensures)
+returns-2 c =
+    let start = c .before .before .before .before .before in
+    load-goes-on (start .args .needs) (now (start .args .sheet)) (c .before .before .before .table-check .ensures) (c .before .enum-told2 .given .1)
+    (c .word-check .ensures)
 
 pub all-checks-spec : {M : Type 1} → statement M
 all-checks-spec =

@@ -14,13 +14,19 @@ load-requires : tie.Need-load-requires
 load-requires c κs = search needs
 
 all-checks-requires : tie.Need-all-checks-requires
-all-checks-requires c κs = loaded-is (now (c .before .before .before .args .sheet)) (handed-content _ (c .before .before .before .args .sheet) (c .before .read .result) (c .before .read .ensures)) (c .load .ensures)
+all-checks-requires c κs =
+    let start = c .before .before .before in
+    loaded-is (now (start .args .sheet)) (handed-content _ (start .args .sheet) (c .before .read .result) (c .before .read .ensures)) (c .load .ensures)
 
 part-of-requires : tie.Need-part-of-requires
 part-of-requires c κs = search needs
 
 returns : tie.Need-returns
-returns c = loaded-from (c .before .before .before .before .before .args .needs) (now (c .before .before .before .before .before .args .sheet)) _ (c .before .all-checks .ensures) (loaded-is (now (c .before .before .before .before .before .args .sheet)) (handed-content _ (c .before .before .before .before .before .args .sheet) (c .before .before .before .read .result) (c .before .before .before .read .ensures)) (c .before .before .load .ensures)) (c .part-of .ensures .0)
+returns c =
+    let start = c .before .before .before .before .before in
+    loaded-from (start .args .needs) (now (start .args .sheet)) _ (c .before .all-checks .ensures)
+    (loaded-is (now (start .args .sheet)) (handed-content _ (start .args .sheet) (c .before .before .before .read .result) (c .before .before .before .read .ensures)) (c .before .before .load .ensures))
+    (c .part-of .ensures .0)
 
 pub load-sheet-spec : {M : Type 1} → statement M
 load-sheet-spec =

@@ -14,7 +14,11 @@ enum-told : tie.Need-enum-told
 enum-told c = search needs
 
 returns : tie.Need-returns
-returns c = word-on (now (c .before .before .before .before .before .args .sheet)) (c .before .before .before .if1 .taken) (word-stops (now (c .before .before .before .before .before .args .sheet)) (c .before .before .before .before .before .args .m) (c .before .before .before .before .before .pre) (c .before .before .commands .ensures) (c .enum-told .given .1))
+returns c =
+    let start = c .before .before .before .before .before in
+    let s = now (start .args .sheet) in
+    word-on s (c .before .before .before .if1 .taken)
+    (word-stops s (start .args .m) (start .pre) (c .before .before .commands .ensures) (c .enum-told .given .1))
 
 enum-told-2 : tie.Need-enum-told-2
 enum-told-2 c = search needs
@@ -26,7 +30,13 @@ separation-requires : tie.Need-separation-requires
 separation-requires c κs = search needs
 
 returns-2 : tie.Need-returns-2
-returns-2 c = word-on (now (c .before .before .before .before .before .before .before .args .sheet)) (c .before .before .before .before .before .if1 .taken) (word-goes-on (now (c .before .before .before .before .before .before .before .args .sheet)) (c .before .before .before .before .before .before .before .args .m) (c .before .before .before .before .before .before .before .pre) (c .before .before .before .before .commands .ensures) (c .before .before .enum-told2 .given .1) (handed-content _ (c .before .before .before .before .before .before .before .args .sheet) (c .before .read .result) (c .before .read .ensures)) (c .separation .ensures))
+returns-2 c =
+    let start = c .before .before .before .before .before .before .before in
+    let s = now (start .args .sheet) in
+    word-on s (c .before .before .before .before .before .if1 .taken)
+    (word-goes-on s (start .args .m) (start .pre) (c .before .before .before .before .commands .ensures) (c .before .before .enum-told2 .given .1)
+    (handed-content _ (start .args .sheet) (c .before .read .result) (c .before .read .ensures))
+    (c .separation .ensures))
 
 returns-3 : tie.Need-returns-3
 returns-3 c = word-off (now (c .before .before .args .sheet)) (c .if1 .left)

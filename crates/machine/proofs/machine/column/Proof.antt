@@ -39,7 +39,14 @@ loop-less : tie.Need-loop-less Inv-loop μ-loop
 loop-less c = search needs
 
 loop-again : tie.Need-loop-again Inv-loop μ-loop
-loop-again c = (search needs, simp length-set (c .before .before .loop .inv .1), column-more (c .before .before .loop .cells) (λ (j : ℕ). getD (now (c .before .before .before .before .args .p)) (c .before .before .before .before .args .from + 2 * j) 0) (c .before .before .loop .e) (c .byte .result) (search needs) (c .before .before .loop .inv .2) (c .byte .ensures))
+loop-again c =
+    let start = c .before .before .before .before in
+    let head = c .before .before .loop in (
+      search needs,
+      simp length-set (head .inv .1),
+      column-more (head .cells) (λ (j : ℕ). getD (now (start .args .p)) (start .args .from + 2 * j) 0) (head .e) (c .byte .result) (search needs) (head .inv .2)
+          (c .byte .ensures),
+    )
 
 returns : tie.Need-returns Inv-loop μ-loop
 returns c = λ e l. c .before .loop .inv .2 e (omega arith)

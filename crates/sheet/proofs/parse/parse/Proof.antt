@@ -3,9 +3,10 @@
 -- Assumes nothing.
 use native.Mathlib.Omega.{arith}
 use borrow.Author.Needs.{needs}
-use Prim.Native.Nat.{_+_, _-_, _≤_}
+use Prim.Native.Nat.{ℕ, _+_, _-_, _≤_}
 use denote.Ref.{now}
 use mathlib.Core.Path.{sym, _∙_}
+use mathlib.Core.List.{List}
 use lib.ListN.{length}
 use Rattle.sheet.proofs.Parsing.{Head, Turn, head-start, head-end, head-stop, turn-inside, turn-next}
 use Rattle.sheet.proofs.parse.parse.Statement.{statement}
@@ -47,22 +48,28 @@ kind-of-requires c κs = search needs
 rank-requires : tie.Need-rank-requires Inv-loop μ-loop
 rank-requires c κs = search needs
 
-turn : (c : tie.After-rank Inv-loop μ-loop)
-    → Turn (now (c .before .before .before .before .before .before .before .before .before .before .before .args .s)) (c .before .before .before .before .before .before .before .before .before .before .before .args .kind) (c .before .before .before .before .before .before .before .before .before .loop .at) (c .before .before .before .before .before .before .before .before .before .loop .last) (c .before .before .before .before .before .before .before .before .before .loop .found)
-    (c .before .before .before .before .record-at .result) (c .before .before .before .of-kind .result) (c .before .before .first-found .result) (c .before .kind-of .result) (c .rank .result)
-turn c =
-    record {
-      more = c .before .before .before .before .before .before .before .before .loop-test .taken;
-      clear = sym (c .before .before .before .before .before .before .before .check-at .ensures) ∙ c .before .before .before .before .before .enum-told2 .given .1;
-      reads = c .before .before .before .before .record-at .ensures .0;
-      looks = c .before .before .before .of-kind .ensures;
-      takes = c .before .before .first-found .ensures;
-      decodes = c .before .kind-of .ensures;
-      ranks = c .rank .ensures;
-    }
+-- the loop's head, from the end of a turn
+abbrev head : tie.After-rank Inv-loop μ-loop → tie.At-loop Inv-loop μ-loop
+head c = c .before .before .before .before .before .before .before .before .before
 
-inside : (c : tie.After-rank Inv-loop μ-loop) → c .before .before .before .before .before .before .before .before .before .loop .at + 6 + c .before .before .before .before .record-at .result .size ≤ length (now (c .before .before .before .before .before .before .before .before .before .before .before .args .s))
-inside c = turn-inside (c .before .before .before .before .before .before .before .before .before .loop .inv) (turn c)
+abbrev bytes : tie.After-rank Inv-loop μ-loop → List ℕ
+bytes c = now (head c .before .before .args .s)
+
+turn : (c : tie.After-rank Inv-loop μ-loop)
+    → Turn (bytes c) (head c .before .before .args .kind) (head c .loop .at) (head c .loop .last) (head c .loop .found) (c .before .before .before .before .record-at .result)
+    (c .before .before .before .of-kind .result) (c .before .before .first-found .result) (c .before .kind-of .result) (c .rank .result)
+turn c = record {
+  more = c .before .before .before .before .before .before .before .before .loop-test .taken;
+  clear = sym (c .before .before .before .before .before .before .before .check-at .ensures) ∙ c .before .before .before .before .before .enum-told2 .given .1;
+  reads = c .before .before .before .before .record-at .ensures .0;
+  looks = c .before .before .before .of-kind .ensures;
+  takes = c .before .before .first-found .ensures;
+  decodes = c .before .kind-of .ensures;
+  ranks = c .rank .ensures;
+}
+
+inside : (c : tie.After-rank Inv-loop μ-loop) → head c .loop .at + 6 + c .before .before .before .before .record-at .result .size ≤ length (bytes c)
+inside c = turn-inside (head c .loop .inv) (turn c)
 
 add-at : tie.Need-add-at Inv-loop μ-loop
 add-at c = omega (arith, inside c)
@@ -74,7 +81,7 @@ loop-less : tie.Need-loop-less Inv-loop μ-loop
 loop-less c = omega (arith, inside (c .before))
 
 loop-again : tie.Need-loop-again Inv-loop μ-loop
-loop-again c = turn-next (c .before .before .before .before .before .before .before .before .before .before .loop .inv) (turn (c .before))
+loop-again c = turn-next (head (c .before) .loop .inv) (turn (c .before))
 
 returns-2 : tie.Need-returns-2 Inv-loop μ-loop
 returns-2 c = let a = head-end (c .before .loop .inv) (search needs) in (a .stop, a .finds)

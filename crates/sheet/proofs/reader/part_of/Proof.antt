@@ -3,7 +3,7 @@
 use native.Mathlib.Omega.{arith}
 use borrow.Author.Needs.{needs}
 use denote.Ref.{now}
-use mathlib.Core.Path.{refl, sym, _∙_}
+use mathlib.Core.Path.{sym, _∙_}
 use Rattle.sheet.specs.Reader.Laws.{payload-inside, part-clear, part-refused}
 use Rattle.sheet.proofs.reader.part_of.Statement.{statement}
 use Rattle.sheet.proofs.reader.part_of.Tie as tie
@@ -21,7 +21,9 @@ enum-known-found : tie.Need-enum-known-found
 enum-known-found c = search needs
 
 add-from : tie.Need-add-from
-add-from c = omega (arith, payload-inside (now (c .before .before .before .before .before .before .before .before .before .args .sheet)) (c .before .before .before .before .before .before .before .before .before .args .kind) _ (sym (c .before .before .found .given .1) ∙ c .before .before .before .before .before .before .before .parse .ensures .1))
+add-from c =
+    let start = c .before .before .before .before .before .before .before .before .before in
+    omega (arith, payload-inside (now (start .args .sheet)) (start .args .kind) _ (sym (c .before .before .found .given .1) ∙ c .before .before .before .before .before .before .before .parse .ensures .1))
 
 enum-told-2 : tie.Need-enum-told-2
 enum-told-2 c = search needs
@@ -30,10 +32,14 @@ enum-told-3 : tie.Need-enum-told-3
 enum-told-3 c = search needs
 
 returns : tie.Need-returns
-returns c = (part-clear _ _ (c .before .before .before .before .before .before .outcome .ensures) (c .before .before .before .before .enum-told .given .1) (sym (c .before .before .found .given .1) ∙ c .before .before .before .before .before .before .before .parse .ensures .1), payload-inside _ _ _ (sym (c .before .before .found .given .1) ∙ c .before .before .before .before .before .before .before .parse .ensures .1))
+returns c =
+    let found = sym (c .before .before .found .given .1) ∙ c .before .before .before .before .before .before .before .parse .ensures .1 in
+    (part-clear _ _ (c .before .before .before .before .before .before .outcome .ensures) (c .before .before .before .before .enum-told .given .1) found, payload-inside _ _ _ found)
 
 returns-2 : tie.Need-returns-2
-returns-2 c = (part-clear _ _ (c .before .before .before .before .outcome .ensures) (c .before .before .enum-told .given .1) (sym (c .enum-told2 .given .1) ∙ c .before .before .before .before .before .parse .ensures .1), search needs)
+returns-2 c =
+    let found = sym (c .enum-told2 .given .1) ∙ c .before .before .before .before .before .parse .ensures .1 in
+    (part-clear _ _ (c .before .before .before .before .outcome .ensures) (c .before .before .enum-told .given .1) found, search needs)
 
 returns-3 : tie.Need-returns-3
 returns-3 c = (part-refused _ _ (c .before .before .outcome .ensures) (c .enum-told3 .given .1), search needs)
