@@ -12,21 +12,16 @@ use crate::check::first_of;
 use crate::check::refuse;
 use crate::parse::Parsed;
 use crate::parse::parse;
+use crate::record::ANSWERS_KIND;
 use crate::record::Found;
 use crate::record::HEADER;
+use crate::record::MACHINE_KIND;
 use crate::record::Record;
+use crate::record::SEQUENCE_KIND;
+use crate::record::WORD_KIND;
 
 // The bytes of the longest sheet.
 pub const LONGEST: usize = 40_912;
-
-// The numbers of the kinds.
-pub const MACHINE_KIND: u16 = 1;
-
-pub const WORD_KIND: u16 = 2;
-
-pub const SEQUENCE_KIND: u16 = 3;
-
-pub const ANSWERS_KIND: u16 = 4;
 
 // A part of a sheet: where it starts and its length.
 pub struct Part {

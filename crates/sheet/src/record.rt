@@ -11,6 +11,15 @@ use crate::check::refuse;
 // The bytes of a record's header: 4 of payload length, 2 of kind.
 pub const HEADER: usize = 6;
 
+// The numbers of the kinds.
+pub const MACHINE_KIND: u16 = 1;
+
+pub const WORD_KIND: u16 = 2;
+
+pub const SEQUENCE_KIND: u16 = 3;
+
+pub const ANSWERS_KIND: u16 = 4;
+
 // A record: where its header starts, its payload's length, and its kind's number.
 pub struct Record {
     pub start: usize,
@@ -18,6 +27,7 @@ pub struct Record {
     pub kind: u16,
 }
 
+// What a kind's number stands for.
 pub enum Kind {
     Machine,
     Word,
@@ -65,15 +75,15 @@ pub fn record_at(s: &[u8], at: usize) -> Record
     }
 }
 
-// What a kind's number stands for.
+// Decodes a kind's number.
 pub fn kind_of(kind: u16) -> Kind
     ensures { λ r. ⌜ r ≡ kindOf kind ⌝ }
 {
     match kind {
-        1 => Kind::Machine,
-        2 => Kind::Word,
-        3 => Kind::Sequence,
-        4 => Kind::Answers,
+        MACHINE_KIND => Kind::Machine,
+        WORD_KIND => Kind::Word,
+        SEQUENCE_KIND => Kind::Sequence,
+        ANSWERS_KIND => Kind::Answers,
         _ => Kind::Unknown,
     }
 }
