@@ -2,7 +2,7 @@
 -- Assumes nothing.
 use Prim.Native.Nat.{ℕ, zero, suc, _+_, _*_, _/_, _%_, _≤_, _<_}
 use mathlib.Core.Path.{_≡_, refl, sym, ap, ap₂, _∙_}
-use mathlib.Core.Bool.{Bool, true, false, _&&_}
+use mathlib.Core.Bool.{Bool, true, _&&_}
 use mathlib.Core.Logic.{⊎-elim}
 use mathlib.Core.List.{List, [], _∷_}
 use native.Mathlib.Omega.{arith}
@@ -10,6 +10,7 @@ use native.Mathlib.Nat.{le-of-suc-le-suc, not-suc-le-zero, eq-or-lt-of-le}
 use lib.Dec.{eqb}
 use lib.ListN.{length, getD, List·getD-eq-default}
 use borrow.Author.Tests.{eqb-true}
+use Rattle.sheet.specs.Check.Laws.{both-true}
 use Rattle.machine.specs.declared.house.Entry.{Entry}
 use Rattle.machine.specs.House.{houseTable, houseEntry}
 
@@ -18,20 +19,12 @@ every : ℕ → (ℕ → Bool) → Bool
 every zero f = true
 every (suc n) f = f n && every n f
 
-left-true : (a b : Bool) → (a && b) ≡ true → a ≡ true
-left-true true b e = refl
-left-true false b e = e
-
-right-true : (a b : Bool) → (a && b) ≡ true → b ≡ true
-right-true true b e = e
-right-true false b e = cc
-
 every-at : (n : ℕ) (f : ℕ → Bool) → every n f ≡ true → (i : ℕ) → i < n → f i ≡ true
 unfolding every
 every-at zero f e i l = absurd (not-suc-le-zero l)
 every-at (suc n) f e i l =
-    ⊎-elim (λ (q : i ≡ n). ap f q ∙ left-true (f n) (every n f) e)
-    (λ (q : i < n). every-at n f (right-true (f n) (every n f) e) i q)
+    ⊎-elim (λ (q : i ≡ n). ap f q ∙ both-true (f n) (every n f) e .0)
+    (λ (q : i < n). every-at n f (both-true (f n) (every n f) e .1) i q)
     (eq-or-lt-of-le (le-of-suc-le-suc l))
 
 abbrev pub nexts : List ℕ
@@ -55,11 +48,9 @@ pub house-inside : (s c : ℕ) → s ≤ 3 → c ≤ 3 → record { next = getD 
 unfolding right entryAt
 house-inside s c p q =
     let e = s * 4 + c in
-    let t : right e ≡ true = every-at 16 right all-right e (omega arith) in
+    let t = both-true (eqb (getD nexts e 0) (entryAt e .next)) (eqb (getD answers e 0) (entryAt e .answer)) (every-at 16 right all-right e (omega arith)) in
     let h : record { next = getD nexts e 0; answer = getD answers e 0 } ≡ houseEntry (e / 4) (e % 4) =
-    ap₂ (λ (x y : ℕ). record { next = x; answer = y })
-    (eqb-true _ _ (left-true (eqb (getD nexts e 0) (entryAt e .next)) (eqb (getD answers e 0) (entryAt e .answer)) t))
-    (eqb-true _ _ (right-true (eqb (getD nexts e 0) (entryAt e .next)) (eqb (getD answers e 0) (entryAt e .answer)) t)) in
+    ap₂ (λ (x y : ℕ). record { next = x; answer = y }) (eqb-true _ _ (t .0)) (eqb-true _ _ (t .1)) in
     h ∙ ap₂ houseEntry (omega arith) (omega arith)
 
 row-length : (s : ℕ) → length (getD houseTable s []) ≤ 4

@@ -1,7 +1,7 @@
 // The machine by value, with its limits and its constructors.
 ghost use mathlib.Core.Path.{_≡_};
 ghost use Prim.Native.Nat.{ℕ, _+_, _*_, _≤_, _<_};
-ghost use lib.ListN.{getD, take, length};
+ghost use lib.ListN.{getD, take};
 ghost use Rattle.machine.specs.Limits.{mostEntries};
 ghost use Rattle.machine.specs.Limits.{limits as theLimits};
 ghost use Rattle.machine.specs.Machine.{machineOf, meaning};

@@ -14,7 +14,7 @@ use Rattle.sheet.specs.declared.record.Found.the-variants.{At, Missing}
 use Rattle.sheet.specs.declared.reader.Part.{Part}
 use Rattle.sheet.specs.declared.reader.Needs.{Needs}
 use Rattle.sheet.specs.Check.{refusal_with_if_, firstCause}
-use Rattle.sheet.specs.Format.{longest, header, Parsed, parsed, find}
+use Rattle.sheet.specs.Format.{longest, header, parsed, find}
 pub mod Laws
 
 -- "The sheet's length is compared first": cause 1 at "40,912 if longer than that"

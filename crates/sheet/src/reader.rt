@@ -2,9 +2,9 @@
 ghost use mathlib.Core.Path.{_≡_};
 ghost use Prim.Native.Nat.{_+_, _≤_};
 ghost use lib.ListN.{length};
-ghost use Rattle.sheet.specs.Check.{refusal_with_if_, firstCause};
+ghost use Rattle.sheet.specs.Check.{firstCause};
 ghost use Rattle.sheet.specs.Format.{parsed, find};
-ghost use Rattle.sheet.specs.Reader.{tooLong, isMissing, missing, sheetCauses, needed, refusalOf, seen, handed};
+ghost use Rattle.sheet.specs.Reader.{tooLong, isMissing, sheetCauses, needed, refusalOf, seen, handed};
 ghost use Rattle.sheet.specs.Reader.{part as partOf, the as theOf};
 ghost use Rattle.sheet.specs.Reader.Laws.{whenMissing};
 use crate::check::Check;

@@ -1,16 +1,15 @@
 -- The laws of causes 1 to 6 in order, and what a sheet shows where they are clear.
-use Prim.Native.Nat.{ℕ, _+_, _*_, _≤_, _<_}
-use mathlib.Core.Path.{_≡_, refl, sym, ap, ap₂, _∙_, subst}
-use mathlib.Core.Bool.{Bool, true, false}
-use mathlib.Core.List.{List, [], _∷_, _++_}
+use Prim.Native.Nat.{ℕ, _+_, _*_}
+use mathlib.Core.Path.{_≡_, sym, ap, _∙_}
+use mathlib.Core.Bool.{true, false}
+use mathlib.Core.List.{List, [], _∷_}
 use native.Mathlib.Omega.{arith}
-use lib.ListN.{length, getD, take}
 use lib.Seq.{take-all}
 use Rattle.sheet.specs.declared.check.Check.{Check}
-use Rattle.sheet.specs.declared.check.Check.the-variants.{Clear, Refused}
+use Rattle.sheet.specs.declared.check.Check.the-variants.{Clear}
 use Rattle.sheet.specs.declared.reader.Needs.{Needs}
 use Rattle.sheet.specs.Check.{_else_, firstCause}
-use Rattle.sheet.specs.Check.Laws.{else-clear, else-refused, both-clear, cause-none, cause-cons, cause-one, cause-append}
+use Rattle.sheet.specs.Check.Laws.{both-clear, cause-none, cause-cons, cause-one, cause-append}
 use Rattle.sheet.specs.Reader.{sheetCauses, needed, the, content}
 use Rattle.machine.specs.Limits.{mostEntries, mostWord}
 use Rattle.machine.specs.Machine.{machineOf, Proper, Distinguishes}

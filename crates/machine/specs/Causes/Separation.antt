@@ -9,7 +9,7 @@ use borrow.Author.Tests.{lt-ltb, ltb-true, ltb-false, eq-eqb, eqb-true}
 use Rattle.sheet.specs.declared.check.Check.{Check}
 use Rattle.sheet.specs.declared.check.Check.the-variants.{Clear}
 use Rattle.sheet.specs.Check.{refusal_with_if_, first}
-use Rattle.sheet.specs.Check.Laws.{absent, clear-absent, first-clear, first-clear-at}
+use Rattle.sheet.specs.Check.Laws.{both-true, absent, clear-absent, first-clear, first-clear-at}
 use Rattle.machine.specs.Machine.{Mealy, tabled, answers, Separates}
 use Rattle.machine.specs.Machine.Laws.{answers-tabled}
 use Rattle.machine.specs.Causes.{same, cause6}
@@ -38,10 +38,6 @@ cause6-tabled n k start start′ next answer w =
     ∙ cause6-is (tabled n k start′ next answer) w
 
 -- ---- equal lists
-both-true : (a b : Bool) → (a && b) ≡ true → (a ≡ true) × (b ≡ true)
-both-true true b e = (refl, e)
-both-true false b e = (e, cc)
-
 pub same-refl : (xs : List ℕ) → same xs xs ≡ true
 same-refl [] = refl
 same-refl (x ∷ xs) = rw (eq-eqb x x refl, same-refl xs)

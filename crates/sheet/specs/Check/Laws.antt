@@ -1,7 +1,7 @@
 -- The laws of checks: how a cause, two checks in a row, a list of causes and a first cause answer.
 use Prim.Native.Nat.{ℕ, zero, suc, _+_, _≤_, _<_}
 use mathlib.Core.Path.{_≡_, refl, sym, ap, _∙_}
-use mathlib.Core.Bool.{Bool, true, false, _||_}
+use mathlib.Core.Bool.{Bool, true, false, _&&_, _||_}
 use mathlib.Core.List.{List, [], _∷_, _++_}
 use native.Mathlib.Omega.{arith}
 use native.Mathlib.Nat.{le-of-suc-le-suc, eq-or-lt-of-le, not-suc-le-zero}
@@ -12,10 +12,14 @@ use Rattle.sheet.specs.declared.check.Check.the-variants.{Clear, Refused
 use Rattle.sheet.specs.Check.{refusal_with_if_, _else_, firstCause, first}
 
 -- ---- one cause
--- a test of two parts fails where both fail
+-- a test of two parts: of an `or` that fails, and of an `and` that passes
 pub neither : (a b : Bool) → (a || b) ≡ false → (a ≡ false) × (b ≡ false)
 neither true b e = (e, cc)
 neither false b e = (refl, e)
+
+pub both-true : (a b : Bool) → (a && b) ≡ true → (a ≡ true) × (b ≡ true)
+both-true true b e = (refl, e)
+both-true false b e = (e, cc)
 
 pub absent : (n p : ℕ) {b : Bool} → b ≡ false → (refusal n with p if b) ≡ Clear
 unfolding refusal_with_if_

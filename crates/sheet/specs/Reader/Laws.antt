@@ -7,18 +7,17 @@ use mathlib.Core.List.{List, [], _∷_, _++_, map}
 use native.Mathlib.Omega.{arith}
 use lib.Dec.{ltb, eqb}
 use lib.ListN.{length, length-take}
-use borrow.Author.Tests.{ltb-true, ltb-false, eqb-true}
+use borrow.Author.Tests.{eqb-true}
 use Rattle.sheet.specs.declared.check.Check.{Check}
 use Rattle.sheet.specs.declared.check.Check.the-variants.{Clear, Refused}
 use Rattle.sheet.specs.declared.record.Record.{Record}
 use Rattle.sheet.specs.declared.record.Found.{Found}
 use Rattle.sheet.specs.declared.record.Found.the-variants.{At, Missing}
-use Rattle.sheet.specs.declared.reader.Part.{Part}
 use Rattle.sheet.specs.declared.reader.Needs.{Needs}
 use Rattle.sheet.specs.Check.{refusal_with_if_, _else_, firstCause}
-use Rattle.sheet.specs.Check.Laws.{absent, present, else-end, else-assoc, cause-none, cause-cons, cause-one, cause-append, both-clear}
-use Rattle.sheet.specs.Format.{header, recordAt, offset, end, kindOf, rank, causeAt, Parsed, ended, _before_, onward, parseFrom, parse, parsed, ofKind, _or_, find}
-use Rattle.sheet.specs.Format.Laws.{rankAt, clear-inside, clear-rank, missing-or, find-none, find-cons}
+use Rattle.sheet.specs.Check.Laws.{absent, present, cause-none, cause-cons, cause-one, cause-append}
+use Rattle.sheet.specs.Format.{recordAt, offset, end, kindOf, rank, causeAt, Parsed, onward, parseFrom, parse, parsed, ofKind, _or_, find}
+use Rattle.sheet.specs.Format.Laws.{rankAt, clear-inside, clear-rank, find-none}
 use Rattle.sheet.specs.Reader.{tooLong, isMissing, missing, sheetCauses, when, needed, refusalOf, recordOr, the, payloadPart, partWhen, part, bytes, content, seen, handed}
 use denote.Ref.{RefT, now}
 

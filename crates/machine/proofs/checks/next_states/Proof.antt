@@ -34,9 +34,8 @@ scan-requires c κs = omega (arith, bytes-product (c .before .before .byte .resu
 
 returns : tie.Need-returns
 returns c =
-    let start = c .before .before .before .before .before in
     c .scan .ensures
-    ∙ ap₂ (λ (n k : ℕ). first (n * k) (byteCause 4 (start .args .r .start + 6) (now (start .args .p)) 2 2 n)) (c .before .before .before .byte .ensures) (c .before .before .byte2 .ensures)
+    ∙ ap₂ (λ (n k : ℕ). first (n * k) (byteCause 4 (c .before .before .before .before .before .args .r .start + 6) (now (c .before .before .before .before .before .args .p)) 2 2 n)) (c .before .before .before .byte .ensures) (c .before .before .byte2 .ensures)
     ∙ cause4-is _ _
 
 pub next-states-spec : {M : Type 1} → statement M

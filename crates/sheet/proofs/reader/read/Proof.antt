@@ -1,10 +1,8 @@
 -- `sheet::reader::read` meets its contract.
 -- Assumes nothing.
 use borrow.Author.Needs.{needs}
-use Prim.Native.Nat.{ℕ}
-use mathlib.Core.Path.{sym, ap, _∙_}
 use native.Mathlib.Nat.{add-comm, add-sub-cancel-left}
-use Rattle.sheet.specs.Reader.{handed, bytes, seen}
+use Rattle.sheet.specs.Reader.{handed, bytes}
 use Rattle.sheet.proofs.reader.read.Statement.{statement}
 use Rattle.sheet.proofs.reader.read.Tie as tie
 

@@ -1,31 +1,26 @@
+-- `sheet::record::kind_of` meets its contract: each arm's number decides the tests.
+-- Assumes nothing.
 use borrow.Author.Tests.{ne-eqb}
 use Rattle.sheet.specs.Format.{kindOf}
 use Rattle.sheet.proofs.record.kind_of.Statement.{statement}
 use Rattle.sheet.proofs.record.kind_of.Tie as tie
-use Rattle.sheet.proofs.record.kind_of.Reads as reads
-use Rattle.sheet.proofs.record.kind_of.Lts as lts
 
--- src/record.rt:61:1
 returns : tie.Need-returns
 unfolding kindOf
 returns c = rw (c .match .keys1)
 
--- src/record.rt:61:1
 returns-2 : tie.Need-returns-2
 unfolding kindOf
 returns-2 c = rw (c .match .keys2)
 
--- src/record.rt:61:1
 returns-3 : tie.Need-returns-3
 unfolding kindOf
 returns-3 c = rw (c .match .keys3)
 
--- src/record.rt:61:1
 returns-4 : tie.Need-returns-4
 unfolding kindOf
 returns-4 c = rw (c .match .keys4)
 
--- src/record.rt:61:1
 returns-5 : tie.Need-returns-5
 unfolding kindOf
 returns-5 c = simp (ne-eqb _ _ (c .match .rest .1), ne-eqb _ _ (c .match .rest .0 .1), ne-eqb _ _ (c .match .rest .0 .0 .1), ne-eqb _ _ (c .match .rest .0 .0 .0 .1))
