@@ -1,7 +1,6 @@
 mod Columns
-mod Housing
-mod Loadings
+mod HouseTable
+mod LoadChecks
 mod Numbers
 mod Pairs
 mod Runs
-mod Scanning

@@ -1,6 +1,6 @@
 -- How the loop of `agree` compares two runs of a machine.
 -- Assumes nothing.
-use Prim.Native.Nat.{ℕ, _+_, _*_, _≤_, _<_}
+use Prim.Native.Nat.{ℕ, _+_, _≤_, _<_}
 use mathlib.Core.Path.{_≡_, refl, sym, ap, ap₂, _∙_}
 use mathlib.Core.Bool.{Bool, true, false, _&&_}
 use mathlib.Core.List.{List, [], _∷_}
@@ -52,7 +52,3 @@ module _ (M : Mealy) (w : List ℕ) (i j : ℕ) where
           ∙ sym (split l ∙ ap (λ (b : Bool). b && rest) (eq-eqb _ _ (sym xe ∙ e ∙ ye)))
           ∙ h .keeps;
     }
-
--- a cell that the code reads is the entry's
-pub cell-is : (k : ℕ) (column : List ℕ) (s c : ℕ) {v a : ℕ} → v ≡ getD column a 0 → a ≡ s * k + c → v ≡ getD column (s * k + c) 0
-cell-is k column s c ve ae = ve ∙ ap (λ (x : ℕ). getD column x 0) ae

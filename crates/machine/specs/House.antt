@@ -5,6 +5,7 @@ use lib.ListN.{getD}
 use Rattle.machine.specs.declared.house.Entry.{Entry}
 
 infix 75 _/_
+-- an entry, next/answer
 abbrev pub _/_ : ℕ → ℕ → Entry
 n / a = record { next = n; answer = a }
 

@@ -25,6 +25,7 @@ mostSequence = 20355
 abbrev pub mostEntries : ℕ
 mostEntries = mostStates * mostCommands
 
+-- the four together
 abbrev pub limits : Limits
 limits = record { states = mostStates; commands = mostCommands; word = mostWord; sequence = mostSequence }
 

@@ -2,11 +2,11 @@
 use Prim.Native.Nat.{ℕ}
 use mathlib.Core.Path.{_≡_}
 use mathlib.Core.Bool.{true}
-use mathlib.Core.List.{List}
+use mathlib.Core.List.{List, List·Memᴰ}
 use Rattle.sheet.specs.declared.check.Check.the-variants.{Clear}
 use Rattle.sheet.specs.declared.reader.Needs.{Needs}
 use Rattle.sheet.specs.Check.{firstCause}
-use Rattle.sheet.specs.Reader.{part, content}
+use Rattle.sheet.specs.Reader.{needed, part, content, Reads}
 use Rattle.machine.specs.declared.loading.Loaded.{Loaded}
 use Rattle.machine.specs.Machine.{meaning, Proper, Distinguishes}
 use Rattle.machine.specs.Causes.{machineIn, held, loadCauses}
@@ -17,7 +17,8 @@ pub record LoadedFrom (n : Needs) (s : List ℕ) (l : Loaded) : Type 0 where
   pub check : l .check ≡ firstCause (loadCauses n s)
   -- where the word stands
   pub word : l .word ≡ part 2 s
-  -- where nothing is refused: the machine of the sheet, within its limits, and a word that separates its states
+  -- where nothing is refused: each needed record is read, the machine is the sheet's and within its limits, and a needed word separates
+  pub reads : (k : ℕ) → List·Memᴰ k (needed n) → l .check ≡ Clear → Reads k s
   pub machine : l .check ≡ Clear → meaning (l .machine) ≡ machineIn s
   pub proper : l .check ≡ Clear → Proper (machineIn s)
   pub distinguishes : n .word ≡ true → l .check ≡ Clear → Distinguishes (machineIn s) (content 2 s)

@@ -4,9 +4,9 @@
 ghost use mathlib.Core.Path.{_≡_};
 ghost use Prim.Native.Nat.{_+_, _*_, _<_};
 ghost use Rattle.sheet.specs.Check.{first};
-ghost use Rattle.machine.specs.Machine.{tabled, meaning, answers};
-ghost use Rattle.machine.specs.Causes.{cause6, same};
-ghost use Rattle.machine.specs.Causes.Separation.{pairCause};
+ghost use Rattle.machine.specs.Machine.{tabled, meaning};
+ghost use Rattle.machine.specs.Causes.{cause6};
+ghost use Rattle.machine.specs.Causes.Separation.{agrees, pairCause};
 use crate::machine::Machine;
 use sheet::Check;
 use sheet::byte;
@@ -20,7 +20,7 @@ fn entry(k: u8, s: u8, c: u8) -> usize
 
 // Whether two states answer a word alike.
 fn agree(next: &[u8], answer: &[u8], k: u8, w: &[u8], i: u8, j: u8) -> bool
-    ensures { λ r. ⌜ r ≡ same (answers (tabled 0 k 0 (now (next .entry)) (now (answer .entry))) i (now (w .entry))) (answers (tabled 0 k 0 (now (next .entry)) (now (answer .entry))) j (now (w .entry))) ⌝ }
+    ensures { λ r. ⌜ r ≡ agrees k (now (next .entry)) (now (answer .entry)) (now (w .entry)) i j ⌝ }
 {
     let mut s = i;
     let mut t = j;

@@ -1,6 +1,7 @@
 -- Checks 1 and 2 of a whole sheet, and what reading it hands back (document 01, "The sheet" and "Causes").
 -- The laws stand in Reader.Laws.
-use Prim.Native.Nat.{ℕ, _+_}
+use Prim.Native.Nat.{ℕ, _+_, _≤_}
+use mathlib.Core.Path.{_≡_}
 use mathlib.Core.Bool.{Bool, true, false}
 use mathlib.Core.List.{List, [], _∷_, _++_, map}
 use lib.Dec.{ltb}
@@ -14,7 +15,7 @@ use Rattle.sheet.specs.declared.record.Found.the-variants.{At, Missing}
 use Rattle.sheet.specs.declared.reader.Part.{Part}
 use Rattle.sheet.specs.declared.reader.Needs.{Needs}
 use Rattle.sheet.specs.Check.{refusal_with_if_, firstCause}
-use Rattle.sheet.specs.Format.{longest, header, parsed, find}
+use Rattle.sheet.specs.Format.{longest, header, end, parsed, find}
 pub mod Laws
 
 -- "The sheet's length is compared first": cause 1 at "40,912 if longer than that"
@@ -52,6 +53,7 @@ abbrev pub recordOr : Found → Record
 recordOr (At r) = r
 recordOr Missing = record { start = 0; size = 0; kind = 0 }
 
+-- the record that places are counted from
 unfoldable pub the : ℕ → List ℕ → Record
 the k s = recordOr (find k (parsed s .records))
 
@@ -84,3 +86,11 @@ seen r = (r .ptr, now r)
 -- "hands back the part of it": the same block, the part's position and its bytes, "and no copy"
 unfoldable pub handed : RefT (List ℕ) → Part → (ℕ × ℕ) × List ℕ
 handed s p = ((s .ptr .0, s .ptr .1 + p .from), bytes p (now s))
+
+-- reading a kind that is not refused: the record is of that kind and lies inside the sheet, and its payload, header left out, is what is
+-- handed back
+pub record Reads (k : ℕ) (s : List ℕ) : Type 0 where
+  pub kind : the k s .kind ≡ k
+  pub from : part k s .from ≡ the k s .start + header
+  pub size : part k s .size ≡ the k s .size
+  pub inside : end (the k s) ≤ length s

@@ -1,6 +1,6 @@
 -- The laws of causes 3, 4, 5 and 7: each as the code looks for it, and what it shows where it is clear.
 use Prim.Native.Nat.{ℕ, _+_, _*_, _<_, _≤_}
-use mathlib.Core.Path.{_≡_, refl, ap, fun-ext}
+use mathlib.Core.Path.{_≡_, sym, ap, _∙_, fun-ext}
 use mathlib.Core.Bool.{Bool, false, not, _||_}
 use mathlib.Core.List.{List}
 use native.Mathlib.Omega.{arith}
@@ -14,6 +14,7 @@ use Rattle.sheet.specs.declared.record.Record.{Record}
 use Rattle.sheet.specs.Check.{refusal_with_if_, _else_, first}
 use Rattle.sheet.specs.Check.Laws.{neither, clear-absent, both-clear, first-clear-at}
 use Rattle.sheet.specs.Format.{header, offset}
+use Rattle.sheet.specs.Format.Laws.{offset-is}
 use Rattle.machine.specs.Limits.{mostStates, mostCommands, mostEntries}
 use Rattle.machine.specs.Machine.{pairAt, Commands}
 use Rattle.machine.specs.Causes.{outside, cause3, cause4, commandsCause}
@@ -28,18 +29,26 @@ cause3-is r p {n} {k} ne ke {a} {b} ae be = rw (ae, be, ne, ke)
 unfoldable pub byteCause : ℕ → ℕ → List ℕ → ℕ → ℕ → ℕ → ℕ → Check
 byteCause number base p from stride bound i = refusal number with base + (from + stride * i) if leb bound (getD p (from + stride * i) 0)
 
+-- the check that a scan makes there
+pub byte-check-is : (number base : ℕ) (p : List ℕ) (from stride bound i : ℕ) {b : ℕ} {c : Check} → b ≡ getD p (from + stride * i) 0
+    → c ≡ (refusal number with base + (from + stride * i) if leb bound b) → c ≡ byteCause number base p from stride bound i
+unfolding byteCause
+byte-check-is number base p from stride bound i be ce = ce ∙ ap (λ (x : ℕ). refusal number with base + (from + stride * i) if leb bound x) be
+
 -- cause 4 looks at every second byte from 2 on
 pub cause4-is : (r : Record) (p : List ℕ) → first (getD p 0 0 * getD p 1 0) (byteCause 4 (r .start + header) p 2 2 (getD p 0 0)) ≡ cause4 r p
-unfolding cause4 byteCause offset
-cause4-is r p = refl
+unfolding cause4 byteCause
+cause4-is r p =
+    let n = getD p 0 0 in
+    ap (first (n * getD p 1 0)) (fun-ext (λ e. ap (λ (x : ℕ). refusal 4 with x if leb n (getD p (pairAt e) 0)) (sym (offset-is r (pairAt e)))))
 
 -- causes 5 and 7 look at every byte
 pub commands-cause-is : (number most k : ℕ) (r : Record) (w : List ℕ)
     → ((refusal number with r .start if outside 1 most (length w)) else first (length w) (byteCause number (r .start + header) w 0 1 k)) ≡ commandsCause number most k r w
-unfolding commandsCause byteCause offset
+unfolding commandsCause byteCause
 commands-cause-is number most k r w =
     ap (λ (f : ℕ → Check). (refusal number with r .start if outside 1 most (length w)) else first (length w) f)
-    (fun-ext (λ i. simp (zero-add, one-mul)))
+    (fun-ext (λ i. simp (zero-add, one-mul, offset-is)))
 
 -- ---- what a clear check shows
 not-outside : (least most x : ℕ) → outside least most x ≡ false → (least ≤ x) × (x ≤ most)

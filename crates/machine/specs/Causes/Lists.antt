@@ -2,17 +2,19 @@
 use Prim.Native.Nat.{ℕ, _+_, _*_}
 use mathlib.Core.Path.{_≡_, sym, ap, _∙_}
 use mathlib.Core.Bool.{true, false}
-use mathlib.Core.List.{List, [], _∷_}
+use mathlib.Core.List.{List, [], _∷_, List·Memᴰ}
 use native.Mathlib.Omega.{arith}
+use lib.ListN.{take}
 use lib.Seq.{take-all}
 use Rattle.sheet.specs.declared.check.Check.{Check}
 use Rattle.sheet.specs.declared.check.Check.the-variants.{Clear}
 use Rattle.sheet.specs.declared.reader.Needs.{Needs}
 use Rattle.sheet.specs.Check.{_else_, firstCause}
 use Rattle.sheet.specs.Check.Laws.{both-clear, cause-none, cause-cons, cause-one, cause-append}
-use Rattle.sheet.specs.Reader.{sheetCauses, needed, the, content}
+use Rattle.sheet.specs.Reader.{sheetCauses, needed, the, content, Reads}
+use Rattle.sheet.specs.Reader.Laws.{needed-clear, clear-reads}
 use Rattle.machine.specs.Limits.{mostEntries, mostWord}
-use Rattle.machine.specs.Machine.{machineOf, Proper, Distinguishes}
+use Rattle.machine.specs.Machine.{Mealy, machineOf, Proper, Distinguishes}
 use Rattle.machine.specs.Causes.{cause3, cause4, cause5, cause6, machineIn, held, machineCauses, wordCauses, loadCauses}
 use Rattle.machine.specs.Causes.Laws.{Shape, clear-shape, few-entries, clear-next, clear-commands}
 use Rattle.machine.specs.Causes.Separation.{clear-separates}
@@ -41,10 +43,18 @@ pub load-causes-are : (n : Needs) (s : List ℕ) → firstCause (loadCauses n s)
 unfolding loadCauses
 load-causes-are n s = cause-append (machineCauses n s) (wordCauses (n .word) s)
 
+-- the machine that is loaded from what reading hands back is the one that is held
+pub held-loaded : (s : List ℕ) {p : List ℕ} {M : Mealy} → p ≡ content 1 s → M ≡ machineOf (take (2 + 2 * mostEntries) p) → M ≡ held s
+unfolding held
+held-loaded s pe e = e ∙ ap (λ (x : List ℕ). machineOf (take (2 + 2 * mostEntries) x)) pe
+
 -- ---- where they are clear
 module _ (n : Needs) (s : List ℕ) (e : firstCause (machineCauses n s) ≡ Clear) where
   table-clear : (cause3 (the 1 s) (content 1 s) ≡ Clear) × (cause4 (the 1 s) (content 1 s) ≡ Clear)
   table-clear = both-clear _ _ (both-clear _ _ (sym (machine-causes-are n s) ∙ e) .1)
+
+  pub kind-reads : (k : ℕ) → List·Memᴰ k (needed n) → Reads k s
+  kind-reads k m = clear-reads k s (needed-clear s (needed n) k m (both-clear _ _ (sym (machine-causes-are n s) ∙ e) .0))
 
   pub shape-of : Shape (content 1 s)
   shape-of = clear-shape (the 1 s) (content 1 s) (table-clear .0)

@@ -5,19 +5,44 @@ use mathlib.Core.Bool.{Bool, true, false, true≢false, _&&_}
 use mathlib.Core.List.{List, [], _∷_}
 use native.Mathlib.Omega.{arith}
 use lib.Dec.{ltb, eqb}
-use borrow.Author.Tests.{lt-ltb, ltb-true, ltb-false, eq-eqb, eqb-true}
+use borrow.Author.Tests.{lt-ltb, le-ltb, ltb-true, ltb-false, eq-eqb, eqb-true}
 use Rattle.sheet.specs.declared.check.Check.{Check}
-use Rattle.sheet.specs.declared.check.Check.the-variants.{Clear}
+use Rattle.sheet.specs.declared.check.Check.the-variants.{Clear, Refused}
 use Rattle.sheet.specs.Check.{refusal_with_if_, first}
-use Rattle.sheet.specs.Check.Laws.{both-true, absent, clear-absent, first-clear, first-clear-at}
+use Rattle.sheet.specs.Check.Laws.{both-true, absent, present, clear-absent, first-clear, first-clear-at}
 use Rattle.machine.specs.Machine.{Mealy, tabled, answers, Separates}
 use Rattle.machine.specs.Machine.Laws.{answers-tabled}
 use Rattle.machine.specs.Causes.{same, cause6}
+
+-- whether two states answer a word alike, of two columns; the number of states and the start play no part
+abbrev pub agrees : ℕ → List ℕ → List ℕ → List ℕ → ℕ → ℕ → Bool
+agrees k next answer w i j = same (answers (tabled 0 k 0 next answer) i w) (answers (tabled 0 k 0 next answer) j w)
 
 -- the cause at a pair of states
 unfoldable pub pairCause : Mealy → List ℕ → ℕ → ℕ → Check
 pairCause M w i j = refusal 6 with 16 * i + j if (ltb i j && same (answers M i w) (answers M j w))
 
+-- ---- a pair that a loop looks at
+module _ (M : Mealy) (w : List ℕ) (i : ℕ) where
+  -- no pair below or on the diagonal counts
+  pub low-clear : first (i + 1) (pairCause M w i) ≡ Clear
+  unfolding pairCause
+  low-clear = first-clear (i + 1) (pairCause M w i)
+      (λ j l. absent 6 (16 * i + j) (ap (λ (b : Bool). b && same (answers M i w) (answers M j w)) (le-ltb i j (omega arith))))
+
+  module _ (j : ℕ) (above : i < j) {b : Bool} (e : b ≡ same (answers M i w) (answers M j w)) where
+    tested : (ltb i j && same (answers M i w) (answers M j w)) ≡ b
+    tested = ap (λ (x : Bool). x && same (answers M i w) (answers M j w)) (lt-ltb i j above) ∙ sym e
+
+    pub pair-present : b ≡ true → Refused 6 (16 * i + j) ≡ pairCause M w i j
+    unfolding pairCause
+    pair-present t = sym (present 6 (16 * i + j) (tested ∙ t))
+
+    pub pair-absent : b ≡ false → Clear ≡ pairCause M w i j
+    unfolding pairCause
+    pair-absent t = sym (absent 6 (16 * i + j) (tested ∙ t))
+
+-- ---- all pairs
 pub cause6-is : (M : Mealy) (w : List ℕ) → first (M .n) (λ i. first (M .n) (pairCause M w i)) ≡ cause6 M w
 unfolding cause6 pairCause
 cause6-is M w = refl
@@ -30,12 +55,16 @@ pairs-tabled n k start n′ start′ next answer w i =
     (answers-tabled n k start n′ start′ next answer i w)
     (answers-tabled n k start n′ start′ next answer j w))
 
-pub cause6-tabled : (n k start start′ : ℕ) (next answer w : List ℕ) → cause6 (tabled n k start next answer) w ≡ cause6 (tabled n k start′ next answer) w
+-- the rows of cause 6, of a machine of two columns
+pub cause6-rows : (n k start : ℕ) (next answer w : List ℕ) → first n (λ i. first n (pairCause (tabled n k start next answer) w i)) ≡ cause6 (tabled n k start next answer) w
 unfolding tabled
+cause6-rows n k start next answer w = cause6-is (tabled n k start next answer) w
+
+pub cause6-tabled : (n k start start′ : ℕ) (next answer w : List ℕ) → cause6 (tabled n k start next answer) w ≡ cause6 (tabled n k start′ next answer) w
 cause6-tabled n k start start′ next answer w =
-    sym (cause6-is (tabled n k start next answer) w)
+    sym (cause6-rows n k start next answer w)
     ∙ ap (first n) (fun-ext (λ i. ap (first n) (pairs-tabled n k start n start′ next answer w i)))
-    ∙ cause6-is (tabled n k start′ next answer) w
+    ∙ cause6-rows n k start′ next answer w
 
 -- ---- equal lists
 pub same-refl : (xs : List ℕ) → same xs xs ≡ true

@@ -1,5 +1,5 @@
 -- The laws of machines and their runs.
-use Prim.Native.Nat.{ℕ, suc, _+_, _<_}
+use Prim.Native.Nat.{ℕ, suc, _+_, _*_, _<_}
 use mathlib.Core.Path.{_≡_, refl, ap, ap₂, _∙_}
 use mathlib.Core.List.{List, [], _∷_, _++_}
 use native.Mathlib.Omega.{arith}
@@ -13,6 +13,21 @@ pub mealy-same : (a b : Mealy) → a .n ≡ b .n → a .k ≡ b .k → a .start 
     → ((s c : ℕ) → a .next s c ≡ b .next s c) → ((s c : ℕ) → a .answer s c ≡ b .answer s c) → a ≡ b
 mealy-same a b p q r f g = λ i. record { n = p i; k = q i; start = r i; next = λ s c. f s c i; answer = λ s c. g s c i }
 
+-- ---- the machine of two columns
+pub tabled-commands : (n k start : ℕ) (next answer : List ℕ) → tabled n k start next answer .k ≡ k
+unfolding tabled
+tabled-commands n k start next answer = refl
+
+-- a cell of a column, at an entry's place, is the entry's
+pub tabled-next : (n k start : ℕ) (next answer : List ℕ) (s c : ℕ) {v a : ℕ} → v ≡ getD next a 0 → a ≡ s * k + c → v ≡ tabled n k start next answer .next s c
+unfolding tabled
+tabled-next n k start next answer s c ve ae = ve ∙ ap (λ (x : ℕ). getD next x 0) ae
+
+pub tabled-answer : (n k start : ℕ) (next answer : List ℕ) (s c : ℕ) {v a : ℕ} → v ≡ getD answer a 0 → a ≡ s * k + c → v ≡ tabled n k start next answer .answer s c
+unfolding tabled
+tabled-answer n k start next answer s c ve ae = ve ∙ ap (λ (x : ℕ). getD answer x 0) ae
+
+-- ---- answers
 -- the answers depend on the entries alone
 pub answers-same : (a b : Mealy) → ((s c : ℕ) → a .next s c ≡ b .next s c) → ((s c : ℕ) → a .answer s c ≡ b .answer s c)
     → (s : ℕ) (w : List ℕ) → answers a s w ≡ answers b s w

@@ -35,7 +35,11 @@ pub end-after : (s : List ℕ) (at : ℕ) → at + header ≤ end (recordAt s at
 unfolding end offset recordAt
 end-after s at = omega arith
 
--- ---- the causes and the end of a record, of the record as it was read
+-- ---- the offsets, the causes and the end of a record
+pub offset-is : (r : Record) (i : ℕ) → offset r i ≡ r .start + header + i
+unfolding offset
+offset-is r i = refl
+
 pub end-is : (s : List ℕ) (at : ℕ) (r : Record) → r ≡ recordAt s at → end (recordAt s at) ≡ at + header + r .size
 unfolding end offset recordAt
 end-is s at r e = rw e

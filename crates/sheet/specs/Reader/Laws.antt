@@ -1,9 +1,9 @@
 -- The laws of checks 1 and 2 of a whole sheet and of the reader.
 use Prim.Native.Nat.{ℕ, zero, suc, _+_, _-_, _≤_, _<_}
-use mathlib.Core.Path.{_≡_, refl, sym, ap, _∙_, subst}
-use mathlib.Core.Bool.{Bool, true, false, cond, _&&_}
+use mathlib.Core.Path.{_≡_, refl, sym, ap, ap₂, _∙_, subst}
+use mathlib.Core.Bool.{Bool, true, false, true≢false, cond, _&&_}
 use mathlib.Core.Logic.{_⊎_, inl, inr, ⊎-elim}
-use mathlib.Core.List.{List, [], _∷_, _++_, map}
+use mathlib.Core.List.{List, [], _∷_, _++_, map, List·Memᴰ, List·Memᴰ·head, List·Memᴰ·tail, Memᴰ·append-left, Memᴰ·append-right, List·Memᴰ·cases-cons, List·Memᴰ·not-nil}
 use native.Mathlib.Omega.{arith}
 use lib.Dec.{ltb, eqb}
 use lib.ListN.{length, length-take}
@@ -13,12 +13,13 @@ use Rattle.sheet.specs.declared.check.Check.the-variants.{Clear, Refused
 use Rattle.sheet.specs.declared.record.Record.{Record}
 use Rattle.sheet.specs.declared.record.Found.{Found}
 use Rattle.sheet.specs.declared.record.Found.the-variants.{At, Missing}
+use Rattle.sheet.specs.declared.reader.Part.{Part}
 use Rattle.sheet.specs.declared.reader.Needs.{Needs}
 use Rattle.sheet.specs.Check.{refusal_with_if_, _else_, firstCause}
-use Rattle.sheet.specs.Check.Laws.{absent, present, cause-none, cause-cons, cause-one, cause-append}
-use Rattle.sheet.specs.Format.{recordAt, offset, end, kindOf, rank, causeAt, Parsed, onward, parseFrom, parse, parsed, ofKind, _or_, find}
+use Rattle.sheet.specs.Check.Laws.{absent, present, clear-absent, else-clear, both-clear, cause-none, cause-cons, cause-one, cause-append}
+use Rattle.sheet.specs.Format.{header, recordAt, offset, end, kindOf, rank, causeAt, Parsed, onward, parseFrom, parse, parsed, ofKind, _or_, find}
 use Rattle.sheet.specs.Format.Laws.{rankAt, clear-inside, clear-rank, find-none}
-use Rattle.sheet.specs.Reader.{tooLong, isMissing, missing, sheetCauses, when, needed, refusalOf, recordOr, the, payloadPart, partWhen, part, bytes, content, seen, handed}
+use Rattle.sheet.specs.Reader.{tooLong, isMissing, missing, sheetCauses, when, needed, refusalOf, recordOr, the, payloadPart, partWhen, part, bytes, content, seen, handed, Reads}
 use denote.Ref.{RefT, now}
 
 -- ---- the causes, written out
@@ -107,7 +108,10 @@ module _ (s : List ℕ) (P : Record → Type 0) (all : (at last : ℕ) → cause
 pub found-inside : (s : List ℕ) (k : ℕ) (r : Record) → find k (parsed s .records) ≡ At r → end r ≤ length s
 found-inside s k r e = found-has s (λ (x : Record). end x ≤ length s) (clear-inside s) k r e .0
 
--- its kind is a known one
+-- its kind is the one looked for, and a known one
+pub found-kind : (s : List ℕ) (k : ℕ) (r : Record) → find k (parsed s .records) ≡ At r → r .kind ≡ k
+found-kind s k r e = found-has s (λ (x : Record). end x ≤ length s) (clear-inside s) k r e .1
+
 pub found-known : (s : List ℕ) (k : ℕ) (r : Record) → find k (parsed s .records) ≡ At r → 0 < rank (kindOf k)
 found-known s k r e =
     let h = found-has s (λ (x : Record). 0 < rank (kindOf (x .kind))) (λ at last q. omega (arith, clear-rank s at last q)) k r e in
@@ -159,3 +163,59 @@ the-inside k s = inside-of s (refusalOf k s) (find k (parsed s .records)) (paylo
 pub handed-content : (k : ℕ) (s w : RefT (List ℕ)) → seen w ≡ handed s (part k (now s)) → now w ≡ content k (now s)
 unfolding handed content
 handed-content k s w e = ap (λ (x : (ℕ × ℕ) × List ℕ). x .1) e
+
+-- ---- where checks 1 and 2 are clear
+clear-missing : (s ks : List ℕ) (k : ℕ) → List·Memᴰ k ks → firstCause (map (missing s) ks) ≡ Clear → missing s k ≡ Clear
+clear-missing s [] k m e = absurd (List·Memᴰ·not-nil m)
+clear-missing s (l ∷ ks) k m e =
+    let h = both-clear (missing s l) (firstCause (map (missing s) ks)) (sym (cause-cons (missing s l) (map (missing s) ks)) ∙ e) in
+    ⊎-elim (λ (q : k ≡ l). ap (missing s) q ∙ h .0) (λ (q : List·Memᴰ k ks). clear-missing s ks k q (h .1)) (List·Memᴰ·cases-cons m)
+
+-- reading a needed kind is not refused
+pub needed-clear : (s ks : List ℕ) (k : ℕ) → List·Memᴰ k ks → firstCause (sheetCauses ks s) ≡ Clear → refusalOf k s ≡ Clear
+unfolding sheetCauses
+needed-clear s ks k m e =
+    let one = both-clear (tooLong s) _ (sym (cause-cons (tooLong s) (parsed s .stop ∷ map (missing s) ks)) ∙ e) in
+    let two = both-clear (parsed s .stop) _ (sym (cause-cons (parsed s .stop) (map (missing s) ks)) ∙ one .1) in
+    refusal-is k s
+    ∙ ap₂ _else_ (one .0) (ap₂ _else_ (two .0) (clear-missing s ks k m (two .1)) ∙ else-clear Clear)
+    ∙ else-clear Clear
+
+-- and reading it is as `Reads` says
+pub clear-reads : (k : ℕ) (s : List ℕ) → refusalOf k s ≡ Clear → Reads k s
+clear-reads k s e = go (find k (parsed s .records)) refl
+  where
+    go : (f : Found) → find k (parsed s .records) ≡ f → Reads k s
+    go (At r) q =
+        let t : the k s ≡ r = sym (the-found k s {f = At r} (sym q) refl) in
+        let p : part k s ≡ payloadPart (At r) = sym (part-clear k s {c = refusalOf k s} refl e (sym q)) in
+        record {
+          kind = ap (λ (x : Record). x .kind) t ∙ found-kind s k r q;
+          from = ap (λ (x : Part). x .from) p ∙ ap (λ (x : Record). x .start + header) (sym t);
+          size = ap (λ (x : Part). x .size) p ∙ ap (λ (x : Record). x .size) (sym t);
+          inside = rw t (found-inside s k r q);
+        }
+    go Missing q =
+        let absent-one = clear-absent 2 (length s) (isMissing (find k (parsed s .records))) (both-clear _ _ (both-clear _ _ (sym (refusal-is k s) ∙ e) .1) .1) in
+        absurd (true≢false (sym (ap isMissing q) ∙ absent-one))
+
+-- ---- the kinds among the needed ones
+on-needed : {b : Bool} (k : ℕ) → b ≡ true → List·Memᴰ k (when b k)
+unfolding when
+on-needed k e = rw e (List·Memᴰ·head refl)
+
+pub needed-machine : (n : Needs) → List·Memᴰ 1 (needed n)
+unfolding needed
+needed-machine n = List·Memᴰ·head refl
+
+pub needed-word : (n : Needs) → n .word ≡ true → List·Memᴰ 2 (needed n)
+unfolding needed
+needed-word n e = List·Memᴰ·tail (Memᴰ·append-left _ (on-needed 2 e))
+
+pub needed-sequence : (n : Needs) → n .sequence ≡ true → List·Memᴰ 3 (needed n)
+unfolding needed
+needed-sequence n e = List·Memᴰ·tail (Memᴰ·append-right (when (n .word) 2) (Memᴰ·append-left _ (on-needed 3 e)))
+
+pub needed-answers : (n : Needs) → n .answers ≡ true → List·Memᴰ 4 (needed n)
+unfolding needed
+needed-answers n e = List·Memᴰ·tail (Memᴰ·append-right (when (n .word) 2) (Memᴰ·append-right (when (n .sequence) 3) (on-needed 4 e)))

@@ -4,7 +4,7 @@ use native.Mathlib.Omega.{arith}
 use borrow.Author.Needs.{needs}
 use denote.Ref.{now}
 use Rattle.sheet.specs.Reader.Laws.{handed-content}
-use Rattle.machine.proofs.Loadings.{record-inside, commands-are}
+use Rattle.machine.proofs.LoadChecks.{record-inside, commands-are}
 use Rattle.machine.proofs.checks.commands.Statement.{statement}
 use Rattle.machine.proofs.checks.commands.Tie as tie
 

@@ -7,8 +7,8 @@ use mathlib.Core.Path.{_≡_}
 use Rattle.sheet.specs.declared.check.Check.the-variants.{Clear}
 use Rattle.sheet.specs.Check.{first}
 use Rattle.sheet.specs.Check.Laws.{first-none, first-stops, first-goes-on, first-ends}
-use Rattle.machine.specs.Causes.Laws.{byteCause}
-use Rattle.machine.proofs.Scanning.{index-fits, check-there}
+use Rattle.machine.specs.Causes.Laws.{byteCause, byte-check-is}
+use Rattle.machine.proofs.Numbers.{index-fits}
 use Rattle.machine.proofs.checks.scan.Statement.{statement}
 use Rattle.machine.proofs.checks.scan.Tie as tie
 
@@ -48,7 +48,7 @@ enum-told c = search needs
 returns : tie.Need-returns Inv-loop μ-loop
 returns c =
     first-stops _ (search needs) (c .before .before .before .before .before .loop .inv .1)
-    (check-there _ _ _ _ _ _ _ (c .before .before .before .byte .ensures) (c .before .before .refuse .ensures))
+    (byte-check-is _ _ _ _ _ _ _ (c .before .before .before .byte .ensures) (c .before .before .refuse .ensures))
     (c .enum-told .given .1)
 
 enum-told-2 : tie.Need-enum-told-2 Inv-loop μ-loop
@@ -64,7 +64,7 @@ loop-again : tie.Need-loop-again Inv-loop μ-loop
 loop-again c = (
   search needs,
   first-goes-on _ _ (c .before .before .before .before .before .loop .inv .1)
-      (check-there _ _ _ _ _ _ _ (c .before .before .before .byte .ensures) (c .before .before .refuse .ensures))
+      (byte-check-is _ _ _ _ _ _ _ (c .before .before .before .byte .ensures) (c .before .before .refuse .ensures))
       (c .enum-told2 .given .1),
 )
 

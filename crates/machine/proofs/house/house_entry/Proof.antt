@@ -1,7 +1,7 @@
 -- `machine::house::house_entry` meets its contract: above 3, and inside by the one test over the table.
 -- Assumes nothing.
 use borrow.Author.Needs.{needs}
-use Rattle.machine.proofs.Housing.{house-inside, house-command, house-state}
+use Rattle.machine.proofs.HouseTable.{house-inside, house-command, house-state}
 use Rattle.machine.proofs.house.house_entry.Statement.{statement}
 use Rattle.machine.proofs.house.house_entry.Tie as tie
 

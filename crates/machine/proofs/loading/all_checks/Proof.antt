@@ -4,7 +4,7 @@ use borrow.Author.Needs.{needs}
 use mathlib.Core.Path.{sym, _∙_}
 use denote.Ref.{now}
 use Rattle.machine.specs.Causes.Lists.{held-is}
-use Rattle.machine.proofs.Loadings.{load-stops, load-goes-on}
+use Rattle.machine.proofs.LoadChecks.{load-stops, load-goes-on}
 use Rattle.machine.proofs.loading.all_checks.Statement.{statement}
 use Rattle.machine.proofs.loading.all_checks.Tie as tie
 

@@ -4,7 +4,7 @@ use native.Mathlib.Omega.{arith}
 use borrow.Author.Needs.{needs}
 use denote.Ref.{now}
 use Rattle.sheet.specs.Reader.Laws.{handed-content}
-use Rattle.machine.proofs.Loadings.{record-inside, table-are}
+use Rattle.machine.proofs.LoadChecks.{record-inside, table-are}
 use Rattle.machine.proofs.loading.table_check.Statement.{statement}
 use Rattle.machine.proofs.loading.table_check.Tie as tie
 

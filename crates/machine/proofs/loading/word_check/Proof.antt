@@ -3,7 +3,7 @@
 use borrow.Author.Needs.{needs}
 use denote.Ref.{now}
 use Rattle.sheet.specs.Reader.Laws.{handed-content}
-use Rattle.machine.proofs.Loadings.{word-stops, word-goes-on, word-off, word-on}
+use Rattle.machine.proofs.LoadChecks.{word-stops, word-goes-on, word-off, word-on}
 use Rattle.machine.proofs.loading.word_check.Statement.{statement}
 use Rattle.machine.proofs.loading.word_check.Tie as tie
 

@@ -5,7 +5,8 @@ use Prim.Native.Nat.{_-_}
 use lib.ListN.{length}
 use denote.Ref.{now}
 use Rattle.machine.specs.Machine.{tabled}
-use Rattle.machine.proofs.Runs.{Alike, alike-start, alike-end, alike-differs, alike-next, cell-is}
+use Rattle.machine.specs.Machine.Laws.{tabled-next, tabled-answer}
+use Rattle.machine.proofs.Runs.{Alike, alike-start, alike-end, alike-differs, alike-next}
 use Rattle.machine.proofs.separation.agree.Statement.{statement}
 use Rattle.machine.proofs.separation.agree.Tie as tie
 
@@ -37,11 +38,10 @@ byte-requires-2 : tie.Need-byte-requires-2 Inv-loop μ-loop
 byte-requires-2 c κs = search needs
 
 returns : tie.Need-returns Inv-loop μ-loop
-unfolding tabled
 returns c =
     alike-differs _ _ _ _ (c .before .before .before .before .before .before .before .before .loop .inv) (c .before .before .before .before .before .before .before .loop-test .taken)
-    (cell-is _ (now (c .before .before .before .before .before .before .before .before .before .before .before .before .args .answer)) _ _ (c .before .before .byte .ensures) (c .before .before .before .before .before .entry .ensures))
-    (cell-is _ (now (c .before .before .before .before .before .before .before .before .before .before .before .before .args .answer)) _ _ (c .before .byte2 .ensures) (c .before .before .before .entry2 .ensures))
+    (tabled-answer _ _ _ (now (c .before .before .before .before .before .before .before .before .before .before .before .before .args .next)) (now (c .before .before .before .before .before .before .before .before .before .before .before .before .args .answer)) _ _ (c .before .before .byte .ensures) (c .before .before .before .before .before .entry .ensures))
+    (tabled-answer _ _ _ (now (c .before .before .before .before .before .before .before .before .before .before .before .before .args .next)) (now (c .before .before .before .before .before .before .before .before .before .before .before .before .args .answer)) _ _ (c .before .byte2 .ensures) (c .before .before .before .entry2 .ensures))
     (c .if1 .taken)
 
 byte-requires-3 : tie.Need-byte-requires-3 Inv-loop μ-loop
@@ -57,14 +57,13 @@ loop-less : tie.Need-loop-less Inv-loop μ-loop
 loop-less c = search needs
 
 loop-again : tie.Need-loop-again Inv-loop μ-loop
-unfolding tabled
 loop-again c =
     alike-next _ _ _ _ (c .before .before .before .before .before .before .before .before .before .before .loop .inv) (c .before .before .before .before .before .before .before .before .before .loop-test .taken)
-    (cell-is _ (now (c .before .before .before .before .before .before .before .before .before .before .before .before .before .before .args .answer)) _ _ (c .before .before .before .before .byte .ensures) (c .before .before .before .before .before .before .before .entry .ensures))
-    (cell-is _ (now (c .before .before .before .before .before .before .before .before .before .before .before .before .before .before .args .answer)) _ _ (c .before .before .before .byte2 .ensures) (c .before .before .before .before .before .entry2 .ensures))
+    (tabled-answer _ _ _ (now (c .before .before .before .before .before .before .before .before .before .before .before .before .before .before .args .next)) (now (c .before .before .before .before .before .before .before .before .before .before .before .before .before .before .args .answer)) _ _ (c .before .before .before .before .byte .ensures) (c .before .before .before .before .before .before .before .entry .ensures))
+    (tabled-answer _ _ _ (now (c .before .before .before .before .before .before .before .before .before .before .before .before .before .before .args .next)) (now (c .before .before .before .before .before .before .before .before .before .before .before .before .before .before .args .answer)) _ _ (c .before .before .before .byte2 .ensures) (c .before .before .before .before .before .entry2 .ensures))
     (c .before .before .if1 .left)
-    (cell-is _ (now (c .before .before .before .before .before .before .before .before .before .before .before .before .before .before .args .next)) _ _ (c .before .byte3 .ensures) (c .before .before .before .before .before .before .before .entry .ensures))
-    (cell-is _ (now (c .before .before .before .before .before .before .before .before .before .before .before .before .before .before .args .next)) _ _ (c .byte4 .ensures) (c .before .before .before .before .before .entry2 .ensures))
+    (tabled-next _ _ _ (now (c .before .before .before .before .before .before .before .before .before .before .before .before .before .before .args .next)) (now (c .before .before .before .before .before .before .before .before .before .before .before .before .before .before .args .answer)) _ _ (c .before .byte3 .ensures) (c .before .before .before .before .before .before .before .entry .ensures))
+    (tabled-next _ _ _ (now (c .before .before .before .before .before .before .before .before .before .before .before .before .before .before .args .next)) (now (c .before .before .before .before .before .before .before .before .before .before .before .before .before .before .args .answer)) _ _ (c .byte4 .ensures) (c .before .before .before .before .before .entry2 .ensures))
 
 returns-2 : tie.Need-returns-2 Inv-loop μ-loop
 returns-2 c = alike-end _ _ _ _ (c .before .loop .inv) (c .loop-test .left)

@@ -1,10 +1,10 @@
 -- How the code's checks, made one by one, are the first cause of the lists.
 -- Assumes nothing.
-use Prim.Native.Nat.{ℕ, _+_, _*_, _≤_}
+use Prim.Native.Nat.{ℕ, _+_, _≤_}
 use mathlib.Core.Path.{_≡_, sym, ap, ap₂, _∙_}
 use mathlib.Core.Bool.{Bool, true, false}
 use mathlib.Core.List.{List}
-use lib.ListN.{length, take}
+use lib.ListN.{length}
 use Rattle.sheet.specs.declared.check.Check.{Check}
 use Rattle.sheet.specs.declared.check.Check.the-variants.{Clear, Refused}
 use Rattle.sheet.specs.declared.record.Record.{Record}
@@ -15,11 +15,12 @@ use Rattle.sheet.specs.Format.{header}
 use Rattle.sheet.specs.Reader.{sheetCauses, needed, the, part, content}
 use Rattle.sheet.specs.Reader.Laws.{the-inside}
 use Rattle.machine.specs.declared.machine.Machine.{Machine}
-use Rattle.machine.specs.Limits.{mostEntries, mostWord}
-use Rattle.machine.specs.Machine.{Mealy, tabled, meaning, machineOf}
+use Rattle.machine.specs.Limits.{mostWord}
+use Rattle.machine.specs.Machine.{Mealy, meaning}
+use Rattle.machine.specs.Machine.Laws.{tabled-commands}
 use Rattle.machine.specs.Causes.{outside, cause3, cause4, cause5, commandsCause, cause6, machineIn, held, machineCauses, wordCauses, loadCauses}
 use Rattle.machine.specs.Causes.Laws.{byteCause, commands-cause-is}
-use Rattle.machine.specs.Causes.Lists.{machine-causes-are, word-causes-are, word-causes-none, load-causes-are, clear-table, held-is, machine-proper, word-distinguishes}
+use Rattle.machine.specs.Causes.Lists.{machine-causes-are, word-causes-are, word-causes-none, load-causes-are, clear-table, kind-reads, held-is, machine-proper, word-distinguishes}
 use Rattle.machine.specs.declared.loading.Loaded.{Loaded}
 use Rattle.machine.specs.Loading.{LoadedFrom}
 
@@ -47,8 +48,7 @@ table-are n s ke re pe te fe ie ce =
 -- causes 5 and 6, of the machine that the program holds
 module _ (s : List ℕ) (m : Machine) (h : meaning m ≡ machineIn s) where
   commands-same : m .k ≡ machineIn s .k
-  unfolding tabled
-  commands-same = ap (λ (x : Mealy). x .k) h
+  commands-same = sym (tabled-commands (m .n) (m .k) (m .start) (m .next) (m .answer)) ∙ ap (λ (x : Mealy). x .k) h
 
   five-is : {c : Check} → c ≡ commandsCause 5 mostWord (m .k) (the 2 s) (content 2 s) → c ≡ cause5 (machineIn s .k) (the 2 s) (content 2 s)
   five-is ce = ce ∙ ap (λ (x : ℕ). commandsCause 5 mostWord x (the 2 s) (content 2 s)) commands-same
@@ -92,16 +92,12 @@ module _ (n : Needs) (s : List ℕ) {t : Check} (te : t ≡ firstCause (machineC
       ∙ ap (λ (x : Check). x else firstCause (wordCauses (n .word) s)) (sym e ∙ te)
       ∙ sym (load-causes-are n s)
 
--- the machine that is loaded from what reading hands back
-pub loaded-is : (s : List ℕ) {p : List ℕ} {M : Mealy} → p ≡ content 1 s → M ≡ machineOf (take (2 + 2 * mostEntries) p) → M ≡ held s
-unfolding held
-loaded-is s pe e = e ∙ ap (λ (x : List ℕ). machineOf (take (2 + 2 * mostEntries) x)) pe
-
 -- all that loading promises
 pub loaded-from : (n : Needs) (s : List ℕ) (l : Loaded) → l .check ≡ firstCause (loadCauses n s) → meaning (l .machine) ≡ held s → l .word ≡ part 2 s → LoadedFrom n s l
 loaded-from n s l ce he we = record {
   check = ce;
   word = we;
+  reads = λ k m e. kind-reads n s (clear-table n s (sym ce ∙ e)) k m;
   machine = λ e. he ∙ held-is n s (clear-table n s (sym ce ∙ e));
   proper = λ e. machine-proper n s (clear-table n s (sym ce ∙ e));
   distinguishes = λ t e. word-distinguishes n s t (sym ce ∙ e);
