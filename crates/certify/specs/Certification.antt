@@ -1,0 +1,106 @@
+-- Certifying (document 01, "Causes" rows 7, 9 and 11, and "Recognition"): its causes, its answer, and what it writes. The definitions are shut:
+-- what judging may know of them are the service's contract and the laws in Certification.Laws. The twin's starred cases are computed in
+-- Certification.Twin.
+use Prim.Native.Nat.{ℕ, _+_, _*_}
+use mathlib.Core.Path.{_≡_}
+use mathlib.Core.Bool.{Bool, true, false, not, _&&_}
+use mathlib.Core.List.{List, [], _∷_, _++_}
+use lib.Dec.{ltb, eqb}
+use lib.ListN.{length, getD, drop}
+use Rattle.sheet.specs.declared.check.Check.{Check}
+use Rattle.sheet.specs.declared.check.Check.the-variants.{Clear, Refused}
+use Rattle.sheet.specs.declared.record.Record.{Record}
+use Rattle.sheet.specs.declared.reader.Needs.{Needs}
+use Rattle.sheet.specs.Check.{refusal_with_if_, _else_, firstCause, first}
+use Rattle.sheet.specs.Reader.{the, content}
+use Rattle.machine.specs.Limits.{mostSequence}
+use Rattle.machine.specs.Machine.{Mealy, stateAt}
+use Rattle.machine.specs.Causes.{commandsCause, machineIn, loadCauses}
+use Rattle.certify.specs.declared.answer.Answer.{Answer}
+use Rattle.certify.specs.declared.answer.Answer.the-variants.{Certified, Open, Refused as RefusedAnswer}
+use Rattle.certify.specs.declared.answer.Values.{Values}
+use Rattle.certify.specs.Marks.{some, marked, count, marks}
+pub mod Laws
+pub mod Twin
+
+-- ---- causes
+-- "certifying 1 to 3": the kinds needed
+abbrev pub certifyNeeds : Needs
+certifyNeeds = record { word = true; sequence = true; answers = false }
+
+-- "sequence": "as 5, for record 3"
+abbrev pub cause7 : ℕ → Record → List ℕ → Check
+cause7 k r xs = commandsCause 7 mostSequence k r xs
+
+-- "room": the "bytes needed"
+unfoldable pub cause9 : ℕ → ℕ → Check
+cause9 room bytes = refusal 9 with bytes if ltb room bytes
+
+-- "N+1 marks": the bytes that the marks of a sequence need
+abbrev pub markBytes : List ℕ → ℕ
+markBytes xs = length xs + 1
+
+-- causes 1 to 7, then 9, for a service that certifies, the kinds that it needs and the room for marks
+unfoldable pub certifyCauses : Needs → ℕ → List ℕ → List Check
+certifyCauses n room s = loadCauses n s ++ (cause7 (machineIn s .k) (the 3 s) (content 3 s) ∷ cause9 room (markBytes (content 3 s)) ∷ [])
+
+-- ---- what is certified
+-- "Entry (s, command) is verified if some place i has state s and that command, and i and i+1 are both recognised", by the marks
+pub verified : Mealy → List ℕ → List ℕ → ℕ → ℕ → Bool
+verified M xs ms s c =
+    some (length xs) (λ i. eqb (stateAt M xs i) s && (eqb (getD xs i 0) c && (marked ms i && marked ms (i + 1))))
+
+-- "not certified", with the open number: "0 if place 0 is not recognised, else 1+s·k+command for the least entry not verified", of marks
+pub openOf : Mealy → List ℕ → List ℕ → Check
+openOf M xs ms =
+    (refusal 11 with 0 if not (marked ms 0))
+    else first (M .n) (λ s. first (M .k) (λ c. refusal 11 with 1 + (s * M .k + c) if not (verified M xs ms s c)))
+
+-- of a word and a sequence
+pub cause11 : Mealy → List ℕ → List ℕ → Check
+cause11 M w xs = openOf M xs (marks M w xs)
+
+-- "certified, with the number of recognised places; or open, with that number and the open number"
+abbrev pub answerOf : Check → ℕ → Answer
+answerOf Clear recognised = Certified recognised
+answerOf (Refused cause number) recognised = Open recognised number
+
+-- the answer where nothing is refused
+pub outcome : Mealy → List ℕ → List ℕ → Answer
+outcome M w xs = answerOf (cause11 M w xs) (count (marks M w xs))
+
+-- ---- the service
+-- a refusal with its number and place, or else the answer
+abbrev pub refusedOr : Check → Answer → Answer
+refusedOr Clear a = a
+refusedOr (Refused number place) a = RefusedAnswer number place
+
+-- what certifying answers to a sheet and a room for marks
+pub certification : ℕ → List ℕ → Answer
+certification room s = refusedOr (firstCause (certifyCauses certifyNeeds room s)) (outcome (machineIn s) (content 2 s) (content 3 s))
+
+-- how marks are kept in a buffer: "marks 0 to N hold 1 for recognised, 0 otherwise; later bytes are unchanged"
+unfoldable pub kept : List ℕ → List ℕ → List ℕ
+kept ms buffer = ms ++ drop (length ms) buffer
+
+-- a refusal leaves "all buffers" as they were
+abbrev pub keptUnless : Check → List ℕ → List ℕ → List ℕ
+keptUnless Clear ms buffer = kept ms buffer
+keptUnless (Refused number place) ms buffer = buffer
+
+-- the lent buffer after certifying
+pub marksAfter : List ℕ → List ℕ → List ℕ
+marksAfter s buffer =
+    keptUnless (firstCause (certifyCauses certifyNeeds (length buffer) s)) (marks (machineIn s) (content 2 s) (content 3 s)) buffer
+
+-- what certifying a sheet promises: its answer, and every byte of the lent buffer
+pub record Certifies (s before after : List ℕ) (a : Answer) : Type 0 where
+  pub answer : a ≡ certification (length before) s
+  pub marks : after ≡ marksAfter s before
+
+-- "Class 1 to 11 is the refusal .. (a, b zero)", "110 certified: place the number recognised. 111 open: place that number, b the open number.
+-- Fields not named are zero."
+abbrev pub valuesOf : Answer → Values
+valuesOf (Certified recognised) = record { class = 110; place = recognised; a = 0; b = 0 }
+valuesOf (Open recognised number) = record { class = 111; place = recognised; a = 0; b = number }
+valuesOf (RefusedAnswer number place) = record { class = number; place = place; a = 0; b = 0 }

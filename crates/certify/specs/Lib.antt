@@ -1,0 +1,3 @@
+pub mod Recognition
+pub mod Marks
+pub mod Certification

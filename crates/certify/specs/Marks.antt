@@ -1,0 +1,65 @@
+-- The recognised places as marks, computed: one byte for each of the places 0 to N, 1 for recognised and 0 otherwise. Marks.Agreement shows that
+-- they are exactly those of Recognition, so that nothing here has to be believed. The definitions are shut.
+use Prim.Native.Nat.{ℕ, zero, suc, _+_, _-_}
+use mathlib.Core.Bool.{Bool, true, false, _&&_, _||_}
+use mathlib.Core.List.{List, [], _∷_}
+use lib.Dec.{leb, eqb}
+use lib.ListN.{length, getD, take, drop}
+use Rattle.machine.specs.Machine.{Mealy, stateAt}
+use Rattle.machine.specs.Causes.{same}
+pub mod Laws
+pub mod Agreement
+pub mod Twin
+
+-- whether a test holds of some number below n
+unfoldable pub some : ℕ → (ℕ → Bool) → Bool
+some zero f = false
+some (suc n) f = some n f || f n
+
+-- f 0, f 1, .., f (n - 1)
+unfoldable pub listed : ℕ → (ℕ → ℕ) → List ℕ
+listed zero f = []
+listed (suc n) f = f 0 ∷ listed n (λ i. f (suc i))
+
+-- "1 for recognised, 0 otherwise"
+abbrev pub mark : Bool → ℕ
+mark true = 1
+mark false = 0
+
+-- whether a place has its mark
+abbrev pub marked : List ℕ → ℕ → Bool
+marked ms p = eqb (getD ms p 0) 1
+
+-- the number of marks
+unfoldable pub count : List ℕ → ℕ
+count [] = 0
+count (m ∷ ms) = mark (eqb m 1) + count ms
+
+-- rule 1: whether the word stands at p
+pub stands : List ℕ → List ℕ → ℕ → Bool
+stands w xs p = leb (p + length w) (length xs) && same (take (length w) (drop p xs)) w
+
+-- rule 2: whether marked places p, q and p + m show that r = q + m is recognised
+pub shown : List ℕ → (ℕ → ℕ) → List ℕ → ℕ → Bool
+shown xs state ms r =
+    some (length xs) (λ p. some r (λ q.
+    marked ms p && (marked ms q && (eqb (state p) (state q) && (marked ms (p + (r - q)) && same (take (r - q) (drop p xs)) (take (r - q) (drop q xs)))))))
+
+-- the marks that rule 2 adds to these, once
+pub grown : List ℕ → (ℕ → ℕ) → List ℕ → List ℕ
+grown xs state ms = listed (length xs + 1) (λ r. mark (marked ms r || shown xs state ms r))
+
+-- growing until the number of marks no longer rises, at most so many times
+pub settled : ℕ → List ℕ → (ℕ → ℕ) → List ℕ → List ℕ
+settled zero xs state ms = ms
+settled (suc f) xs state ms =
+    let more = grown xs state ms in
+    elim (eqb (count more) (count ms)) [ true ↦ ms | false ↦ settled f xs state more ]
+
+-- the marks of the places that rule 1 gives, grown by rule 2
+pub closure : List ℕ → (ℕ → ℕ) → (ℕ → Bool) → List ℕ
+closure xs state base = settled (length xs + 1) xs state (listed (length xs + 1) (λ p. mark (base p)))
+
+-- "marks 0 to N hold 1 for recognised, 0 otherwise"
+pub marks : Mealy → List ℕ → List ℕ → List ℕ
+marks M w xs = closure xs (stateAt M xs) (stands w xs)

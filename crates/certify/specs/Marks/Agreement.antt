@@ -1,0 +1,275 @@
+-- The marks are those of the recognised places, and no other list is: the executable definition and the rules agree at every place.
+use Prim.Native.Nat.{ℕ, zero, suc, _+_, _-_, _≤_, _<_}
+use mathlib.Core.Path.{_≡_, refl, sym, ap, ap₂, _∙_}
+use mathlib.Core.Bool.{Bool, true, false, _&&_, _||_}
+use mathlib.Core.List.{List, [], _∷_}
+use mathlib.Core.Logic.{_⊎_, inl, inr, ⊎-elim}
+use native.Mathlib.Omega.{arith}
+use lib.Dec.{leb, eqb}
+use lib.ListN.{length, getD, take, drop, length-take, length-drop}
+use lib.Seq.{ext-getD}
+use borrow.Author.Tests.{le-leb, leb-true, eq-eqb, eqb-true, eqb-false}
+use Rattle.sheet.specs.Check.Laws.{both-true}
+use Rattle.machine.specs.Machine.{Mealy, stateAt}
+use Rattle.machine.specs.Causes.{same}
+use Rattle.machine.specs.Causes.Separation.{same-refl, same-equal}
+use Rattle.certify.specs.Recognition.{Stands, Closure, rule1, rule2, Recognised}
+use Rattle.certify.specs.Recognition.Laws.{by-rule1, by-rule2, smallest, recognised-inside}
+use Rattle.certify.specs.Marks.{listed, mark, marked, count, stands, shown, grown, settled, closure, marks}
+use Rattle.certify.specs.Marks.Laws.{either-true, or-left, or-right, some-found, some-holds, listed-length, listed-at, listed-few, true-or-false, marked-true, true-marked, mark-true, mark-few, marked-inside, count-most, count-below, count-same}
+
+-- ---- rule 1
+pub stands-true : (w xs : List ℕ) (p : ℕ) → stands w xs p ≡ true → Stands w xs p
+unfolding stands
+stands-true w xs p e =
+    let h = both-true (leb (p + length w) (length xs)) (same (take (length w) (drop p xs)) w) e in
+    record { inside = leb-true _ _ (h .0); stands = same-equal _ _ (h .1) }
+
+pub true-stands : (w xs : List ℕ) (p : ℕ) → Stands w xs p → stands w xs p ≡ true
+unfolding stands
+true-stands w xs p h = rw (le-leb _ _ (h .inside), h .stands) (same-refl w)
+
+-- ---- rule 2
+module _ (xs : List ℕ) (state : ℕ → ℕ) (ms : List ℕ) where
+  -- rule 2 on marked places
+  pub record Shown (r : ℕ) : Type 0 where
+    pub p : ℕ
+    pub q : ℕ
+    pub m : ℕ
+    pub some : 1 ≤ m
+    pub p-marked : getD ms p 0 ≡ 1
+    pub q-marked : getD ms q 0 ≡ 1
+    pub states : state p ≡ state q
+    pub end-marked : getD ms (p + m) 0 ≡ 1
+    pub commands : take m (drop p xs) ≡ take m (drop q xs)
+    pub at : r ≡ q + m
+
+  shown-true : (r : ℕ) → shown xs state ms r ≡ true → Shown r
+  unfolding shown
+  shown-true r e =
+      let a = some-found _ _ e in
+      let b = some-found _ _ (a .2) in
+      let m1 = both-true _ _ (b .2) in
+      let m2 = both-true _ _ (m1 .1) in
+      let m3 = both-true _ _ (m2 .1) in
+      let m4 = both-true _ _ (m3 .1) in
+      record {
+        p = a .0;
+        q = b .0;
+        m = r - b .0;
+        some = omega (arith, b .1);
+        p-marked = marked-true ms _ (m1 .0);
+        q-marked = marked-true ms _ (m2 .0);
+        states = eqb-true _ _ (m3 .0);
+        end-marked = marked-true ms _ (m4 .0);
+        commands = same-equal _ _ (m4 .1);
+        at = omega (arith, b .1);
+      }
+
+  true-shown : (r : ℕ) → length ms ≡ length xs + 1 → Shown r → shown xs state ms r ≡ true
+  unfolding shown
+  true-shown r long h =
+      let e : r - h .q ≡ h .m = omega arith in
+      let inside = marked-inside ms (h .p + h .m) (h .end-marked) in
+      some-holds _ _ (h .p) (omega (arith, inside)) (some-holds _ _ (h .q) (omega arith) (rw e
+      (rw (true-marked ms (h .p) (h .p-marked), true-marked ms (h .q) (h .q-marked), eq-eqb _ _ (h .states), true-marked ms (h .p + h .m) (h .end-marked), h .commands) (same-refl (take (h .m) (drop (h .q) xs))))))
+
+  grown-length : length (grown xs state ms) ≡ length xs + 1
+  unfolding grown
+  grown-length = listed-length _ _
+
+  grown-few : (r : ℕ) → getD (grown xs state ms) r 0 ≤ 1
+  unfolding grown
+  grown-few r = listed-few _ _ (λ i. mark-few (marked ms i || shown xs state ms i)) r
+
+  grown-at : (r : ℕ) → r ≤ length xs → getD (grown xs state ms) r 0 ≡ mark (marked ms r || shown xs state ms r)
+  unfolding grown
+  grown-at r l = listed-at _ _ r (omega arith)
+
+  grown-keeps : (p : ℕ) → p ≤ length xs → getD ms p 0 ≡ 1 → getD (grown xs state ms) p 0 ≡ 1
+  grown-keeps p l e = grown-at p l ∙ ap mark (or-left _ (true-marked ms p e))
+
+  grown-adds : (r : ℕ) → r ≤ length xs → length ms ≡ length xs + 1 → Shown r → getD (grown xs state ms) r 0 ≡ 1
+  grown-adds r l long h = grown-at r l ∙ ap mark (or-right (marked ms r) (true-shown r long h))
+
+  grown-from : (r : ℕ) → getD (grown xs state ms) r 0 ≡ 1 → (getD ms r 0 ≡ 1) ⊎ (Shown r)
+  grown-from r e =
+      let l : r ≤ length xs = omega (arith, marked-inside (grown xs state ms) r e, grown-length) in
+      ⊎-elim (λ (h : marked ms r ≡ true). inl (marked-true ms r h))
+      (λ (h : shown xs state ms r ≡ true). inr (shown-true r h))
+      (either-true (marked ms r) (shown xs state ms r) (mark-true _ (sym (grown-at r l) ∙ e)))
+
+-- ---- growing until nothing is added
+-- a list of marks of all places that rule 2 adds nothing to
+Stable : List ℕ → (ℕ → ℕ) → List ℕ → Type 0
+Stable xs state ms = (p : ℕ) → getD (grown xs state ms) p 0 ≡ 1 → getD ms p 0 ≡ 1
+
+module _ (xs : List ℕ) (state : ℕ → ℕ) where
+  settled-ends : (f : ℕ) (ms : List ℕ) → eqb (count (grown xs state ms)) (count ms) ≡ true → settled (suc f) xs state ms ≡ ms
+  unfolding settled
+  settled-ends f ms e = rw (settled, e)
+
+  settled-on : (f : ℕ) (ms : List ℕ) → eqb (count (grown xs state ms)) (count ms) ≡ false → settled (suc f) xs state ms ≡ settled f xs state (grown xs state ms)
+  unfolding settled
+  settled-on f ms e = rw (settled, e)
+
+  -- what holds of a list and goes on to the grown one holds in the end
+  settled-has : (P : List ℕ → Type 0) → ((ms : List ℕ) → P ms → P (grown xs state ms)) → (f : ℕ) (ms : List ℕ) → P ms → P (settled f xs state ms)
+  unfolding settled
+  settled-has P on zero ms h = h
+  settled-has P on (suc f) ms h =
+      ⊎-elim (λ (e : eqb (count (grown xs state ms)) (count ms) ≡ true). rw (settled-ends f ms e) h)
+      (λ (e : eqb (count (grown xs state ms)) (count ms) ≡ false). rw (settled-on f ms e) (settled-has P on f (grown xs state ms) (on ms h)))
+      (true-or-false (eqb (count (grown xs state ms)) (count ms)))
+
+  module _ (ms : List ℕ) (long : length ms ≡ length xs + 1) where
+    grown-above : (p : ℕ) → getD ms p 0 ≡ 1 → getD (grown xs state ms) p 0 ≡ 1
+    grown-above p e = grown-keeps xs state ms p (omega (arith, marked-inside ms p e)) e
+
+    full-stable : count (grown xs state ms) ≤ count ms → Stable xs state ms
+    unfolding Stable
+    full-stable h = count-same ms (grown xs state ms) (omega (arith, grown-length xs state ms)) grown-above h
+
+  -- as many turns as there are places are enough
+  settled-stable : (f : ℕ) (ms : List ℕ) → length ms ≡ length xs + 1 → length xs + 1 ≤ f + count ms → Stable xs state (settled f xs state ms)
+  unfolding settled
+  settled-stable zero ms long enough = full-stable ms long (omega (arith, count-most (grown xs state ms), grown-length xs state ms))
+  settled-stable (suc f) ms long enough =
+      ⊎-elim (λ (e : eqb (count (grown xs state ms)) (count ms) ≡ true).
+        rw (settled-ends f ms e) (full-stable ms long (omega (arith, eqb-true (count (grown xs state ms)) (count ms) e))))
+      (λ (e : eqb (count (grown xs state ms)) (count ms) ≡ false).
+        let more = grown-length xs state ms in
+        let rise = count-below ms (grown xs state ms) (omega arith) (grown-above ms long) in
+        rw (settled-on f ms e) (settled-stable f (grown xs state ms) more (omega (arith, eqb-false (count (grown xs state ms)) (count ms) e))))
+      (true-or-false (eqb (count (grown xs state ms)) (count ms)))
+
+-- ---- the smallest set, as marks
+-- one mark for each place, 0 or 1, and 1 exactly in the smallest set
+pub record Exact (xs : List ℕ) (state : ℕ → ℕ) (Base : ℕ → Type 0) (ms : List ℕ) : Type 0 where
+  pub long : length ms ≡ length xs + 1
+  pub few : (p : ℕ) → getD ms p 0 ≤ 1
+  pub sound : (p : ℕ) → getD ms p 0 ≡ 1 → Closure xs state Base p
+  pub complete : (p : ℕ) → p ≤ length xs → Closure xs state Base p → getD ms p 0 ≡ 1
+
+-- the m commands from p are as many as those from q, so that p + m is a place where q + m is
+equal-inside : (xs : List ℕ) (p q m : ℕ) → 1 ≤ m → q + m ≤ length xs → take m (drop p xs) ≡ take m (drop q xs) → p + m ≤ length xs
+equal-inside xs p q m l i e =
+    let a = simp (length-take, length-drop) at (ap length e) in
+    omega (arith, a)
+
+module _ (xs : List ℕ) (state : ℕ → ℕ) (Base : ℕ → Type 0) where
+  -- what has both rules contains the smallest set
+  pub closed-complete : (ms : List ℕ) → length ms ≡ length xs + 1 → ((p : ℕ) → p ≤ length xs → Base p → getD ms p 0 ≡ 1)
+      → ((r : ℕ) → r ≤ length xs → Shown xs state ms r → getD ms r 0 ≡ 1)
+      → (p : ℕ) → p ≤ length xs → Closure xs state Base p → getD ms p 0 ≡ 1
+  closed-complete ms long one two p l (rule1 h) = one p l h
+  closed-complete ms long one two r l (rule2 p q m ml hp hq e hm i same at) =
+      let inside = equal-inside xs p q m ml i same in
+      two r l (record {
+        p = p;
+        q = q;
+        m = m;
+        some = ml;
+        p-marked = closed-complete ms long one two p (omega arith) hp;
+        q-marked = closed-complete ms long one two q (omega arith) hq;
+        states = e;
+        end-marked = closed-complete ms long one two (p + m) inside hm;
+        commands = same;
+        at = at;
+      })
+
+  -- there is one such list
+  pub exact-one : (a b : List ℕ) → Exact xs state Base a → Exact xs state Base b → a ≡ b
+  exact-one a b ha hb = ext-getD 0 a b (ha .long ∙ sym (hb .long)) (λ p l. each p (omega (arith, ha .long)))
+    where
+      each : (p : ℕ) → p ≤ length xs → getD a p 0 ≡ getD b p 0
+      each p l =
+          ⊎-elim (λ (e : eqb (getD a p 0) 1 ≡ true).
+            let x = eqb-true _ _ e in x ∙ sym (hb .complete p l (ha .sound p x)))
+          (λ (e : eqb (getD a p 0) 1 ≡ false).
+            ⊎-elim (λ (d : eqb (getD b p 0) 1 ≡ true).
+              absurd (eqb-false _ _ e (ha .complete p l (hb .sound p (eqb-true _ _ d)))))
+            (λ (d : eqb (getD b p 0) 1 ≡ false).
+              let u = eqb-false (getD a p 0) 1 e in
+              let v = eqb-false (getD b p 0) 1 d in
+              omega (arith, ha .few p, hb .few p))
+            (true-or-false (eqb (getD b p 0) 1)))
+          (true-or-false (eqb (getD a p 0) 1))
+
+  module _ (base : ℕ → Bool) (from : (p : ℕ) → base p ≡ true → Base p) (to : (p : ℕ) → Base p → base p ≡ true) where
+    -- what stays so while a list grows
+    record Growing (ms : List ℕ) : Type 0 where
+      long : length ms ≡ length xs + 1
+      few : (p : ℕ) → getD ms p 0 ≤ 1
+      sound : (p : ℕ) → getD ms p 0 ≡ 1 → Closure xs state Base p
+      holds : (p : ℕ) → p ≤ length xs → Base p → getD ms p 0 ≡ 1
+
+    shown-sound : (ms : List ℕ) (r : ℕ) → r ≤ length xs → ((p : ℕ) → getD ms p 0 ≡ 1 → Closure xs state Base p) → Shown xs state ms r → Closure xs state Base r
+    shown-sound ms r l h s =
+        rule2 (s .p) (s .q) (s .m) (s .some) (h _ (s .p-marked)) (h _ (s .q-marked)) (s .states) (h _ (s .end-marked)) (omega arith) (s .commands) (s .at)
+
+    grows : (ms : List ℕ) → Growing ms → Growing (grown xs state ms)
+    grows ms h = record {
+        long = grown-length xs state ms;
+        few = grown-few xs state ms;
+        sound = λ p e.
+          ⊎-elim (h .sound p)
+          (shown-sound ms p (omega (arith, marked-inside (grown xs state ms) p e, grown-length xs state ms)) (h .sound))
+          (grown-from xs state ms p e);
+        holds = λ p l b. grown-keeps xs state ms p l (h .holds p l b);
+      }
+
+    begun : Growing (listed (length xs + 1) (λ p. mark (base p)))
+    begun = record {
+        long = listed-length _ _;
+        few = listed-few _ _ (λ i. mark-few (base i));
+        sound = λ p e.
+          let l = marked-inside (listed (length xs + 1) (λ i. mark (base i))) p e in
+          rule1 (from p (mark-true (base p) (sym (listed-at (length xs + 1) (λ i. mark (base i)) p (omega (arith, listed-length (length xs + 1) (λ i. mark (base i))))) ∙ e)));
+        holds = λ p l b. listed-at (length xs + 1) (λ i. mark (base i)) p (omega arith) ∙ ap mark (to p b);
+      }
+
+    pub closure-exact : Exact xs state Base (closure xs state base)
+    unfolding closure Stable
+    closure-exact =
+        let start = listed (length xs + 1) (λ i. mark (base i)) in
+        let h = settled-has xs state Growing grows (length xs + 1) start begun in
+        let still = settled-stable xs state (length xs + 1) start (begun .long) (omega arith) in
+        record {
+          long = h .long;
+          few = h .few;
+          sound = h .sound;
+          complete = closed-complete _ (h .long) (h .holds) (λ r l s. still r (grown-adds xs state _ r l (h .long) s));
+        }
+
+-- ---- the marks of a sequence
+module _ (M : Mealy) (w xs : List ℕ) where
+  pub marks-exact : Exact xs (stateAt M xs) (Stands w xs) (marks M w xs)
+  unfolding marks
+  marks-exact = closure-exact xs (stateAt M xs) (Stands w xs) (stands w xs) (stands-true w xs) (true-stands w xs)
+
+  pub marks-unique : (ms : List ℕ) → Exact xs (stateAt M xs) (Stands w xs) ms → ms ≡ marks M w xs
+  marks-unique ms h = exact-one xs (stateAt M xs) (Stands w xs) ms (marks M w xs) h marks-exact
+
+  pub marks-length : length (marks M w xs) ≡ length xs + 1
+  marks-length = marks-exact .long
+
+  -- ---- "1 for recognised, 0 otherwise", both directions
+  to-recognised : (p : ℕ) → Closure xs (stateAt M xs) (Stands w xs) p → Recognised M w xs p
+  to-recognised p (rule1 h) = by-rule1 M w xs p h
+  to-recognised r (rule2 p q m ml hp hq e hm i same at) =
+      rw at (by-rule2 M w xs p q m ml (to-recognised p hp) (to-recognised q hq) e (to-recognised (p + m) hm) i same)
+
+  from-recognised : (p : ℕ) → Recognised M w xs p → Closure xs (stateAt M xs) (Stands w xs) p
+  from-recognised =
+      smallest M w xs (Closure xs (stateAt M xs) (Stands w xs)) (λ p h. rule1 h)
+      (λ p q m ml rp hp rq hq e rm hm i same. rule2 p q m ml hp hq e hm i same refl)
+
+  pub marked-recognised : (p : ℕ) → getD (marks M w xs) p 0 ≡ 1 → Recognised M w xs p
+  marked-recognised p e = to-recognised p (marks-exact .sound p e)
+
+  pub recognised-marked : (p : ℕ) → Recognised M w xs p → getD (marks M w xs) p 0 ≡ 1
+  recognised-marked p h = marks-exact .complete p (recognised-inside M w xs p h) (from-recognised p h)
+
+  pub marks-few : (p : ℕ) → getD (marks M w xs) p 0 ≤ 1
+  marks-few = marks-exact .few

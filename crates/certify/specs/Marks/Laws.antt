@@ -1,0 +1,135 @@
+-- The laws of lists of marks: tests over a range, lists by their elements, and the number of marks.
+use Prim.Native.Nat.{ℕ, zero, suc, _+_, _-_, _≤_, _<_}
+use mathlib.Core.Path.{_≡_, refl, sym, ap, ap₂, _∙_}
+use mathlib.Core.Bool.{Bool, true, false, _&&_, _||_}
+use mathlib.Core.List.{List, [], _∷_}
+use mathlib.Core.Logic.{_⊎_, inl, inr, ⊎-elim}
+use native.Mathlib.Omega.{arith}
+use native.Mathlib.Nat.{le-of-suc-le-suc, eq-or-lt-of-le, not-suc-le-zero}
+use lib.Dec.{leb, eqb}
+use lib.ListN.{length, getD, take, drop, List·getD-eq-default, length-take, length-drop}
+use lib.Seq.{ext-getD}
+use borrow.Author.Tests.{le-leb, leb-true, eq-eqb, eqb-true, eqb-false}
+use Rattle.sheet.specs.Check.Laws.{both-true}
+use Rattle.machine.specs.Machine.{Mealy, stateAt}
+use Rattle.machine.specs.Causes.{same}
+use Rattle.machine.specs.Causes.Separation.{same-refl, same-equal}
+use Rattle.certify.specs.Recognition.{Stands, Closure, rule1, rule2, Recognised}
+use Rattle.certify.specs.Marks.{some, listed, mark, marked, count, stands, shown, grown, settled, closure, marks}
+
+-- ---- tests
+pub either-true : (a b : Bool) → (a || b) ≡ true → (a ≡ true) ⊎ (b ≡ true)
+either-true true b e = inl refl
+either-true false b e = inr e
+
+pub true-or-false : (b : Bool) → (b ≡ true) ⊎ (b ≡ false)
+true-or-false true = inl refl
+true-or-false false = inr refl
+
+pub or-left : {a : Bool} (b : Bool) → a ≡ true → (a || b) ≡ true
+or-left b e = rw e
+
+pub or-right : (a : Bool) {b : Bool} → b ≡ true → (a || b) ≡ true
+or-right true e = refl
+or-right false e = e
+
+pub some-found : (n : ℕ) (f : ℕ → Bool) → some n f ≡ true → (i : ℕ) × (i < n) × (f i ≡ true)
+unfolding some
+some-found zero f e = let z : _≡_ {A = ℕ} 0 1 = cc in absurd (omega arith)
+some-found (suc n) f e =
+    ⊎-elim (λ (h : some n f ≡ true). let r = some-found n f h in (r .0, omega (arith, r .1), r .2))
+    (λ (h : f n ≡ true). (n, omega arith, h))
+    (either-true (some n f) (f n) e)
+
+pub some-holds : (n : ℕ) (f : ℕ → Bool) (i : ℕ) → i < n → f i ≡ true → some n f ≡ true
+unfolding some
+some-holds zero f i l e = absurd (not-suc-le-zero l)
+some-holds (suc n) f i l e =
+    ⊎-elim (λ (q : i ≡ n). or-right (some n f) (rw (← q) e))
+    (λ (q : i < n). or-left (f n) (some-holds n f i q e))
+    (eq-or-lt-of-le (le-of-suc-le-suc l))
+
+-- ---- lists by their elements
+pub listed-length : (n : ℕ) (f : ℕ → ℕ) → length (listed n f) ≡ n
+unfolding listed
+listed-length zero f = refl
+listed-length (suc n) f = ap suc (listed-length n (λ i. f (suc i)))
+
+pub listed-at : (n : ℕ) (f : ℕ → ℕ) (i : ℕ) → i < n → getD (listed n f) i 0 ≡ f i
+unfolding listed
+listed-at zero f i l = absurd (not-suc-le-zero l)
+listed-at (suc n) f zero l = refl
+listed-at (suc n) f (suc i) l = listed-at n (λ j. f (suc j)) i (le-of-suc-le-suc l)
+
+pub listed-few : (n : ℕ) (f : ℕ → ℕ) → ((i : ℕ) → f i ≤ 1) → (i : ℕ) → getD (listed n f) i 0 ≤ 1
+unfolding listed
+listed-few zero f h i = omega arith
+listed-few (suc n) f h zero = h 0
+listed-few (suc n) f h (suc i) = listed-few n (λ j. f (suc j)) (λ j. h (suc j)) i
+
+-- ---- marks
+pub marked-true : (ms : List ℕ) (p : ℕ) → marked ms p ≡ true → getD ms p 0 ≡ 1
+marked-true ms p e = eqb-true _ _ e
+
+pub true-marked : (ms : List ℕ) (p : ℕ) → getD ms p 0 ≡ 1 → marked ms p ≡ true
+true-marked ms p e = eq-eqb _ _ e
+
+pub mark-true : (b : Bool) → mark b ≡ 1 → b ≡ true
+mark-true true e = refl
+mark-true false e = let z : _≡_ {A = ℕ} 0 1 = e in absurd (omega arith)
+
+pub mark-few : (b : Bool) → mark b ≤ 1
+mark-few true = omega arith
+mark-few false = omega arith
+
+-- a place that is marked is among the places
+pub marked-inside : (ms : List ℕ) (p : ℕ) → getD ms p 0 ≡ 1 → p < length ms
+marked-inside [] p e = let z : _≡_ {A = ℕ} 0 1 = e in absurd (omega arith)
+marked-inside (m ∷ ms) zero e = omega arith
+marked-inside (m ∷ ms) (suc p) e = let h = marked-inside ms p e in omega arith
+
+-- ---- the number of marks
+pub count-most : (a : List ℕ) → count a ≤ length a
+unfolding count
+count-most [] = omega arith
+count-most (m ∷ a) = omega (arith, mark-few (eqb m 1), count-most a)
+
+-- of two lists of one length, the second marked wherever the first is
+module _ where
+  shifted : (m : ℕ) (a : List ℕ) (n : ℕ) (b : List ℕ) → ((p : ℕ) → getD (m ∷ a) p 0 ≡ 1 → getD (n ∷ b) p 0 ≡ 1) → (p : ℕ) → getD a p 0 ≡ 1 → getD b p 0 ≡ 1
+  shifted m a n b h p e = h (suc p) e
+
+  mark-below : (m n : ℕ) → (m ≡ 1 → n ≡ 1) → mark (eqb m 1) ≤ mark (eqb n 1)
+  mark-below m n h = go (eqb m 1) refl
+    where
+      go : (t : Bool) → eqb m 1 ≡ t → mark (eqb m 1) ≤ mark (eqb n 1)
+      go true e = rw (e, eq-eqb n 1 (h (eqb-true m 1 e))) (omega arith)
+      go false e = rw e (omega arith)
+
+  pub count-below : (a b : List ℕ) → length a ≡ length b → ((p : ℕ) → getD a p 0 ≡ 1 → getD b p 0 ≡ 1) → count a ≤ count b
+  unfolding count
+  count-below [] b l h = omega arith
+  count-below (m ∷ a) [] l h = let z : ⊥ = omega arith in absurd z
+  count-below (m ∷ a) (n ∷ b) l h =
+      let k : length a ≡ length b = omega arith in
+      omega (arith, mark-below m n (h 0), count-below a b k (shifted m a n b h))
+
+  pub count-same : (a b : List ℕ) → length a ≡ length b → ((p : ℕ) → getD a p 0 ≡ 1 → getD b p 0 ≡ 1) → count b ≤ count a
+      → (p : ℕ) → getD b p 0 ≡ 1 → getD a p 0 ≡ 1
+  unfolding count
+  count-same [] [] l h c p e = e
+  count-same [] (n ∷ b) l h c p e = let z : ⊥ = omega arith in absurd z
+  count-same (m ∷ a) [] l h c p e = let z : ⊥ = omega arith in absurd z
+  count-same (m ∷ a) (n ∷ b) l h c zero e = go (eqb m 1) refl
+    where
+      go : (t : Bool) → eqb m 1 ≡ t → m ≡ 1
+      go true q = eqb-true m 1 q
+      go false q =
+          let k : length a ≡ length b = omega arith in
+          let u : mark (eqb n 1) ≡ 1 = ap mark (eq-eqb n 1 e) in
+          let v : mark (eqb m 1) ≡ 0 = ap mark q in
+          let z : ⊥ = omega (arith, count-below a b k (shifted m a n b h)) in
+          absurd z
+  count-same (m ∷ a) (n ∷ b) l h c (suc p) e =
+      let k : length a ≡ length b = omega arith in
+      count-same a b k (shifted m a n b h) (omega (arith, mark-below m n (h 0))) p e

@@ -1,0 +1,44 @@
+-- Recognition as its rules read (document 01, "Recognition"; source document 002, section 2.4): the recognised places, verified entries and
+-- certified sequences. M is the machine, w the word, xs the sequence. The definitions are shut: what is known of them outside are the laws in
+-- Recognition.Laws.
+use Prim.Native.Nat.{ℕ, _+_, _≤_, _<_}
+use mathlib.Core.Path.{_≡_}
+use mathlib.Core.List.{List}
+use lib.ListN.{length, getD, take, drop}
+use Rattle.machine.specs.Machine.{Mealy, stateAt}
+pub mod Laws
+
+-- "the whole word stands in the sequence at p (p+L at most N)"
+pub record Stands (w xs : List ℕ) (p : ℕ) : Type 0 where
+  pub inside : p + length w ≤ length xs
+  pub stands : take (length w) (drop p xs) ≡ w
+
+-- "the smallest set with" rules 1 and 2, of a sequence, the states of its places, and the places that rule 1 gives
+pub data Closure (xs : List ℕ) (state : ℕ → ℕ) (Base : ℕ → Type 0) : ℕ → Type 0 where
+  rule1 : {p : ℕ} → Base p → Closure xs state Base p
+  -- "q+m is recognised if m is at least 1, p and q are recognised places with the same state, p+m is recognised, and the m commands from p
+  -- equal the m commands from q"
+  rule2 : {r : ℕ} (p q m : ℕ) → 1 ≤ m
+    → Closure xs state Base p → Closure xs state Base q → state p ≡ state q
+    → Closure xs state Base (p + m) → q + m ≤ length xs
+    → take m (drop p xs) ≡ take m (drop q xs)
+    → r ≡ q + m → Closure xs state Base r
+
+-- place p is recognised: by rule 1 it is d-recognised, by rule 2 t-recognised
+pub Recognised : Mealy → List ℕ → List ℕ → ℕ → Type 0
+Recognised M w xs = Closure xs (stateAt M xs) (Stands w xs)
+
+-- "Entry (s, command) is verified if some place i has state s and that command, and i and i+1 are both recognised": the field's edge
+-- verification
+pub record Verified (M : Mealy) (w xs : List ℕ) (s c : ℕ) : Type 0 where
+  pub place : ℕ
+  pub inside : place < length xs
+  pub state : stateAt M xs place ≡ s
+  pub command : getD xs place 0 ≡ c
+  pub before : Recognised M w xs place
+  pub after : Recognised M w xs (place + 1)
+
+-- "A sequence is certified if place 0 is recognised and all n·k entries are verified": it is then a checking sequence
+pub record Certified (M : Mealy) (w xs : List ℕ) : Type 0 where
+  pub start : Recognised M w xs 0
+  pub entries : (s c : ℕ) → s < M .n → c < M .k → Verified M w xs s c

@@ -1,0 +1,49 @@
+-- The laws of recognition: what building and judging may know of it.
+use Prim.Native.Nat.{ℕ, _+_, _≤_}
+use mathlib.Core.Path.{_≡_, refl, sym, ap, ap₂, _∙_}
+use mathlib.Core.List.{List, _++_}
+use native.Mathlib.Omega.{arith}
+use lib.ListN.{length, take, drop, length-take, length-drop}
+use lib.Seq.{take-add}
+use Rattle.machine.specs.Machine.{Mealy, run, stateAt}
+use Rattle.machine.specs.Machine.Laws.{run-append}
+use Rattle.certify.specs.Recognition.{Stands, Closure, rule1, rule2, Recognised}
+
+module _ (M : Mealy) (w xs : List ℕ) where
+  -- ---- the rules
+  pub by-rule1 : (p : ℕ) → Stands w xs p → Recognised M w xs p
+  unfolding Recognised
+  by-rule1 p h = rule1 h
+
+  pub by-rule2 : (p q m : ℕ) → 1 ≤ m → Recognised M w xs p → Recognised M w xs q → stateAt M xs p ≡ stateAt M xs q → Recognised M w xs (p + m)
+      → q + m ≤ length xs → take m (drop p xs) ≡ take m (drop q xs) → Recognised M w xs (q + m)
+  unfolding Recognised
+  by-rule2 p q m l hp hq e hm i same = rule2 p q m l hp hq e hm i same refl
+
+  -- the smallest set: whatever has both rules holds of every recognised place
+  pub smallest : (P : ℕ → Type 0) → ((p : ℕ) → Stands w xs p → P p)
+      → ((p q m : ℕ) → 1 ≤ m → Recognised M w xs p → P p → Recognised M w xs q → P q → stateAt M xs p ≡ stateAt M xs q
+      → Recognised M w xs (p + m) → P (p + m) → q + m ≤ length xs → take m (drop p xs) ≡ take m (drop q xs) → P (q + m))
+      → (p : ℕ) → Recognised M w xs p → P p
+  unfolding Recognised
+  smallest P one two p (rule1 h) = one p h
+  smallest P one two r (rule2 p q m l hp hq e hm i same at) =
+      rw at (two p q m l hp (smallest P one two p hp) hq (smallest P one two q hq) e hm (smallest P one two (p + m) hm) i same)
+
+  -- a recognised place is a place of the sequence
+  pub recognised-inside : (p : ℕ) → Recognised M w xs p → p ≤ length xs
+  recognised-inside = smallest (λ p. p ≤ length xs) (λ p h. omega (arith, h .inside)) (λ p q m ml rp hp rq hq e rm hm i same. i)
+
+  -- equal commands from equal states lead to equal states
+  state-along : (p m : ℕ) → stateAt M xs (p + m) ≡ run M (stateAt M xs p) (take m (drop p xs))
+  unfolding stateAt
+  state-along p m = ap (run M (M .start)) (take-add p m xs) ∙ run-append M (M .start) (take p xs) (take m (drop p xs))
+
+  pub states-agree : (p q m : ℕ) → stateAt M xs p ≡ stateAt M xs q → take m (drop p xs) ≡ take m (drop q xs) → stateAt M xs (p + m) ≡ stateAt M xs (q + m)
+  states-agree p q m e same = state-along p m ∙ ap₂ (run M) e same ∙ sym (state-along q m)
+
+  -- the state of a recognised place has a place where the word stands
+  pub recognised-shown : (p : ℕ) → Recognised M w xs p → (i : ℕ) × (Stands w xs i) × (stateAt M xs i ≡ stateAt M xs p)
+  recognised-shown =
+      smallest (λ p. (i : ℕ) × (Stands w xs i) × (stateAt M xs i ≡ stateAt M xs p)) (λ p h. (p, h, refl))
+      (λ p q m ml rp hp rq hq e rm hm i same. (hm .0, hm .1, hm .2 ∙ states-agree p q m e same))

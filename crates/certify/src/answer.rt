@@ -1,0 +1,59 @@
+// What certifying answers, and document 01's numbers for it.
+ghost use mathlib.Core.Path.{_≡_};
+ghost use Rattle.certify.specs.Certification.{valuesOf, answerOf};
+use sheet::Check;
+
+// Certified with the number of recognised places, open with that number and the open number, or
+// refused with number and place.
+pub enum Answer {
+    Certified { recognised: usize },
+    Open { recognised: usize, number: usize },
+    Refused { number: u8, place: usize },
+}
+
+// The fields of the capture rig's result.
+pub struct Values {
+    pub class: u8,
+    pub place: usize,
+    pub a: usize,
+    pub b: usize,
+}
+
+// Class, place, a and b of an answer.
+pub fn values_of(answer: Answer) -> Values
+    ensures { λ r. ⌜ r ≡ valuesOf answer ⌝ }
+{
+    match answer {
+        Answer::Certified { recognised } => Values {
+            class: 110,
+            place: recognised,
+            a: 0,
+            b: 0,
+        },
+        Answer::Open { recognised, number } => Values {
+            class: 111,
+            place: recognised,
+            a: 0,
+            b: number,
+        },
+        Answer::Refused { number, place } => Values {
+            class: number,
+            place,
+            a: 0,
+            b: 0,
+        },
+    }
+}
+
+// The answer of cause 11 and the number of recognised places.
+pub fn answer_of(check: Check, recognised: usize) -> Answer
+    ensures { λ r. ⌜ r ≡ answerOf check recognised ⌝ }
+{
+    match check {
+        Check::Clear => Answer::Certified { recognised },
+        Check::Refused { number: _, place } => Answer::Open {
+            recognised,
+            number: place,
+        },
+    }
+}

@@ -1,0 +1,11 @@
+// Recognition and certification of a sequence: refusals 7 and 9, the marks, and what is certified.
+mod answer;
+mod certify;
+mod closure;
+mod sweep;
+mod tally;
+mod word;
+
+pub use answer::Answer;
+pub use answer::Values;
+pub use answer::values_of;
