@@ -1,3 +1,5 @@
 pub mod Recognition
 pub mod Marks
 pub mod Certification
+pub mod Folding
+pub mod Sweep

@@ -12,3 +12,4 @@ pub use loading::Loaded;
 pub use loading::load_sheet;
 pub use machine::Limits;
 pub use machine::Machine;
+pub use machine::entry_at;

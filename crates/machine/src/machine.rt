@@ -78,3 +78,10 @@ fn column(p: &[u8], from: usize) -> [u8; Machine::ENTRIES]
     }
     cells
 }
+
+// Where the entry of a state and a command stands in the table.
+pub fn entry_at(k: u8, s: u8, c: u8) -> usize
+    ensures { λ r. ⌜ r ≡ s * k + c ⌝ }
+{
+    s as usize * k as usize + c as usize
+}

@@ -8,15 +8,9 @@ ghost use Rattle.machine.specs.Machine.{tabled, meaning};
 ghost use Rattle.machine.specs.Causes.{cause6};
 ghost use Rattle.machine.specs.Causes.Separation.{agrees, pairCause};
 use crate::machine::Machine;
+use crate::machine::entry_at;
 use sheet::Check;
 use sheet::byte;
-
-// Where the entry of a state and a command stands in a column.
-fn entry(k: u8, s: u8, c: u8) -> usize
-    ensures { λ r. ⌜ r ≡ s * k + c ⌝ }
-{
-    s as usize * k as usize + c as usize
-}
 
 // Whether two states answer a word alike.
 fn agree(next: &[u8], answer: &[u8], k: u8, w: &[u8], i: u8, j: u8) -> bool
@@ -26,8 +20,8 @@ fn agree(next: &[u8], answer: &[u8], k: u8, w: &[u8], i: u8, j: u8) -> bool
     let mut t = j;
     let mut p = 0;
     while p < w.len() {
-        let a = entry(k, s, w[p]);
-        let b = entry(k, t, w[p]);
+        let a = entry_at(k, s, w[p]);
+        let b = entry_at(k, t, w[p]);
         if byte(answer, a) != byte(answer, b) {
             return false;
         }

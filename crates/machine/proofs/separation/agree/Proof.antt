@@ -19,17 +19,17 @@ abbrev μ-loop : tie.MeasureT-loop
 loop-holds : tie.Need-loop-holds Inv-loop μ-loop
 loop-holds c = alike-start _ _ _ _
 
-shared-slice-read-entry : tie.Need-shared-slice-read-entry Inv-loop μ-loop
-shared-slice-read-entry c = search needs
+shared-slice-read-entry-at : tie.Need-shared-slice-read-entry-at Inv-loop μ-loop
+shared-slice-read-entry-at c = search needs
 
-entry-requires : tie.Need-entry-requires Inv-loop μ-loop
-entry-requires c κs = search needs
+entry-at-requires : tie.Need-entry-at-requires Inv-loop μ-loop
+entry-at-requires c κs = search needs
 
-shared-slice-read-entry-2 : tie.Need-shared-slice-read-entry-2 Inv-loop μ-loop
-shared-slice-read-entry-2 c = search needs
+shared-slice-read-entry-at-2 : tie.Need-shared-slice-read-entry-at-2 Inv-loop μ-loop
+shared-slice-read-entry-at-2 c = search needs
 
-entry-requires-2 : tie.Need-entry-requires-2 Inv-loop μ-loop
-entry-requires-2 c κs = search needs
+entry-at-requires-2 : tie.Need-entry-at-requires-2 Inv-loop μ-loop
+entry-at-requires-2 c κs = search needs
 
 byte-requires : tie.Need-byte-requires Inv-loop μ-loop
 byte-requires c κs = search needs
@@ -40,8 +40,8 @@ byte-requires-2 c κs = search needs
 returns : tie.Need-returns Inv-loop μ-loop
 returns c =
     alike-differs _ _ _ _ (c .before .before .before .before .before .before .before .before .loop .inv) (c .before .before .before .before .before .before .before .loop-test .taken)
-    (tabled-answer _ _ _ (now (c .before .before .before .before .before .before .before .before .before .before .before .before .args .next)) (now (c .before .before .before .before .before .before .before .before .before .before .before .before .args .answer)) _ _ (c .before .before .byte .ensures) (c .before .before .before .before .before .entry .ensures))
-    (tabled-answer _ _ _ (now (c .before .before .before .before .before .before .before .before .before .before .before .before .args .next)) (now (c .before .before .before .before .before .before .before .before .before .before .before .before .args .answer)) _ _ (c .before .byte2 .ensures) (c .before .before .before .entry2 .ensures))
+    (tabled-answer _ _ _ (now (c .before .before .before .before .before .before .before .before .before .before .before .before .args .next)) (now (c .before .before .before .before .before .before .before .before .before .before .before .before .args .answer)) _ _ (c .before .before .byte .ensures) (c .before .before .before .before .before .entry-at .ensures))
+    (tabled-answer _ _ _ (now (c .before .before .before .before .before .before .before .before .before .before .before .before .args .next)) (now (c .before .before .before .before .before .before .before .before .before .before .before .before .args .answer)) _ _ (c .before .byte2 .ensures) (c .before .before .before .entry-at2 .ensures))
     (c .if1 .taken)
 
 byte-requires-3 : tie.Need-byte-requires-3 Inv-loop μ-loop
@@ -59,11 +59,11 @@ loop-less c = search needs
 loop-again : tie.Need-loop-again Inv-loop μ-loop
 loop-again c =
     alike-next _ _ _ _ (c .before .before .before .before .before .before .before .before .before .before .loop .inv) (c .before .before .before .before .before .before .before .before .before .loop-test .taken)
-    (tabled-answer _ _ _ (now (c .before .before .before .before .before .before .before .before .before .before .before .before .before .before .args .next)) (now (c .before .before .before .before .before .before .before .before .before .before .before .before .before .before .args .answer)) _ _ (c .before .before .before .before .byte .ensures) (c .before .before .before .before .before .before .before .entry .ensures))
-    (tabled-answer _ _ _ (now (c .before .before .before .before .before .before .before .before .before .before .before .before .before .before .args .next)) (now (c .before .before .before .before .before .before .before .before .before .before .before .before .before .before .args .answer)) _ _ (c .before .before .before .byte2 .ensures) (c .before .before .before .before .before .entry2 .ensures))
+    (tabled-answer _ _ _ (now (c .before .before .before .before .before .before .before .before .before .before .before .before .before .before .args .next)) (now (c .before .before .before .before .before .before .before .before .before .before .before .before .before .before .args .answer)) _ _ (c .before .before .before .before .byte .ensures) (c .before .before .before .before .before .before .before .entry-at .ensures))
+    (tabled-answer _ _ _ (now (c .before .before .before .before .before .before .before .before .before .before .before .before .before .before .args .next)) (now (c .before .before .before .before .before .before .before .before .before .before .before .before .before .before .args .answer)) _ _ (c .before .before .before .byte2 .ensures) (c .before .before .before .before .before .entry-at2 .ensures))
     (c .before .before .if1 .left)
-    (tabled-next _ _ _ (now (c .before .before .before .before .before .before .before .before .before .before .before .before .before .before .args .next)) (now (c .before .before .before .before .before .before .before .before .before .before .before .before .before .before .args .answer)) _ _ (c .before .byte3 .ensures) (c .before .before .before .before .before .before .before .entry .ensures))
-    (tabled-next _ _ _ (now (c .before .before .before .before .before .before .before .before .before .before .before .before .before .before .args .next)) (now (c .before .before .before .before .before .before .before .before .before .before .before .before .before .before .args .answer)) _ _ (c .byte4 .ensures) (c .before .before .before .before .before .entry2 .ensures))
+    (tabled-next _ _ _ (now (c .before .before .before .before .before .before .before .before .before .before .before .before .before .before .args .next)) (now (c .before .before .before .before .before .before .before .before .before .before .before .before .before .before .args .answer)) _ _ (c .before .byte3 .ensures) (c .before .before .before .before .before .before .before .entry-at .ensures))
+    (tabled-next _ _ _ (now (c .before .before .before .before .before .before .before .before .before .before .before .before .before .before .args .next)) (now (c .before .before .before .before .before .before .before .before .before .before .before .before .before .before .args .answer)) _ _ (c .byte4 .ensures) (c .before .before .before .before .before .entry-at2 .ensures))
 
 returns-2 : tie.Need-returns-2 Inv-loop μ-loop
 returns-2 c = alike-end _ _ _ _ (c .before .loop .inv) (c .loop-test .left)
@@ -75,10 +75,10 @@ agree-spec =
     Inv-loop
     μ-loop
     loop-holds
-    shared-slice-read-entry
-    entry-requires
-    shared-slice-read-entry-2
-    entry-requires-2
+    shared-slice-read-entry-at
+    entry-at-requires
+    shared-slice-read-entry-at-2
+    entry-at-requires-2
     byte-requires
     byte-requires-2
     returns

@@ -1,10 +1,10 @@
--- `machine::separation::entry` meets its contract: the product of two bytes fits.
+-- `machine::machine::entry_at` meets its contract: the product of two bytes fits.
 -- Assumes nothing.
 use native.Mathlib.Omega.{arith}
 use borrow.Author.Needs.{needs}
 use Rattle.machine.proofs.Numbers.{bytes-product}
-use Rattle.machine.proofs.separation.entry.Statement.{statement}
-use Rattle.machine.proofs.separation.entry.Tie as tie
+use Rattle.machine.proofs.machine.entry_at.Statement.{statement}
+use Rattle.machine.proofs.machine.entry_at.Tie as tie
 
 mul-result : tie.Need-mul-result
 mul-result c = omega (arith, bytes-product (c .args .s) (c .args .k) (search needs) (search needs))
@@ -15,5 +15,5 @@ add-result c = omega (arith, bytes-product (c .args .s) (c .args .k) (search nee
 returns : tie.Need-returns
 returns c = search needs
 
-pub entry-spec : {M : Type 1} → statement M
-entry-spec = tie.close (tie.spec mul-result add-result returns)
+pub entry-at-spec : {M : Type 1} → statement M
+entry-at-spec = tie.close (tie.spec mul-result add-result returns)

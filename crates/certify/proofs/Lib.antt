@@ -1,0 +1,3 @@
+mod Alternatives
+mod Marking
+mod Paired

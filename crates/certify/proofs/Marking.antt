@@ -1,0 +1,76 @@
+-- The marks during a sweep: between the given ones and their closure, and what marking one more place keeps.
+use Prim.Native.Nat.{ℕ, _+_, _≤_, _<_}
+use mathlib.Core.Path.{_≡_, refl, sym, ap, _∙_}
+use mathlib.Core.Bool.{Bool, true, false, true≢false}
+use mathlib.Core.List.{List}
+use mathlib.Core.Logic.{_⊎_, inl, inr, ⊎-elim}
+use native.Mathlib.Omega.{arith}
+use native.Mathlib.Nat.{eq-or-lt-of-le}
+use lib.Dec.{eqb}
+use lib.ListN.{length, getD, set, length-set}
+use lib.Seq.{getD-set-same, getD-set-other}
+use borrow.Author.Tests.{eqb-true, eqb-false}
+use Rattle.machine.specs.Machine.{Mealy, stateAt}
+use Rattle.certify.specs.Marks.Laws.{true-or-false}
+use Rattle.certify.specs.Folding.{From, Marking, Risen, Paired}
+use Rattle.certify.proofs.Paired.{paired-sym, paired-carries}
+
+-- ---- numbers
+pub equal-or-not : (a b : ℕ) → (a ≡ b) ⊎ (a ≡ b → ⊥)
+equal-or-not a b =
+    ⊎-elim (λ (e : eqb a b ≡ true). inl (eqb-true a b e)) (λ (e : eqb a b ≡ false). inr (eqb-false a b e)) (true-or-false (eqb a b))
+
+-- a bit that is not 0 is 1
+pub bit-one : (b : ℕ) → b ≤ 1 → (b ≡ 0 → ⊥) → b ≡ 1
+bit-one b l n = ⊎-elim (λ (e : b ≡ 1). e) (λ (k : b < 1). absurd (n (omega arith))) (eq-or-lt-of-le l)
+
+-- ---- a cell of a table after a store
+pub set-at : (l : List ℕ) (i v j : ℕ) → i < length l → ((j ≡ i) × (getD (set l i v) j 0 ≡ v)) ⊎ ((j ≡ i → ⊥) × (getD (set l i v) j 0 ≡ getD l j 0))
+set-at l i v j il =
+    ⊎-elim (λ (e : j ≡ i). inl (e, ap (λ (x : ℕ). getD (set l i v) x 0) e ∙ getD-set-same l i v 0 il))
+    (λ (n : j ≡ i → ⊥). inr (n, getD-set-other l i j v 0 n))
+    (equal-or-not j i)
+
+-- what was 1 stays so
+pub set-keeps : (l : List ℕ) (i j : ℕ) → i < length l → getD l j 0 ≡ 1 → getD (set l i 1) j 0 ≡ 1
+set-keeps l i j il e =
+    ⊎-elim (λ (h : (j ≡ i) × (getD (set l i 1) j 0 ≡ 1)). h .1)
+    (λ (h : (j ≡ i → ⊥) × (getD (set l i 1) j 0 ≡ getD l j 0)). h .1 ∙ e)
+    (set-at l i 1 j il)
+
+module _ (M : Mealy) (xs given : List ℕ) where
+  -- one more mark, in the closure
+  pub marking-more : (ms : List ℕ) (p : ℕ) → p ≤ length xs → From M xs given p → Marking M xs given ms → Marking M xs given (set ms p 1)
+  marking-more ms p pl fp h =
+      let inside : p < length ms = omega (arith, h .long) in
+      record {
+        long = length-set ms p 1 ∙ h .long;
+        few = λ q.
+          ⊎-elim (λ (k : (q ≡ p) × (getD (set ms p 1) q 0 ≡ 1)). omega (arith, k .1))
+          (λ (k : (q ≡ p → ⊥) × (getD (set ms p 1) q 0 ≡ getD ms q 0)). omega (arith, k .1, h .few q))
+          (set-at ms p 1 q inside);
+        above = λ q e. set-keeps ms p q inside (h .above q e);
+        sound = λ q e.
+          ⊎-elim (λ (k : (q ≡ p) × (getD (set ms p 1) q 0 ≡ 1)). rw (k .0) fp)
+          (λ (k : (q ≡ p → ⊥) × (getD (set ms p 1) q 0 ≡ getD ms q 0)). h .sound q (sym (k .1) ∙ e))
+          (set-at ms p 1 q inside);
+      }
+
+  -- a place without a mark had none
+  pub was-unmarked : ((p : ℕ) → getD given p 0 ≤ 1) → (ms : List ℕ) → Marking M xs given ms → (p : ℕ) → getD ms p 0 ≡ 0 → getD given p 0 ≡ 0
+  was-unmarked few ms h p z =
+      ⊎-elim (λ (e : getD given p 0 ≡ 1). let y : ⊥ = omega (arith, h .above p e) in absurd y)
+      (λ (l : getD given p 0 < 1). omega arith)
+      (eq-or-lt-of-le (few p))
+
+  -- ---- two paired places get equal marks
+  module _ (few : (p : ℕ) → getD given p 0 ≤ 1) {ms : List ℕ} {a b : ℕ} (h : Marking M xs given ms)
+      (pair : Paired M xs given a b) (al : a ≤ length xs) (bl : b ≤ length xs) where
+    -- one of two bits that differ is 1, the other 0
+    both-in : (getD ms a 0 ≡ getD ms b 0 → ⊥) → (From M xs given a) × (From M xs given b)
+    both-in n =
+        ⊎-elim (λ (e : getD ms a 0 ≡ 1). let f = h .sound a e in (f, paired-carries M xs given pair f))
+        (λ (l : getD ms a 0 < 1).
+          let f = h .sound b (bit-one (getD ms b 0) (h .few b) (λ z. n (omega arith))) in
+          (paired-carries M xs given (paired-sym M xs given pair) f, f))
+        (eq-or-lt-of-le (h .few a))
