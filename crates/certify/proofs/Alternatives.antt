@@ -1,9 +1,11 @@
 -- Chains of alternatives: going on along one, and the loop that does so.
-use Prim.Native.Nat.{ℕ, _<_}
+use Prim.Native.Nat.{ℕ, _+_, _<_}
 use mathlib.Core.Path.{_≡_, refl, sym, _∙_}
 use mathlib.Core.List.{List}
+use native.Mathlib.Omega.{arith}
 use lib.ListN.{length, getD}
 use Rattle.certify.specs.Folding.{Past, here, past, Reached, Rising}
+use Rattle.certify.specs.Sweep.{Rooted}
 
 -- one alternative further
 pub past-on : {xs alt : List ℕ} {c r v : ℕ} → Past xs alt c r v → (getD xs v 0 ≡ c → ⊥) → (getD alt v 0 ≡ 0 → ⊥) → Past xs alt c r (getD alt v 0)
@@ -30,3 +32,8 @@ module _ {xs alt : List ℕ} {r c v : ℕ} (h : Along xs alt r c v) where
     -- one alternative further
     pub along-on : (getD xs v 0 ≡ c → ⊥) → Along xs alt r c u
     along-on o = record { inside = along-less .1; path = rw e (past-on (h .path) o (λ q. n (e ∙ q))) }
+
+-- a state's representative is a place with a command
+pub rooted-inside : {root root′ : List ℕ} {s t r bound : ℕ} → t < bound → ((x y : ℕ) → getD root x 0 ≡ y + 1 → y < bound) → Rooted root s t root′ r → r < bound
+rooted-inside l h (Rooted.first z re e) = omega arith
+rooted-inside l h (Rooted.again e re) = h _ _ e

@@ -1,3 +1,10 @@
 mod Alternatives
+mod Ends
+mod Entries
+mod Growing
+mod Loop
 mod Marking
 mod Paired
+mod Represented
+mod Tables
+mod Turn

@@ -38,6 +38,14 @@ set-keeps l i j il e =
     (λ (h : (j ≡ i → ⊥) × (getD (set l i 1) j 0 ≡ getD l j 0)). h .1 ∙ e)
     (set-at l i 1 j il)
 
+-- a cell of 0 was 0 before, where those of 1 stay
+pub was-zero : (before after : List ℕ) → ((p : ℕ) → getD before p 0 ≤ 1) → ((p : ℕ) → getD before p 0 ≡ 1 → getD after p 0 ≡ 1)
+    → (p : ℕ) → getD after p 0 ≡ 0 → getD before p 0 ≡ 0
+was-zero before after few keeps p z =
+    ⊎-elim (λ (e : getD before p 0 ≡ 1). let y : ⊥ = omega (arith, keeps p e) in absurd y)
+    (λ (l : getD before p 0 < 1). omega arith)
+    (eq-or-lt-of-le (few p))
+
 module _ (M : Mealy) (xs given : List ℕ) where
   -- one more mark, in the closure
   pub marking-more : (ms : List ℕ) (p : ℕ) → p ≤ length xs → From M xs given p → Marking M xs given ms → Marking M xs given (set ms p 1)
@@ -55,13 +63,6 @@ module _ (M : Mealy) (xs given : List ℕ) where
           (λ (k : (q ≡ p → ⊥) × (getD (set ms p 1) q 0 ≡ getD ms q 0)). h .sound q (sym (k .1) ∙ e))
           (set-at ms p 1 q inside);
       }
-
-  -- a place without a mark had none
-  pub was-unmarked : ((p : ℕ) → getD given p 0 ≤ 1) → (ms : List ℕ) → Marking M xs given ms → (p : ℕ) → getD ms p 0 ≡ 0 → getD given p 0 ≡ 0
-  was-unmarked few ms h p z =
-      ⊎-elim (λ (e : getD given p 0 ≡ 1). let y : ⊥ = omega (arith, h .above p e) in absurd y)
-      (λ (l : getD given p 0 < 1). omega arith)
-      (eq-or-lt-of-le (few p))
 
   -- ---- two paired places get equal marks
   module _ (few : (p : ℕ) → getD given p 0 ≤ 1) {ms : List ℕ} {a b : ℕ} (h : Marking M xs given ms)

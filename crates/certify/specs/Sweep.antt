@@ -84,6 +84,7 @@ pub record Sweepable (M : Mealy) (apply : Bool) (xs ms known : List ℕ) : Type 
   pub few : (p : ℕ) → getD ms p 0 ≤ 1
   pub table : length known ≡ mostEntries
   pub knows : Knows M xs ms known
+  pub low : (e : ℕ) → getD known e 0 ≤ 1
   pub fresh : apply ≡ false → (e : ℕ) → getD known e 0 ≡ 0
 
 -- what a sweep leaves: marks between the given ones and their closure, and known entries; where nothing changed, rule 2 adds nothing to the
@@ -92,6 +93,7 @@ pub record Swept (M : Mealy) (xs given known ms known′ : List ℕ) (changed : 
   pub marking : Marking M xs given ms
   pub table : length known′ ≡ mostEntries
   pub knows : Knows M xs given known′
+  pub low : (e : ℕ) → getD known′ e 0 ≤ 1
   pub keeps : (e : ℕ) → getD known e 0 ≡ 1 → getD known′ e 0 ≡ 1
   pub rises : changed ≡ true → (Risen given ms) ⊎ (Risen known known′)
   pub stays : changed ≡ false → (ms ≡ given) × (known′ ≡ known)

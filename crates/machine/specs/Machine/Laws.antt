@@ -4,8 +4,8 @@ use mathlib.Core.Path.{_≡_, refl, ap, ap₂, _∙_}
 use mathlib.Core.List.{List, [], _∷_, _++_}
 use native.Mathlib.Omega.{arith}
 use native.Mathlib.Numerals.{add-one}
-use lib.ListN.{length, getD, take}
-use lib.Seq.{take-suc}
+use lib.ListN.{length, getD, take, length-take}
+use lib.Seq.{take-suc, getD-take}
 use Rattle.machine.specs.Machine.{Mealy, tabled, run, answers, stateAt, Proper}
 
 -- two machines are equal where they have the same states, commands, start and entries
@@ -17,6 +17,10 @@ mealy-same a b p q r f g = λ i. record { n = p i; k = q i; start = r i; next = 
 pub tabled-commands : (n k start : ℕ) (next answer : List ℕ) → tabled n k start next answer .k ≡ k
 unfolding tabled
 tabled-commands n k start next answer = refl
+
+pub tabled-start : (n k start : ℕ) (next answer : List ℕ) → tabled n k start next answer .start ≡ start
+unfolding tabled
+tabled-start n k start next answer = refl
 
 -- a cell of a column, at an entry's place, is the entry's
 pub tabled-next : (n k start : ℕ) (next answer : List ℕ) (s c : ℕ) {v a : ℕ} → v ≡ getD next a 0 → a ≡ s * k + c → v ≡ tabled n k start next answer .next s c
@@ -83,3 +87,10 @@ pub run-stays : (M : Mealy) → Proper M → (s : ℕ) (w : List ℕ) → s < M 
 unfolding run
 run-stays M h s [] sl low = sl
 run-stays M h s (c ∷ w) sl low = run-stays M h (M .next s c) w (h .stays s c sl (low 0 (omega arith))) (λ i l. low (suc i) (omega arith))
+
+-- so every place of a sequence has one of its states
+pub state-stays : (M : Mealy) → Proper M → (xs : List ℕ) → ((i : ℕ) → i < length xs → getD xs i 0 < M .k) → (p : ℕ) → stateAt M xs p < M .n
+unfolding stateAt
+state-stays M h xs low p =
+    run-stays M h (M .start) (take p xs) (h .starts)
+    (λ i l. let k = simp length-take at l in rw (getD-take p xs i 0 (omega arith)) (low i (omega arith)))

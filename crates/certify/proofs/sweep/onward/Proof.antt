@@ -1,46 +1,38 @@
+-- `certify::sweep::onward` meets its contract, by its three ways out.
+-- Assumes nothing.
 use borrow.Author.Needs.{needs}
+use mathlib.Core.Path.{refl}
+use Rattle.certify.specs.Sweep.{Onward}
+use Rattle.certify.proofs.Alternatives.{rooted-inside}
 use Rattle.certify.proofs.sweep.onward.Statement.{statement}
 use Rattle.certify.proofs.sweep.onward.Tie as tie
-use Rattle.certify.proofs.sweep.onward.Reads as reads
-use Rattle.certify.proofs.sweep.onward.Lts as lts
-use Rattle.certify.proofs.chains.advance.Reads as advance-reads
-use Rattle.certify.proofs.chains.represent.Reads as represent-reads
 
--- src/sweep.rt:107:8
 shared-slice-read-if1 : tie.Need-shared-slice-read-if1
 shared-slice-read-if1 c = search needs
 
--- src/sweep.rt:108:9
 advance-requires : tie.Need-advance-requires
 advance-requires c κs = search needs
 
--- src/sweep.rt:108:9
 returns : tie.Need-returns
-returns c = ?
+returns c = Onward.unmarked (c .before .before .if1 .taken) refl (c .advance .ensures)
 
--- src/sweep.rt:110:16
 add-next : tie.Need-add-next
 add-next c = search needs
 
--- src/sweep.rt:111:8
 shared-slice-read-if2 : tie.Need-shared-slice-read-if2
 shared-slice-read-if2 c = search needs
 
--- src/sweep.rt:112:9
 returns-2 : tie.Need-returns-2
-returns-2 c = ?
+returns-2 c = Onward.between (c .before .before .if1 .left) (c .if2 .taken) refl refl refl
 
--- src/sweep.rt:114:9
 represent-requires : tie.Need-represent-requires
 represent-requires c κs = search needs
 
--- src/sweep.rt:115:5
 advance-requires-2 : tie.Need-advance-requires-2
-advance-requires-2 c κs = ?
+advance-requires-2 c κs = let h = rooted-inside (c .before .before .before .before .before .before .before .before .before .pre .1 .0) (c .before .before .before .before .before .before .before .before .before .pre .1 .1 .1 .1 .1) (c .before .represent .ensures) in search needs
 
--- src/sweep.rt:90:1
 returns-3 : tie.Need-returns-3
-returns-3 c = ?
+returns-3 c = Onward.marked (c .before .before .before .before .before .before .if1 .left) (c .before .before .before .before .if2 .left) _ (c .before .before .represent .ensures) (c .advance2 .ensures)
 
 pub onward-spec : {M : Type 1} → statement M
 onward-spec =

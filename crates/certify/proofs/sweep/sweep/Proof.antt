@@ -1,77 +1,106 @@
+-- `certify::sweep::sweep` meets its contract: a loop of turns.
+-- Assumes nothing.
+use native.Mathlib.Omega.{arith}
+use borrow.Author.Needs.{needs}
+use Prim.Native.Nat.{_-_}
+use mathlib.Core.Path.{refl, sym}
+use lib.ListN.{length}
+use denote.Ref.{now}
+use Rattle.machine.specs.Machine.{meaning}
+use Rattle.machine.specs.Machine.Laws.{tabled-start}
+use Rattle.certify.proofs.Ends.{fresh}
+use Rattle.certify.proofs.Loop.{follows-tabled, Running, starts, running-long, running-rising, running-meeting, running-roots, running-ends, running-entry, met-long, learnt-long, turns}
 use Rattle.certify.proofs.sweep.sweep.Statement.{statement}
 use Rattle.certify.proofs.sweep.sweep.Tie as tie
-use Rattle.certify.proofs.sweep.sweep.Reads as reads
-use Rattle.certify.proofs.sweep.sweep.Lts as lts
-use Rattle.certify.proofs.sweep.learn.Reads as learn-reads
-use Rattle.certify.proofs.sweep.meet.Reads as meet-reads
-use Rattle.certify.proofs.sweep.onward.Reads as onward-reads
-use Rattle.machine.proofs.entry_at.Reads as entry-at-reads
 
 abbrev Inv-loop : tie.InvT-loop
-Inv-loop m xs marks₀ known₀ apply next alt₀ root₀ p₀ cur₀ s₀ t₀ marks known alt root p cur s t = ?
+Inv-loop m xs marks₀ known₀ apply next alt₀ root₀ p₀ cur₀ s₀ t₀ marks known alt root p cur s t = Running (meaning m) apply xs marks₀ known₀ marks known alt root cur t s (p .changed)
 
 abbrev μ-loop : tie.MeasureT-loop
-μ-loop m xs marks₀ known₀ apply next alt₀ root₀ p₀ cur₀ s₀ t₀ marks known alt root p cur s t = ?
+μ-loop m xs marks₀ known₀ apply next alt₀ root₀ p₀ cur₀ s₀ t₀ marks known alt root p cur s t = length xs - t
 
--- src/sweep.rt:140:5
 loop-holds : tie.Need-loop-holds Inv-loop μ-loop
-loop-holds c = ?
+loop-holds c =
+    let start = c .before .before .before in
+    starts (meaning (start .args .m)) (start .args .apply) (now (start .args .xs)) (now (start .args .marks)) (now (start .args .known)) (start .pre) (fresh 20355) (fresh 256)
+    (sym (tabled-start (start .args .m .n) (start .args .m .k) (start .args .m .start) (start .args .m .next) (start .args .m .answer)))
 
--- src/sweep.rt:141:26
 slice-aggregate-meet : tie.Need-slice-aggregate-meet Inv-loop μ-loop
-slice-aggregate-meet c = ?
+slice-aggregate-meet c = search needs
 
--- src/sweep.rt:141:13
 meet-requires : tie.Need-meet-requires Inv-loop μ-loop
-meet-requires c κs = ?
+meet-requires c κs =
+    let start = c .before .before .before .before .before .before .before .before .before in
+    let h = c .before .before .before .before .before .loop .inv in
+    (omega (arith, h .head .low-cur, h .head .place), (h .head .place, (running-long (meaning (start .args .m)) (start .args .apply) (now (start .args .xs)) (now (start .args .marks)) (now (start .args .known)) h, (h .asked .commands .few, running-rising (meaning (start .args .m)) (start .args .apply) (now (start .args .xs)) (now (start .args .marks)) (now (start .args .known)) h))))
 
--- src/sweep.rt:142:34
 shared-slice-read-entry-at : tie.Need-shared-slice-read-entry-at Inv-loop μ-loop
-shared-slice-read-entry-at c = ?
+shared-slice-read-entry-at c = c .before .before .before .before .before .before .before .before .loop-test .taken
 
--- src/sweep.rt:142:13
 entry-at-requires : tie.Need-entry-at-requires Inv-loop μ-loop
-entry-at-requires c κs = ?
+entry-at-requires c κs = search needs
 
--- src/sweep.rt:143:13
 learn-requires : tie.Need-learn-requires Inv-loop μ-loop
-learn-requires c κs = ?
+learn-requires c κs =
+    let start = c .before .before .before .before .before .before .before .before .before .before .before .before .before .before .before .before in
+    let h = c .before .before .before .before .before .before .before .before .before .before .before .before .loop .inv in
+    let f = follows-tabled (start .args .m .n) (start .args .m .k) (start .args .m .start) (start .args .m .next) (start .args .m .answer) in
+    let met = c .before .before .before .before .before .before .meet .ensures (meaning (start .args .m)) (running-meeting (meaning (start .args .m)) (start .args .apply) (now (start .args .xs)) (now (start .args .marks)) (now (start .args .known)) h f) in
+    let tl = c .before .before .before .before .before .before .before .before .before .before .before .loop-test .taken in
+    (omega (arith, met-long (meaning (start .args .m)) (start .args .apply) (now (start .args .xs)) (now (start .args .marks)) (now (start .args .known)) h tl met), running-entry (meaning (start .args .m)) (start .args .apply) (now (start .args .xs)) (now (start .args .marks)) (now (start .args .known)) h tl (f .commands) (c .before .before .entry-at .ensures))
 
--- src/sweep.rt:144:9
 onward-requires : tie.Need-onward-requires Inv-loop μ-loop
-onward-requires c κs = ?
+onward-requires c κs =
+    let start = c .before .before .before .before .before .before .before .before .before .before .before .before .before .before .before .before .before .before .before .before .before .before in
+    let h = c .before .before .before .before .before .before .before .before .before .before .before .before .before .before .before .before .before .before .loop .inv in
+    let f = follows-tabled (start .args .m .n) (start .args .m .k) (start .args .m .start) (start .args .m .next) (start .args .m .answer) in
+    let met = c .before .before .before .before .before .before .before .before .before .before .before .before .meet .ensures (meaning (start .args .m)) (running-meeting (meaning (start .args .m)) (start .args .apply) (now (start .args .xs)) (now (start .args .marks)) (now (start .args .known)) h f) in
+    let tl = c .before .before .before .before .before .before .before .before .before .before .before .before .before .before .before .before .before .loop-test .taken in
+    (omega (arith, h .head .low-cur), (tl, (learnt-long (meaning (start .args .m)) (start .args .apply) (now (start .args .xs)) (now (start .args .marks)) (now (start .args .known)) h tl f (c .before .before .before .before .before .before .before .before .entry-at .ensures) met (c .before .before .before .before .before .learn .ensures), (h .asked .commands .few, (running-rising (meaning (start .args .m)) (start .args .apply) (now (start .args .xs)) (now (start .args .marks)) (now (start .args .known)) h, running-roots (meaning (start .args .m)) (start .args .apply) (now (start .args .xs)) (now (start .args .marks)) (now (start .args .known)) h)))))
 
--- src/sweep.rt:149:13
 array-read-s : tie.Need-array-read-s Inv-loop μ-loop
-array-read-s c = ?
+array-read-s c =
+    let start = c .before .before .before .before .before .before .before .before .before .before .before .before .before .before .before .before .before .before .before .before .before .before .before in
+    let h = c .before .before .before .before .before .before .before .before .before .before .before .before .before .before .before .before .before .before .before .loop .inv in
+    let f = follows-tabled (start .args .m .n) (start .args .m .k) (start .args .m .start) (start .args .m .next) (start .args .m .answer) in
+    running-entry (meaning (start .args .m)) (start .args .apply) (now (start .args .xs)) (now (start .args .marks)) (now (start .args .known)) h (c .before .before .before .before .before .before .before .before .before .before .before .before .before .before .before .before .before .before .loop-test .taken) (f .commands) (c .before .before .before .before .before .before .before .before .before .entry-at .ensures)
 
--- src/sweep.rt:150:9
 add-t : tie.Need-add-t Inv-loop μ-loop
-add-t c = ?
+add-t c = let tl = c .before .before .before .before .before .before .before .before .before .before .before .before .before .before .before .before .before .before .loop-test .taken in omega (arith, c .before .before .before .before .before .before .before .before .before .before .before .before .before .before .before .before .before .before .before .loop .inv .asked .commands .few)
 
--- src/sweep.rt:140:5
 loop-less : tie.Need-loop-less Inv-loop μ-loop
-loop-less c = ?
+loop-less c = let tl = c .before .before .before .before .before .before .before .before .before .before .before .before .before .before .before .before .before .before .loop-test .taken in omega arith
 
--- src/sweep.rt:140:5
 loop-again : tie.Need-loop-again Inv-loop μ-loop
-loop-again c = ?
+loop-again c =
+    let start = c .before .before .before .before .before .before .before .before .before .before .before .before .before .before .before .before .before .before .before .before .before .before .before in
+    let h = c .before .before .before .before .before .before .before .before .before .before .before .before .before .before .before .before .before .before .before .loop .inv in
+    let f = follows-tabled (start .args .m .n) (start .args .m .k) (start .args .m .start) (start .args .m .next) (start .args .m .answer) in
+    let met = c .before .before .before .before .before .before .before .before .before .before .before .before .before .meet .ensures (meaning (start .args .m)) (running-meeting (meaning (start .args .m)) (start .args .apply) (now (start .args .xs)) (now (start .args .marks)) (now (start .args .known)) h f) in
+    turns (meaning (start .args .m)) (start .args .apply) (now (start .args .xs)) (now (start .args .marks)) (now (start .args .known)) h (c .before .before .before .before .before .before .before .before .before .before .before .before .before .before .before .before .before .before .loop-test .taken) f (c .before .before .before .before .before .before .before .before .before .entry-at .ensures) met (c .before .before .before .before .before .before .learn .ensures) (c .onward .ensures) refl
 
--- src/sweep.rt:152:22
 slice-aggregate-meet-2 : tie.Need-slice-aggregate-meet-2 Inv-loop μ-loop
-slice-aggregate-meet-2 c = ?
+slice-aggregate-meet-2 c = search needs
 
--- src/sweep.rt:152:9
 meet-requires-2 : tie.Need-meet-requires-2 Inv-loop μ-loop
-meet-requires-2 c κs = ?
+meet-requires-2 c κs =
+    let start = c .before .before .before .before .before .before .before .before .before in
+    let h = c .before .before .before .before .before .loop .inv in
+    (omega (arith, h .head .low-cur, h .head .place), (h .head .place, (running-long (meaning (start .args .m)) (start .args .apply) (now (start .args .xs)) (now (start .args .marks)) (now (start .args .known)) h, (h .asked .commands .few, running-rising (meaning (start .args .m)) (start .args .apply) (now (start .args .xs)) (now (start .args .marks)) (now (start .args .known)) h))))
 
--- src/sweep.rt:120:1
 same-length : tie.Need-same-length Inv-loop μ-loop
-same-length c = ?
+same-length c =
+    let start = c .before .before .before .before .before .before .before .before .before .before .before .before in
+    let h = c .before .before .before .before .before .before .before .before .loop .inv in
+    let f = follows-tabled (start .args .m .n) (start .args .m .k) (start .args .m .start) (start .args .m .next) (start .args .m .answer) in
+    search needs
 
--- src/sweep.rt:120:1
 returns : tie.Need-returns Inv-loop μ-loop
-returns c = ?
+returns c =
+    let start = c .before .before .before .before .before .before .before .before .before .before .before .before in
+    let h = c .before .before .before .before .before .before .before .before .loop .inv in
+    let f = follows-tabled (start .args .m .n) (start .args .m .k) (start .args .m .start) (start .args .m .next) (start .args .m .answer) in
+    running-ends (meaning (start .args .m)) (start .args .apply) (now (start .args .xs)) (now (start .args .marks)) (now (start .args .known)) h (c .before .before .before .before .before .before .before .loop-test .left) (c .before .before .meet2 .ensures (meaning (start .args .m)) (running-meeting (meaning (start .args .m)) (start .args .apply) (now (start .args .xs)) (now (start .args .marks)) (now (start .args .known)) h f))
 
 pub sweep-spec : {M : Type 1} → statement M
 sweep-spec =
