@@ -48,29 +48,29 @@ module _ (M : Mealy) (apply : Bool) (xs given known₀ : List ℕ) (h : Sweepabl
   pub begins : {alt root : List ℕ} {s : ℕ} → Fresh mostSequence alt → Fresh 256 root → s ≡ M .start
       → Head M xs given (h .few) (h .commands .low) known₀ (h .low) apply given known₀ alt root 0 0 s false
   begins fa fr se = record {
-      place = omega arith;
-      state = se ∙ sym (state-start M xs);
-      learning = record {
-        marking = record { long = h .long; few = h .few; above = λ p e. e; sound = λ p e. rule1 e };
-        table = h .table;
-        knows = h .knows;
-        keeps = λ e q. q;
-        low-known = h .low;
-        risen = λ q. absurd (true≢false (sym q));
-      };
-      linked = record { long = fa .long; links = λ v n. absurd (n (fa .zero v)) };
-      topped = record { long = fr .long; tops = λ x y d. let z : ⊥ = omega (arith, fr .zero x) in absurd z };
-      low-cur = omega arith;
-      pair = same refl;
-      still = λ q. record {
-        same-marks = refl;
-        same-known = refl;
-        comes = begin refl refl;
-        walked = λ i l n. let z : ⊥ = omega arith in absurd z;
-        learnt = λ i l a b c. let z : ⊥ = omega arith in z;
-        applied = λ i l o a n z. let y : ⊥ = omega arith in y;
-      };
-    }
+    place = omega arith;
+    state = se ∙ sym (state-start M xs);
+    learning = record {
+      marking = record { long = h .long; few = h .few; above = λ p e. e; sound = λ p e. rule1 e };
+      table = h .table;
+      knows = h .knows;
+      keeps = λ e q. q;
+      low-known = h .low;
+      risen = λ q. absurd (true≢false (sym q));
+    };
+    linked = record { long = fa .long; links = λ v n. absurd (n (fa .zero v)) };
+    topped = record { long = fr .long; tops = λ x y d. let z : ⊥ = omega (arith, fr .zero x) in absurd z };
+    low-cur = omega arith;
+    pair = same refl;
+    still = λ q. record {
+      same-marks = refl;
+      same-known = refl;
+      comes = begin refl refl;
+      walked = λ i l n. let z : ⊥ = omega arith in absurd z;
+      learnt = λ i l a b c. let z : ⊥ = omega arith in z;
+      applied = λ i l o a n z. let y : ⊥ = omega arith in y;
+    };
+  }
 
   -- after the last place
   module _ {ms known alt root ms′ : List ℕ} {cur t s : ℕ} {changed changed′ : Bool}
@@ -98,7 +98,7 @@ module _ (M : Mealy) (apply : Bool) (xs given known₀ : List ℕ) (h : Sweepabl
           let one : entryAt M xs a ≡ entryAt M xs b = ap₂ (λ (x y : ℕ). x * M .k + y) e c in
           let known-a = k .learnt a (omega arith) ma m in
           ⊎-elim (λ (o : apply ≡ true).
-            bit-one (getD given (b + 1) 0) (h .few (b + 1)) (k .applied b (omega arith) o mb (λ z. known-a (rw one z))))
+          bit-one (getD given (b + 1) 0) (h .few (b + 1)) (k .applied b (omega arith) o mb (λ z. known-a (rw one z))))
           (λ (o : apply ≡ false). absurd (known-a (h .fresh o (entryAt M xs a))))
           (true-or-false apply)
 

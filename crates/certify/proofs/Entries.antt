@@ -58,20 +58,20 @@ module _ (M : Mealy) (xs given : List ℕ) (few : (p : ℕ) → getD given p 0 �
           marking = g;
           table = length-set known e 1 ∙ h .table;
           knows = λ x y.
-            ⊎-elim (λ (q : (x ≡ e) × (getD (set known e 1) x 0 ≡ 1)). record {
-              place = t;
-              inside = tl;
-              entry = at ∙ sym (q .0);
-              before = g .sound t (bit-one (getD ms t 0) (g .few t) n);
-              after = g .sound (t + 1) (bit-one (getD ms (t + 1) 0) (g .few (t + 1)) n′);
-            })
-            (λ (q : (x ≡ e → ⊥) × (getD (set known e 1) x 0 ≡ getD known x 0)). h .knows x (λ z. y (q .1 ∙ z)))
-            (set-at known e 1 x inside);
+              ⊎-elim (λ (q : (x ≡ e) × (getD (set known e 1) x 0 ≡ 1)). record {
+                place = t;
+                inside = tl;
+                entry = at ∙ sym (q .0);
+                before = g .sound t (bit-one (getD ms t 0) (g .few t) n);
+                after = g .sound (t + 1) (bit-one (getD ms (t + 1) 0) (g .few (t + 1)) n′);
+              })
+              (λ (q : (x ≡ e → ⊥) × (getD (set known e 1) x 0 ≡ getD known x 0)). h .knows x (λ z. y (q .1 ∙ z)))
+              (set-at known e 1 x inside);
           keeps = λ x y. set-keeps known e x inside (h .keeps x y);
           low-known = λ x.
-            ⊎-elim (λ (q : (x ≡ e) × (getD (set known e 1) x 0 ≡ 1)). omega (arith, q .1))
-            (λ (q : (x ≡ e → ⊥) × (getD (set known e 1) x 0 ≡ getD known x 0)). omega (arith, q .1, h .low-known x))
-            (set-at known e 1 x inside);
+              ⊎-elim (λ (q : (x ≡ e) × (getD (set known e 1) x 0 ≡ 1)). omega (arith, q .1))
+              (λ (q : (x ≡ e → ⊥) × (getD (set known e 1) x 0 ≡ getD known x 0)). omega (arith, q .1, h .low-known x))
+              (set-at known e 1 x inside);
           risen = λ q. inr (record { place = e; was = was-zero known₀ known few₀ (h .keeps) e z; is = getD-set-same known e 1 0 inside });
         }
 
@@ -113,32 +113,32 @@ pub record Unchanged (apply : Bool) (ms known : List ℕ) (e t : ℕ) (changed :
 pub learnt-still : {apply : Bool} {ms known ms′ known′ : List ℕ} {e t : ℕ} {changed changed′ : Bool}
     → Learnt apply ms known e t changed ms′ known′ changed′ → changed′ ≡ false → Unchanged apply ms known e t changed ms′ known′
 learnt-still (Learnt.unmarked z me ke ce) f = record {
-    before = sym ce ∙ f;
-    same-marks = me;
-    same-known = ke;
-    learnt = λ a b c. let y : ⊥ = omega arith in y;
-    applied = λ o a n b. let y : ⊥ = omega arith in y;
-  }
+  before = sym ce ∙ f;
+  same-marks = me;
+  same-known = ke;
+  learnt = λ a b c. let y : ⊥ = omega arith in y;
+  applied = λ o a n b. let y : ⊥ = omega arith in y;
+}
 learnt-still (Learnt.knew n y me ke ce) f = record {
-    before = sym ce ∙ f;
-    same-marks = me;
-    same-known = ke;
-    learnt = λ a b c. n c;
-    applied = λ o a x b. y b;
-  }
+  before = sym ce ∙ f;
+  same-marks = me;
+  same-known = ke;
+  learnt = λ a b c. n c;
+  applied = λ o a x b. y b;
+}
 learnt-still (Learnt.unknown z y me ke ce) f = record {
-    before = sym ce ∙ f;
-    same-marks = me;
-    same-known = ke;
-    learnt = λ a b c. let y : ⊥ = omega arith in y;
-    applied = λ o a n b. n y;
-  }
+  before = sym ce ∙ f;
+  same-marks = me;
+  same-known = ke;
+  learnt = λ a b c. let y : ⊥ = omega arith in y;
+  applied = λ o a n b. n y;
+}
 learnt-still (Learnt.waits z y me ke ce) f = record {
-    before = sym ce ∙ f;
-    same-marks = me;
-    same-known = ke;
-    learnt = λ a b c. let y : ⊥ = omega arith in y;
-    applied = λ o a n b. true≢false (sym o ∙ y);
-  }
+  before = sym ce ∙ f;
+  same-marks = me;
+  same-known = ke;
+  learnt = λ a b c. let y : ⊥ = omega arith in y;
+  applied = λ o a n b. true≢false (sym o ∙ y);
+}
 learnt-still (Learnt.learns n n′ z me ke ce) f = absurd (true≢false (sym ce ∙ f))
 learnt-still (Learnt.applies n z y me ke ce) f = absurd (true≢false (sym ce ∙ f))

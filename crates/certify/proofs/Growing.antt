@@ -21,9 +21,9 @@ module _ (M : Mealy) (xs g ms : List ℕ) where
 
     pub folds-more : {alt root : List ℕ} → Folds M xs g alt root → Folds M xs ms alt root
     folds-more h = record {
-        links = λ v n. paired-more (h .links v n);
-        roots = λ s r e. let k = h .roots s r e in (k .0, from-more (k .1), k .2);
-      }
+      links = λ v n. paired-more (h .links v n);
+      roots = λ s r e. let k = h .roots s r e in (k .0, from-more (k .1), k .2);
+    }
 
   -- ---- every mark of ms lies in the closure of the given ones
   pub from-flat : ((p : ℕ) → getD ms p 0 ≡ 1 → From M xs g p) → {p : ℕ} → From M xs ms p → From M xs g p
@@ -33,8 +33,8 @@ module _ (M : Mealy) (xs g ms : List ℕ) where
 
   pub marking-flat : {ms′ : List ℕ} → Marking M xs g ms → Marking M xs ms ms′ → Marking M xs g ms′
   marking-flat h k = record {
-      long = k .long;
-      few = k .few;
-      above = λ p e. k .above p (h .above p e);
-      sound = λ p e. from-flat (h .sound) (k .sound p e);
-    }
+    long = k .long;
+    few = k .few;
+    above = λ p e. k .above p (h .above p e);
+    sound = λ p e. from-flat (h .sound) (k .sound p e);
+  }

@@ -22,9 +22,9 @@ use Rattle.certify.proofs.Turn.{met-learning, Head, turn}
 -- the program's table of next states
 pub follows-tabled : (n k start : ℕ) (next answer : List ℕ) → Follows (tabled n k start next answer) k next
 follows-tabled n k start next answer = record {
-    commands = tabled-commands n k start next answer;
-    states = λ s c. sym (tabled-next n k start next answer s c refl refl);
-  }
+  commands = tabled-commands n k start next answer;
+  states = λ s c. sym (tabled-next n k start next answer s c refl refl);
+}
 
 module _ (M : Mealy) (apply : Bool) (xs given known₀ : List ℕ) where
   pub record Running (ms known alt root : List ℕ) (cur t s : ℕ) (changed : Bool) : Type 0 where
@@ -92,5 +92,5 @@ module _ (M : Mealy) (apply : Bool) (xs given known₀ : List ℕ) where
             record {
               asked = h .asked;
               head = turn M xs given (h .asked .few) (h .asked .commands .low) known₀ (h .asked .low) apply (h .head) tl (h .asked .commands .few) low
-                (entry-here (f .commands) ee) met learnt on (running-entry (f .commands) ee) there;
+                  (entry-here (f .commands) ee) met learnt on (running-entry (f .commands) ee) there;
             }

@@ -54,14 +54,14 @@ module _ (M : Mealy) (xs given : List ℕ) where
       record {
         long = length-set ms p 1 ∙ h .long;
         few = λ q.
-          ⊎-elim (λ (k : (q ≡ p) × (getD (set ms p 1) q 0 ≡ 1)). omega (arith, k .1))
-          (λ (k : (q ≡ p → ⊥) × (getD (set ms p 1) q 0 ≡ getD ms q 0)). omega (arith, k .1, h .few q))
-          (set-at ms p 1 q inside);
+            ⊎-elim (λ (k : (q ≡ p) × (getD (set ms p 1) q 0 ≡ 1)). omega (arith, k .1))
+            (λ (k : (q ≡ p → ⊥) × (getD (set ms p 1) q 0 ≡ getD ms q 0)). omega (arith, k .1, h .few q))
+            (set-at ms p 1 q inside);
         above = λ q e. set-keeps ms p q inside (h .above q e);
         sound = λ q e.
-          ⊎-elim (λ (k : (q ≡ p) × (getD (set ms p 1) q 0 ≡ 1)). rw (k .0) fp)
-          (λ (k : (q ≡ p → ⊥) × (getD (set ms p 1) q 0 ≡ getD ms q 0)). h .sound q (sym (k .1) ∙ e))
-          (set-at ms p 1 q inside);
+            ⊎-elim (λ (k : (q ≡ p) × (getD (set ms p 1) q 0 ≡ 1)). rw (k .0) fp)
+            (λ (k : (q ≡ p → ⊥) × (getD (set ms p 1) q 0 ≡ getD ms q 0)). h .sound q (sym (k .1) ∙ e))
+            (set-at ms p 1 q inside);
       }
 
   -- ---- two paired places get equal marks
@@ -72,6 +72,6 @@ module _ (M : Mealy) (xs given : List ℕ) where
     both-in n =
         ⊎-elim (λ (e : getD ms a 0 ≡ 1). let f = h .sound a e in (f, paired-carries M xs given pair f))
         (λ (l : getD ms a 0 < 1).
-          let f = h .sound b (bit-one (getD ms b 0) (h .few b) (λ z. n (omega arith))) in
-          (paired-carries M xs given (paired-sym M xs given pair) f, f))
+        let f = h .sound b (bit-one (getD ms b 0) (h .few b) (λ z. n (omega arith))) in
+        (paired-carries M xs given (paired-sym M xs given pair) f, f))
         (eq-or-lt-of-le (h .few a))

@@ -49,37 +49,37 @@ module _ (M : Mealy) (xs given : List ℕ) where
 
   run-on : {a b a′ b′ : ℕ} → Run a b → a < length xs → b < length xs → getD xs a 0 ≡ getD xs b 0 → a′ ≡ a + 1 → b′ ≡ b + 1 → Run a′ b′
   run-on {a} {b} r al bl e ea eb = record {
-      p = r .p;
-      q = r .q;
-      m = r .m + 1;
-      p-in = r .p-in;
-      q-in = r .q-in;
-      states = r .states;
-      a-at = omega (arith, r .a-at);
-      b-at = omega (arith, r .b-at);
-      a-inside = λ z. omega arith;
-      b-inside = λ z. omega arith;
-      commands = λ i l.
+    p = r .p;
+    q = r .q;
+    m = r .m + 1;
+    p-in = r .p-in;
+    q-in = r .q-in;
+    states = r .states;
+    a-at = omega (arith, r .a-at);
+    b-at = omega (arith, r .b-at);
+    a-inside = λ z. omega arith;
+    b-inside = λ z. omega arith;
+    commands = λ i l.
         ⊎-elim (λ (k : i ≡ r .m). rw (k, ← r .a-at, ← r .b-at) e)
         (λ (k : i < r .m). r .commands i k)
         (eq-or-lt-of-le {n = i} {m = r .m} (omega arith));
-    }
+  }
 
   paired-run : {a b : ℕ} → Paired M xs given a b → (a ≡ b) ⊎ (Run a b)
   paired-run (same e) = inl e
   paired-run {a} {b} (tops ha hb e) = inr (record {
-      p = a;
-      q = b;
-      m = 0;
-      p-in = ha;
-      q-in = hb;
-      states = e;
-      a-at = omega arith;
-      b-at = omega arith;
-      a-inside = λ z. let y : ⊥ = omega arith in absurd y;
-      b-inside = λ z. let y : ⊥ = omega arith in absurd y;
-      commands = λ i l. let y : ⊥ = omega arith in absurd y;
-    })
+    p = a;
+    q = b;
+    m = 0;
+    p-in = ha;
+    q-in = hb;
+    states = e;
+    a-at = omega arith;
+    b-at = omega arith;
+    a-inside = λ z. let y : ⊥ = omega arith in absurd y;
+    b-inside = λ z. let y : ⊥ = omega arith in absurd y;
+    commands = λ i l. let y : ⊥ = omega arith in absurd y;
+  })
   paired-run (step p q h pl ql e ea eb) =
       ⊎-elim (λ (s : p ≡ q). inl (omega arith)) (λ (r : Run p q). inr (run-on r pl ql e ea eb)) (paired-run h)
 
@@ -87,10 +87,10 @@ module _ (M : Mealy) (xs given : List ℕ) where
   run-carries {a} {b} r ha =
       ⊎-elim (λ (z : 0 ≡ r .m). let e : b ≡ r .q = omega (arith, r .b-at) in rw e (r .q-in))
       (λ (l : 0 < r .m).
-        let al = r .a-inside (omega arith) in
-        let bl = r .b-inside (omega arith) in
-        rule2 (r .p) (r .q) (r .m) (omega arith) (r .p-in) (r .q-in) (r .states) (rw (← r .a-at) ha) (omega (arith, r .b-at))
-        (commands-equal xs (r .p) (r .q) (r .m) (omega (arith, r .a-at)) (omega (arith, r .b-at)) (r .commands)) (r .b-at))
+      let al = r .a-inside (omega arith) in
+      let bl = r .b-inside (omega arith) in
+      rule2 (r .p) (r .q) (r .m) (omega arith) (r .p-in) (r .q-in) (r .states) (rw (← r .a-at) ha) (omega (arith, r .b-at))
+      (commands-equal xs (r .p) (r .q) (r .m) (omega (arith, r .a-at)) (omega (arith, r .b-at)) (r .commands)) (r .b-at))
       (eq-or-lt-of-le {n = 0} {m = r .m} (omega arith))
 
   -- rule 2 carries membership over

@@ -115,29 +115,31 @@ module _ (xs : List ℕ) (st : ℕ → ℕ) (ms alt root : List ℕ) where
           record {
             marks = m;
             states = follows a b al bl (h .states) c;
-            rep = λ z.
-              (p .v + 1, next a (p .r) (p .v) z (p .rep) (p .path) (p .command) refl refl,
-              next b (q .r) (q .v) (sym m ∙ z) (q .rep) (q .path) (q .command) refl (ap (λ (x : ℕ). x + 1) v));
+            rep = λ z. (
+              p .v + 1,
+              next a (p .r) (p .v) z (p .rep) (p .path) (p .command) refl refl,
+              next b (q .r) (q .v) (sym m ∙ z) (q .rep) (q .path) (q .command) refl (ap (λ (x : ℕ). x + 1) v),
+            );
           }
 
       -- two marked places whose next ones are marked
       both-alike : getD ms (a + 1) 0 ≡ 1 → getD ms (b + 1) 0 ≡ 1 → Alike (a + 1) (b + 1)
       both-alike ma mb = record {
-          marks = ma ∙ sym mb;
-          states = follows a b al bl (h .states) c;
-          rep = λ z. let y : ⊥ = omega arith in absurd y;
-        }
+        marks = ma ∙ sym mb;
+        states = follows a b al bl (h .states) c;
+        rep = λ z. let y : ⊥ = omega arith in absurd y;
+      }
 
       marked-on : getD ms a 0 ≡ 1 → Alike (a + 1) (b + 1)
       marked-on ma =
           let mb : getD ms b 0 ≡ 1 = sym (h .marks) ∙ ma in
           ⊎-elim (λ (e : getD ms (a + 1) 0 ≡ 1). both-alike e (single a b al bl ma mb (h .states) c e))
           (λ (l : getD ms (a + 1) 0 < 1).
-            let na : getD ms (a + 1) 0 ≡ 1 → ⊥ = λ q. omega arith in
-            let p = walked a al (λ x y. na y) in
-            let q = walked b bl (λ x y. na (single b a bl al mb ma (sym (h .states)) (sym c) y)) in
-            let e : getD root (st b) 0 ≡ p .r + 1 = rw (← h .states) (rep-top (p .rep) ma) in
-            met-alike p q (omega (arith, rep-top (q .rep) mb)))
+          let na : getD ms (a + 1) 0 ≡ 1 → ⊥ = λ q. omega arith in
+          let p = walked a al (λ x y. na y) in
+          let q = walked b bl (λ x y. na (single b a bl al mb ma (sym (h .states)) (sym c) y)) in
+          let e : getD root (st b) 0 ≡ p .r + 1 = rw (← h .states) (rep-top (p .rep) ma) in
+          met-alike p q (omega (arith, rep-top (q .rep) mb)))
           (eq-or-lt-of-le (few (a + 1)))
 
       unmarked-on : getD ms a 0 ≡ 0 → Alike (a + 1) (b + 1)
@@ -184,10 +186,10 @@ module _ (xs : List ℕ) (st : ℕ → ℕ) (ms alt root alt′ root′ : List �
 
   pub walked-grows : {i : ℕ} → Walked xs st ms alt root i → Walked xs st ms alt′ root′ i
   walked-grows h = record {
-      r = h .r;
-      v = h .v;
-      rep = rep-grows (h .rep);
-      path = past-grows more (h .path);
-      command = h .command;
-      agrees = h .agrees;
-    }
+    r = h .r;
+    v = h .v;
+    rep = rep-grows (h .rep);
+    path = past-grows more (h .path);
+    command = h .command;
+    agrees = h .agrees;
+  }

@@ -53,9 +53,9 @@ module _ (M : Mealy) (xs given : List ℕ) where
   -- ---- both fold places
   pub folding : {alt root : List ℕ} {t : ℕ} → t ≤ length xs → Linked alt t → Topped root t → Folds M xs given alt root
   folding l h k = record {
-      links = λ v n. h .links v n .2;
-      roots = λ s r e. let q = k .tops s r e in (omega (arith, q .0), q .1, q .2);
-    }
+    links = λ v n. h .links v n .2;
+    roots = λ s r e. let q = k .tops s r e in (omega (arith, q .0), q .1, q .2);
+  }
 
   pub rising : {alt : List ℕ} {t : ℕ} → t ≤ length xs → Linked alt t → Rising xs alt
   rising l h v n = let q = h .links v n in (q .0, omega (arith, q .1))
@@ -88,10 +88,10 @@ module _ (M : Mealy) (xs given : List ℕ) where
           linked = rw ae (record {
             long = length-set alt v t ∙ h .long;
             links = λ u n.
-              ⊎-elim (λ (q : (u ≡ v) × (getD (set alt v t) u 0 ≡ t)). rw (q .1, q .0) (vt, omega arith, pv))
-              (λ (q : (u ≡ v → ⊥) × (getD (set alt v t) u 0 ≡ getD alt u 0)).
+                ⊎-elim (λ (q : (u ≡ v) × (getD (set alt v t) u 0 ≡ t)). rw (q .1, q .0) (vt, omega arith, pv))
+                (λ (q : (u ≡ v → ⊥) × (getD (set alt v t) u 0 ≡ getD alt u 0)).
                 let l = h .links u (λ y. n (q .1 ∙ y)) in rw (q .1) (l .0, omega (arith, l .1), l .2))
-              (set-at alt v t u inside);
+                (set-at alt v t u inside);
           });
           topped = g;
           low = omega arith;
@@ -111,11 +111,11 @@ module _ (M : Mealy) (xs given : List ℕ) where
         topped = rw re (record {
           long = length-set root s (t + 1) ∙ k .long;
           tops = λ x y d.
-            ⊎-elim (λ (q : (x ≡ s) × (getD (set root s (t + 1)) x 0 ≡ t + 1)).
+              ⊎-elim (λ (q : (x ≡ s) × (getD (set root s (t + 1)) x 0 ≡ t + 1)).
               let yt : y ≡ t = omega (arith, q .1) in rw yt (omega arith, ft, sym se ∙ sym (q .0)))
-            (λ (q : (x ≡ s → ⊥) × (getD (set root s (t + 1)) x 0 ≡ getD root x 0)).
+              (λ (q : (x ≡ s → ⊥) × (getD (set root s (t + 1)) x 0 ≡ getD root x 0)).
               let l = k .tops x y (sym (q .1) ∙ d) in (omega (arith, l .0), l .1, l .2))
-            (set-at root s (t + 1) x inside);
+              (set-at root s (t + 1) x inside);
         });
         low = omega arith;
         pair = same e;

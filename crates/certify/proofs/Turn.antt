@@ -31,13 +31,13 @@ module _ (M : Mealy) (xs given : List ℕ) (few : (p : ℕ) → getD given p 0 �
       → Met M xs ms cur t changed ms′ changed′ → Learning M xs given few low known₀ few₀ ms′ known changed′
   met-learning h (Met.equal e me ce) = rw (me, ce) h
   met-learning {ms} {ms′} {known} h (Met.differ g r ce) = record {
-      marking = marking-flat M xs given ms (h .marking) g;
-      table = h .table;
-      knows = h .knows;
-      keeps = h .keeps;
-      low-known = h .low-known;
-      risen = λ q. inl (record { place = r .place; was = was-zero given ms few (h .marking .above) (r .place) (r .was); is = r .is });
-    }
+    marking = marking-flat M xs given ms (h .marking) g;
+    table = h .table;
+    knows = h .knows;
+    keeps = h .keeps;
+    low-known = h .low-known;
+    risen = λ q. inl (record { place = r .place; was = was-zero given ms few (h .marking .above) (r .place) (r .was); is = r .is });
+  }
 
   module _ (apply : Bool) where
     -- what holds besides where nothing changed so far
@@ -135,13 +135,13 @@ module _ (M : Mealy) (xs given : List ℕ) (few : (p : ℕ) → getD given p 0 �
             comes = still-comes all tl l sl (h .state) (h .linked) (h .topped) (h .low-cur) (g .comes) on;
             walked = λ i il n. walked-grows xs (stateAt M xs) given alt root alt′ root′ (onward-links on) (onward-roots on) (walked-here g agree i il n);
             learnt = λ i il a b z.
-              ⊎-elim (λ (q : i ≡ t). u .learnt (rw (one, ← q) a) (rw (one, ← q) b) (rw (g .same-known, ← at, ← q) z))
-              (λ (k : i < t). g .learnt i k a b z)
-              (eq-or-lt-of-le {n = i} {m = t} (omega arith));
+                ⊎-elim (λ (q : i ≡ t). u .learnt (rw (one, ← q) a) (rw (one, ← q) b) (rw (g .same-known, ← at, ← q) z))
+                (λ (k : i < t). g .learnt i k a b z)
+                (eq-or-lt-of-le {n = i} {m = t} (omega arith));
             applied = λ i il o a n z.
-              ⊎-elim (λ (q : i ≡ t). u .applied o (rw (one, ← q) a) (λ y. n (rw (g .same-known, ← at, ← q) at y)) (rw (one, ← q) z))
-              (λ (k : i < t). g .applied i k o a n z)
-              (eq-or-lt-of-le {n = i} {m = t} (omega arith));
+                ⊎-elim (λ (q : i ≡ t). u .applied o (rw (one, ← q) a) (λ y. n (rw (g .same-known, ← at, ← q) at y)) (rw (one, ← q) z))
+                (λ (k : i < t). g .applied i k o a n z)
+                (eq-or-lt-of-le {n = i} {m = t} (omega arith));
           }
 
       pub turn : (el : e < mostEntries) {s′ : ℕ} → s′ ≡ stateAt M xs (t + 1) → Head ms₂ known₂ alt′ root′ cur′ (t + 1) s′ changed₂

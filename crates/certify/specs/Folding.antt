@@ -33,7 +33,7 @@ pub data Paired (M : Mealy) (xs given : List ℕ) : ℕ → ℕ → Type 0 where
   same : {a b : ℕ} → a ≡ b → Paired M xs given a b
   tops : {a b : ℕ} → From M xs given a → From M xs given b → stateAt M xs a ≡ stateAt M xs b → Paired M xs given a b
   step : {a b : ℕ} (p q : ℕ) → Paired M xs given p q → p < length xs → q < length xs → getD xs p 0 ≡ getD xs q 0 → a ≡ p + 1 → b ≡ q + 1
-    → Paired M xs given a b
+      → Paired M xs given a b
 
 -- from r along the alternatives to v, past places with other commands than c; alt holds the next alternative, 0 for none
 pub data Past (xs alt : List ℕ) (c : ℕ) : ℕ → ℕ → Type 0 where

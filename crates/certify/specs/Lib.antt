@@ -3,3 +3,4 @@ pub mod Marks
 pub mod Certification
 pub mod Folding
 pub mod Sweep
+pub mod Closing

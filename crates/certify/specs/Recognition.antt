@@ -19,10 +19,10 @@ pub data Closure (xs : List ℕ) (state : ℕ → ℕ) (Base : ℕ → Type 0) :
   -- "q+m is recognised if m is at least 1, p and q are recognised places with the same state, p+m is recognised, and the m commands from p
   -- equal the m commands from q"
   rule2 : {r : ℕ} (p q m : ℕ) → 1 ≤ m
-    → Closure xs state Base p → Closure xs state Base q → state p ≡ state q
-    → Closure xs state Base (p + m) → q + m ≤ length xs
-    → take m (drop p xs) ≡ take m (drop q xs)
-    → r ≡ q + m → Closure xs state Base r
+      → Closure xs state Base p → Closure xs state Base q → state p ≡ state q
+      → Closure xs state Base (p + m) → q + m ≤ length xs
+      → take m (drop p xs) ≡ take m (drop q xs)
+      → r ≡ q + m → Closure xs state Base r
 
 -- place p is recognised: by rule 1 it is d-recognised, by rule 2 t-recognised
 pub Recognised : Mealy → List ℕ → List ℕ → ℕ → Type 0

@@ -29,15 +29,15 @@ pub data Met (M : Mealy) (xs ms : List ℕ) (cur t : ℕ) (changed : Bool) (ms�
 pub data Learnt (apply : Bool) (ms known : List ℕ) (e t : ℕ) (changed : Bool) (ms′ known′ : List ℕ) (changed′ : Bool) : Type 0 where
   unmarked : getD ms t 0 ≡ 0 → ms′ ≡ ms → known′ ≡ known → changed′ ≡ changed → Learnt apply ms known e t changed ms′ known′ changed′
   knew : (getD known e 0 ≡ 0 → ⊥) → (getD ms (t + 1) 0 ≡ 0 → ⊥) → ms′ ≡ ms → known′ ≡ known → changed′ ≡ changed
-    → Learnt apply ms known e t changed ms′ known′ changed′
+      → Learnt apply ms known e t changed ms′ known′ changed′
   learns : (getD ms t 0 ≡ 0 → ⊥) → (getD ms (t + 1) 0 ≡ 0 → ⊥) → getD known e 0 ≡ 0 → ms′ ≡ ms → known′ ≡ set known e 1 → changed′ ≡ true
-    → Learnt apply ms known e t changed ms′ known′ changed′
+      → Learnt apply ms known e t changed ms′ known′ changed′
   unknown : getD ms (t + 1) 0 ≡ 0 → getD known e 0 ≡ 0 → ms′ ≡ ms → known′ ≡ known → changed′ ≡ changed
-    → Learnt apply ms known e t changed ms′ known′ changed′
+      → Learnt apply ms known e t changed ms′ known′ changed′
   waits : getD ms (t + 1) 0 ≡ 0 → apply ≡ false → ms′ ≡ ms → known′ ≡ known → changed′ ≡ changed
-    → Learnt apply ms known e t changed ms′ known′ changed′
+      → Learnt apply ms known e t changed ms′ known′ changed′
   applies : (getD ms t 0 ≡ 0 → ⊥) → getD ms (t + 1) 0 ≡ 0 → (getD known e 0 ≡ 0 → ⊥) → ms′ ≡ set ms (t + 1) 1 → known′ ≡ known → changed′ ≡ true
-    → Learnt apply ms known e t changed ms′ known′ changed′
+      → Learnt apply ms known e t changed ms′ known′ changed′
 
 -- the place that represents state s, which becomes t where there is none yet; root holds place + 1, 0 for none
 pub data Rooted (root : List ℕ) (s t : ℕ) (root′ : List ℕ) (r : ℕ) : Type 0 where
@@ -48,16 +48,16 @@ pub data Rooted (root : List ℕ) (s t : ℕ) (root′ : List ℕ) (r : ℕ) : T
 pub data Advanced (xs alt : List ℕ) (r t : ℕ) (alt′ : List ℕ) (cur : ℕ) : Type 0 where
   found : (v : ℕ) → Past xs alt (getD xs t 0) r v → getD xs v 0 ≡ getD xs t 0 → alt′ ≡ alt → cur ≡ v + 1 → Advanced xs alt r t alt′ cur
   added : (v : ℕ) → Past xs alt (getD xs t 0) r v → (getD xs v 0 ≡ getD xs t 0 → ⊥) → getD alt v 0 ≡ 0 → alt′ ≡ set alt v t → cur ≡ t + 1
-    → Advanced xs alt r t alt′ cur
+      → Advanced xs alt r t alt′ cur
 
 -- where the sweep comes to t + 1 from: an unmarked t is represented by cur, a marked one by its state's place; between two marked places
 -- there is nothing to fold
 pub data Onward (xs ms alt root : List ℕ) (s t cur : ℕ) (alt′ root′ : List ℕ) (cur′ : ℕ) : Type 0 where
   unmarked : getD ms t 0 ≡ 0 → root′ ≡ root → Advanced xs alt cur t alt′ cur′ → Onward xs ms alt root s t cur alt′ root′ cur′
   between : (getD ms t 0 ≡ 0 → ⊥) → (getD ms (t + 1) 0 ≡ 0 → ⊥) → alt′ ≡ alt → root′ ≡ root → cur′ ≡ t + 1
-    → Onward xs ms alt root s t cur alt′ root′ cur′
+      → Onward xs ms alt root s t cur alt′ root′ cur′
   marked : (getD ms t 0 ≡ 0 → ⊥) → getD ms (t + 1) 0 ≡ 0 → (r : ℕ) → Rooted root s t root′ r → Advanced xs alt r t alt′ cur′
-    → Onward xs ms alt root s t cur alt′ root′ cur′
+      → Onward xs ms alt root s t cur alt′ root′ cur′
 
 -- ---- a whole sweep
 -- where the entry of place i stands in the table of the entries that are known to be verified

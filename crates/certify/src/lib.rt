@@ -1,8 +1,8 @@
 // Recognition and certification of a sequence: refusals 7 and 9, the marks, and what is certified.
 mod answer;
-mod certify;
 mod chains;
 mod closure;
+mod service;
 mod sweep;
 mod tally;
 mod word;
@@ -10,3 +10,4 @@ mod word;
 pub use answer::Answer;
 pub use answer::Values;
 pub use answer::values_of;
+pub use service::certify;

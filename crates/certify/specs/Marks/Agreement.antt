@@ -136,11 +136,11 @@ module _ (xs : List ℕ) (state : ℕ → ℕ) where
   settled-stable zero ms long enough = full-stable ms long (omega (arith, count-most (grown xs state ms), grown-length xs state ms))
   settled-stable (suc f) ms long enough =
       ⊎-elim (λ (e : eqb (count (grown xs state ms)) (count ms) ≡ true).
-        rw (settled-ends f ms e) (full-stable ms long (omega (arith, eqb-true (count (grown xs state ms)) (count ms) e))))
+      rw (settled-ends f ms e) (full-stable ms long (omega (arith, eqb-true (count (grown xs state ms)) (count ms) e))))
       (λ (e : eqb (count (grown xs state ms)) (count ms) ≡ false).
-        let more = grown-length xs state ms in
-        let rise = count-below ms (grown xs state ms) (omega arith) (grown-above ms long) in
-        rw (settled-on f ms e) (settled-stable f (grown xs state ms) more (omega (arith, eqb-false (count (grown xs state ms)) (count ms) e))))
+      let more = grown-length xs state ms in
+      let rise = count-below ms (grown xs state ms) (omega arith) (grown-above ms long) in
+      rw (settled-on f ms e) (settled-stable f (grown xs state ms) more (omega (arith, eqb-false (count (grown xs state ms)) (count ms) e))))
       (true-or-false (eqb (count (grown xs state ms)) (count ms)))
 
 -- ---- the smallest set, as marks
@@ -185,15 +185,15 @@ module _ (xs : List ℕ) (state : ℕ → ℕ) (Base : ℕ → Type 0) where
       each : (p : ℕ) → p ≤ length xs → getD a p 0 ≡ getD b p 0
       each p l =
           ⊎-elim (λ (e : eqb (getD a p 0) 1 ≡ true).
-            let x = eqb-true _ _ e in x ∙ sym (hb .complete p l (ha .sound p x)))
+          let x = eqb-true _ _ e in x ∙ sym (hb .complete p l (ha .sound p x)))
           (λ (e : eqb (getD a p 0) 1 ≡ false).
-            ⊎-elim (λ (d : eqb (getD b p 0) 1 ≡ true).
-              absurd (eqb-false _ _ e (ha .complete p l (hb .sound p (eqb-true _ _ d)))))
-            (λ (d : eqb (getD b p 0) 1 ≡ false).
-              let u = eqb-false (getD a p 0) 1 e in
-              let v = eqb-false (getD b p 0) 1 d in
-              omega (arith, ha .few p, hb .few p))
-            (true-or-false (eqb (getD b p 0) 1)))
+          ⊎-elim (λ (d : eqb (getD b p 0) 1 ≡ true).
+          absurd (eqb-false _ _ e (ha .complete p l (hb .sound p (eqb-true _ _ d)))))
+          (λ (d : eqb (getD b p 0) 1 ≡ false).
+          let u = eqb-false (getD a p 0) 1 e in
+          let v = eqb-false (getD b p 0) 1 d in
+          omega (arith, ha .few p, hb .few p))
+          (true-or-false (eqb (getD b p 0) 1)))
           (true-or-false (eqb (getD a p 0) 1))
 
   module _ (base : ℕ → Bool) (from : (p : ℕ) → base p ≡ true → Base p) (to : (p : ℕ) → Base p → base p ≡ true) where
@@ -210,24 +210,24 @@ module _ (xs : List ℕ) (state : ℕ → ℕ) (Base : ℕ → Type 0) where
 
     grows : (ms : List ℕ) → Growing ms → Growing (grown xs state ms)
     grows ms h = record {
-        long = grown-length xs state ms;
-        few = grown-few xs state ms;
-        sound = λ p e.
+      long = grown-length xs state ms;
+      few = grown-few xs state ms;
+      sound = λ p e.
           ⊎-elim (h .sound p)
           (shown-sound ms p (omega (arith, marked-inside (grown xs state ms) p e, grown-length xs state ms)) (h .sound))
           (grown-from xs state ms p e);
-        holds = λ p l b. grown-keeps xs state ms p l (h .holds p l b);
-      }
+      holds = λ p l b. grown-keeps xs state ms p l (h .holds p l b);
+    }
 
     begun : Growing (listed (length xs + 1) (λ p. mark (base p)))
     begun = record {
-        long = listed-length _ _;
-        few = listed-few _ _ (λ i. mark-few (base i));
-        sound = λ p e.
+      long = listed-length _ _;
+      few = listed-few _ _ (λ i. mark-few (base i));
+      sound = λ p e.
           let l = marked-inside (listed (length xs + 1) (λ i. mark (base i))) p e in
           rule1 (from p (mark-true (base p) (sym (listed-at (length xs + 1) (λ i. mark (base i)) p (omega (arith, listed-length (length xs + 1) (λ i. mark (base i))))) ∙ e)));
-        holds = λ p l b. listed-at (length xs + 1) (λ i. mark (base i)) p (omega arith) ∙ ap mark (to p b);
-      }
+      holds = λ p l b. listed-at (length xs + 1) (λ i. mark (base i)) p (omega arith) ∙ ap mark (to p b);
+    }
 
     pub closure-exact : Exact xs state Base (closure xs state base)
     unfolding closure Stable
