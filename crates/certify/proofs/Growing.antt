@@ -1,11 +1,15 @@
--- More given marks: the closure, pairing and folding tables grow with them, and a marking of a marking is one of the first marks.
-use Prim.Native.Nat.{ℕ}
+-- More given marks: the closure, pairing and folding grow with them, and a marking of a marking is one of the first marks.
+use Prim.Native.Nat.{ℕ, _+_, _≤_}
 use mathlib.Core.Path.{_≡_}
 use mathlib.Core.List.{List}
-use lib.ListN.{getD}
+use lib.ListN.{length, getD}
 use Rattle.machine.specs.Machine.{Mealy}
 use Rattle.certify.specs.Recognition.{rule1, rule2}
 use Rattle.certify.specs.Folding.{From, Marking, Paired, same, tops, step, Folds}
+
+-- marks of 0 and 1 are a marking of themselves
+pub marking-same : {M : Mealy} {xs g : List ℕ} → length g ≡ length xs + 1 → ((p : ℕ) → getD g p 0 ≤ 1) → Marking M xs g g
+marking-same l few = record { long = l; few = few; above = λ p e. e; sound = λ p e. rule1 e }
 
 module _ (M : Mealy) (xs g ms : List ℕ) where
   -- ---- every given mark is a mark of ms

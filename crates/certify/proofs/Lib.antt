@@ -1,10 +1,15 @@
 mod Alternatives
+mod Answering
 mod Ends
 mod Entries
+mod Following
 mod Growing
 mod Loop
 mod Marking
+mod Meeting
 mod Paired
 mod Represented
+mod Settling
 mod Tables
 mod Turn
+mod Words

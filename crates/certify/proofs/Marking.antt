@@ -64,14 +64,13 @@ module _ (M : Mealy) (xs given : List ℕ) where
             (set-at ms p 1 q inside);
       }
 
-  -- ---- two paired places get equal marks
-  module _ (few : (p : ℕ) → getD given p 0 ≤ 1) {ms : List ℕ} {a b : ℕ} (h : Marking M xs given ms)
-      (pair : Paired M xs given a b) (al : a ≤ length xs) (bl : b ≤ length xs) where
-    -- one of two bits that differ is 1, the other 0
-    both-in : (getD ms a 0 ≡ getD ms b 0 → ⊥) → (From M xs given a) × (From M xs given b)
-    both-in n =
-        ⊎-elim (λ (e : getD ms a 0 ≡ 1). let f = h .sound a e in (f, paired-carries M xs given pair f))
-        (λ (l : getD ms a 0 < 1).
-        let f = h .sound b (bit-one (getD ms b 0) (h .few b) (λ z. n (omega arith))) in
-        (paired-carries M xs given (paired-sym M xs given pair) f, f))
-        (eq-or-lt-of-le (h .few a))
+
+  -- of two paired places whose marks differ one is marked, so both are in the closure
+  pub both-in : {ms : List ℕ} {a b : ℕ} → Marking M xs given ms → Paired M xs given a b → (getD ms a 0 ≡ getD ms b 0 → ⊥)
+      → (From M xs given a) × (From M xs given b)
+  both-in {ms} {a} {b} h pair n =
+      ⊎-elim (λ (e : getD ms a 0 ≡ 1). let f = h .sound a e in (f, paired-carries M xs given pair f))
+      (λ (l : getD ms a 0 < 1).
+      let f = h .sound b (bit-one (getD ms b 0) (h .few b) (λ z. n (omega arith))) in
+      (paired-carries M xs given (paired-sym M xs given pair) f, f))
+      (eq-or-lt-of-le (h .few a))

@@ -21,6 +21,7 @@ use Rattle.certify.specs.declared.answer.Answer.the-variants.{Certified,
 use Rattle.certify.specs.declared.answer.Values.{Values}
 use Rattle.certify.specs.Marks.{some, marked, count, marks}
 pub mod Laws
+pub mod Program
 pub mod Twin
 
 -- ---- causes

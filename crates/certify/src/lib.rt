@@ -1,6 +1,7 @@
 // Recognition and certification of a sequence: refusals 7 and 9, the marks, and what is certified.
 mod answer;
 mod chains;
+mod chase;
 mod closure;
 mod service;
 mod sweep;

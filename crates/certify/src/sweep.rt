@@ -11,6 +11,7 @@ ghost use Rattle.certify.specs.Sweep.{Meeting, Met, Learnt, Onward, Swee
 use crate::chains::STATE_BYTES;
 use crate::chains::advance;
 use crate::chains::represent;
+use crate::chase::chase;
 use machine::Machine;
 use machine::entry_at;
 
@@ -20,7 +21,8 @@ pub struct Progress {
     pub fuel: usize,
 }
 
-// Makes the marks of t and of cur, which represents it, equal.
+// Makes the marks of t and of cur, which represents it, equal. A mark of cur, which the sweep has
+// passed, is followed at once.
 fn meet(
     xs: &[u8],
     next: &[u8],
@@ -43,7 +45,14 @@ fn meet(
     if marks[cur] == marks[t] {
         return p;
     }
-    marks[cur] = 1;
+    if marks[cur] == 0 {
+        marks[cur] = 1;
+        let fuel = chase(xs, next, k, marks, alt, root, cur, s, p.fuel);
+        return Progress {
+            changed: true,
+            fuel,
+        };
+    }
     marks[t] = 1;
     Progress {
         changed: true,

@@ -1,28 +1,201 @@
 -- The laws of certifying: what building and judging may know of it.
-use Prim.Native.Nat.{ℕ}
-use mathlib.Core.Path.{_≡_, ap}
+use Prim.Native.Nat.{ℕ, _+_, _*_, _≤_, _<_}
+use mathlib.Core.Path.{_≡_, refl, sym, ap, _∙_}
+use mathlib.Core.Bool.{Bool, true, false, true≢false, not}
 use mathlib.Core.List.{List}
+use native.Mathlib.Omega.{arith}
+use borrow.Author.Tests.{eq-eqb, eqb-true, not-true, not-false}
+use lib.ListN.{length, getD}
 use Rattle.sheet.specs.declared.check.Check.{Check}
 use Rattle.sheet.specs.declared.check.Check.the-variants.{Clear, Refused}
-use Rattle.machine.specs.Machine.{Mealy}
+use Rattle.sheet.specs.Check.{refusal_with_if_, _else_, firstCause, first}
+use Rattle.sheet.specs.Check.Laws.{both-true, absent, clear-absent, both-clear, else-clear, first-clear, first-clear-at, Present, first-present, present-test}
+use Rattle.sheet.specs.Reader.{content}
+use Rattle.machine.specs.Machine.{Mealy, stateAt}
+use Rattle.machine.specs.Causes.{machineIn}
+use Rattle.machine.specs.Causes.Laws.{entry-below}
 use Rattle.certify.specs.declared.answer.Answer.{Answer}
-use Rattle.certify.specs.declared.answer.Answer.the-variants.{Certified, Open, Refused as RefusedAnswer}
-use Rattle.certify.specs.Marks.{count, marks}
-use Rattle.certify.specs.Certification.{openOf, cause11, answerOf, outcome, valuesOf}
+use Rattle.certify.specs.declared.answer.Answer.the-variants.{Certified as CertifiedAnswer, Open, Refused as RefusedAnswer}
+use Rattle.certify.specs.Recognition.{Recognised, Verified, Certified}
+use Rattle.certify.specs.Marks.{marked, count, marks}
+use Rattle.certify.specs.Marks.Laws.{some-found, some-holds, marked-true, true-marked}
+use Rattle.certify.specs.Marks.Agreement.{marked-recognised, recognised-marked}
+use Rattle.certify.specs.Certification.{certifyNeeds, certifyCauses, verified, openOf, cause11, answerOf, outcome, refusedOr, certification, kept, marksAfter, valuesOf}
 
--- the outcome of marks that are the sequence's
+-- ---- verified entries, by any marks
+-- the place that shows an entry
+pub record ShownBy (M : Mealy) (xs ms : List ℕ) (s c : ℕ) : Type 0 where
+  pub place : ℕ
+  pub inside : place < length xs
+  pub state : stateAt M xs place ≡ s
+  pub command : getD xs place 0 ≡ c
+  pub before : getD ms place 0 ≡ 1
+  pub after : getD ms (place + 1) 0 ≡ 1
+
+pub verified-shown : (M : Mealy) (xs ms : List ℕ) (s c : ℕ) → verified M xs ms s c ≡ true → ShownBy M xs ms s c
+unfolding verified
+verified-shown M xs ms s c e =
+    let f = some-found _ _ e in
+    let a = both-true _ _ (f .2) in
+    let b = both-true _ _ (a .1) in
+    let d = both-true _ _ (b .1) in
+    record {
+      place = f .0;
+      inside = f .1;
+      state = eqb-true _ _ (a .0);
+      command = eqb-true _ _ (b .0);
+      before = marked-true ms _ (d .0);
+      after = marked-true ms _ (d .1);
+    }
+
+pub shown-verified : (M : Mealy) (xs ms : List ℕ) (s c : ℕ) → ShownBy M xs ms s c → verified M xs ms s c ≡ true
+unfolding verified
+shown-verified M xs ms s c v =
+    some-holds _ _ (v .place) (v .inside)
+    (rw (eq-eqb _ _ (v .state), eq-eqb _ _ (v .command), true-marked ms _ (v .before), true-marked ms _ (v .after)))
+
+module _ (M : Mealy) (w xs : List ℕ) where
+  -- ---- verified, both directions
+  pub verified-true : (s c : ℕ) → verified M xs (marks M w xs) s c ≡ true → Verified M w xs s c
+  verified-true s c e =
+      let v = verified-shown M xs (marks M w xs) s c e in
+      record {
+        place = v .place;
+        inside = v .inside;
+        state = v .state;
+        command = v .command;
+        before = marked-recognised M w xs (v .place) (v .before);
+        after = marked-recognised M w xs (v .place + 1) (v .after);
+      }
+
+  pub true-verified : (s c : ℕ) → Verified M w xs s c → verified M xs (marks M w xs) s c ≡ true
+  true-verified s c v = shown-verified M xs (marks M w xs) s c (record {
+      place = v .place;
+      inside = v .inside;
+      state = v .state;
+      command = v .command;
+      before = recognised-marked M w xs (v .place) (v .before);
+      after = recognised-marked M w xs (v .place + 1) (v .after);
+    })
+
+  -- ---- certified exactly where place 0 is recognised and every entry is verified
+  pub clear-certified : cause11 M w xs ≡ Clear → Certified M w xs
+  unfolding cause11 openOf
+  clear-certified e =
+      let h = both-clear _ _ e in
+      record {
+        start = marked-recognised M w xs 0 (marked-true (marks M w xs) 0 (not-false _ (clear-absent 11 0 _ (h .0))));
+        entries = λ s c ls lc.
+          verified-true s c (not-false _ (clear-absent 11 _ _ (first-clear-at (M .k) c _ (first-clear-at (M .n) s _ (h .1) ls) lc)));
+      }
+
+  pub certified-clear : Certified M w xs → cause11 M w xs ≡ Clear
+  unfolding cause11 openOf
+  certified-clear h =
+      rw (absent 11 0 (ap not (true-marked (marks M w xs) 0 (recognised-marked M w xs 0 (h .start)))))
+      (else-clear _ ∙ first-clear (M .n) _ (λ s ls. first-clear (M .k) _ (λ c lc. absent 11 _ (ap not (true-verified s c (h .entries s c ls lc))))))
+
+-- ---- the open number
+-- "0 if place 0 is not recognised, else 1+s·k+command for the least entry not verified"
+pub data OpenNumber (M : Mealy) (w xs : List ℕ) (v : ℕ) : Type 0 where
+  start-open : (Recognised M w xs 0 → ⊥) → v ≡ 0 → OpenNumber M w xs v
+  entry-open : (s c : ℕ) → s < M .n → c < M .k → Recognised M w xs 0 → (Verified M w xs s c → ⊥)
+    → ((t d : ℕ) → t < s → d < M .k → Verified M w xs t d) → ((d : ℕ) → d < c → Verified M w xs s d)
+    → v ≡ 1 + (s * M .k + c) → OpenNumber M w xs v
+
+module _ (M : Mealy) (w xs : List ℕ) where
+  entryCheck : ℕ → ℕ → Check
+  entryCheck s c = refusal 11 with 1 + (s * M .k + c) if not (verified M xs (marks M w xs) s c)
+
+  clear-verified : (s c : ℕ) → entryCheck s c ≡ Clear → Verified M w xs s c
+  unfolding entryCheck
+  clear-verified s c e = verified-true M w xs s c (not-false _ (clear-absent 11 _ _ e))
+
+  in-row : (s : ℕ) → s < M .n → Recognised M w xs 0 → ((t d : ℕ) → t < s → d < M .k → Verified M w xs t d) → {a v : ℕ}
+      → Present (M .k) (entryCheck s) a v → (a ≡ 11) × OpenNumber M w xs v
+  unfolding entryCheck
+  in-row s ls r before h =
+      let t = present-test 11 _ _ (h .here) in
+      (t .1 .0, entry-open s (h .place) ls (h .inside) r (λ v. true≢false (sym (true-verified M w xs s (h .place) v) ∙ not-true _ (t .0))) before
+      (λ d l. clear-verified s d (first-clear-at (h .place) d (entryCheck s) (h .before) l)) (t .1 .1))
+
+  in-rows : Recognised M w xs 0 → {a v : ℕ} → Present (M .n) (λ s. first (M .k) (entryCheck s)) a v → (a ≡ 11) × OpenNumber M w xs v
+  in-rows r h =
+      in-row (h .place) (h .inside) r
+      (λ t d lt ld. clear-verified t d (first-clear-at (M .k) d (entryCheck t) (first-clear-at (h .place) t (λ s. first (M .k) (entryCheck s)) (h .before) lt) ld))
+      (first-present (M .k) (entryCheck (h .place)) (h .here))
+
+  open-by : (b : Bool) → marked (marks M w xs) 0 ≡ b → {a v : ℕ} → ((refusal 11 with 0 if not b) else first (M .n) (λ s. first (M .k) (entryCheck s))) ≡ Refused a v
+      → (a ≡ 11) × OpenNumber M w xs v
+  unfolding refusal_with_if_ _else_
+  open-by true m e = in-rows (marked-recognised M w xs 0 (marked-true (marks M w xs) 0 m)) (first-present (M .n) _ e)
+  open-by false m e = (cc, start-open (λ r. true≢false (sym (true-marked (marks M w xs) 0 (recognised-marked M w xs 0 r)) ∙ m)) (cc))
+
+  pub refused-open : {a v : ℕ} → cause11 M w xs ≡ Refused a v → (a ≡ 11) × OpenNumber M w xs v
+  unfolding cause11 openOf entryCheck
+  refused-open e = open-by (marked (marks M w xs) 0) refl e
+
+-- it is at most n·k
+pub open-small : (M : Mealy) (w xs : List ℕ) (v : ℕ) → OpenNumber M w xs v → v ≤ M .n * M .k
+open-small M w xs v (start-open h e) = omega arith
+open-small M w xs v (entry-open s c ls lc r h b d e) = omega (arith, entry-below (M .n) (M .k) s c ls lc)
+
+-- ---- the outcome
+-- the outcome, once the marks are known
 pub outcome-of : (M : Mealy) (w xs : List ℕ) {ms : List ℕ} → marks M w xs ≡ ms → outcome M w xs ≡ answerOf (openOf M xs ms) (count ms)
 unfolding outcome cause11
 outcome-of M w xs e = ap (λ (ms : List ℕ). answerOf (openOf M xs ms) (count ms)) e
 
--- ---- answers by their cases
-pub answer-clear : (n : ℕ) {c : Check} → c ≡ Clear → Certified n ≡ answerOf c n
+pub outcome-clear : (M : Mealy) (w xs : List ℕ) → cause11 M w xs ≡ Clear → outcome M w xs ≡ CertifiedAnswer (count (marks M w xs))
+unfolding outcome
+outcome-clear M w xs e = rw e
+
+pub outcome-open : (M : Mealy) (w xs : List ℕ) {a v : ℕ} → cause11 M w xs ≡ Refused a v → outcome M w xs ≡ Open (count (marks M w xs)) v
+unfolding outcome
+outcome-open M w xs e = rw e
+
+-- ---- the service's answer and buffer, by the first cause
+pub certification-refused : (room : ℕ) (s : List ℕ) {n p : ℕ} → firstCause (certifyCauses certifyNeeds room s) ≡ Refused n p → certification room s ≡ RefusedAnswer n p
+unfolding certification
+certification-refused room s e = rw e
+
+pub certification-clear : (room : ℕ) (s : List ℕ) → firstCause (certifyCauses certifyNeeds room s) ≡ Clear
+    → certification room s ≡ outcome (machineIn s) (content 2 s) (content 3 s)
+unfolding certification
+certification-clear room s e = rw e
+
+pub after-refused : (s buffer : List ℕ) {n p : ℕ} → firstCause (certifyCauses certifyNeeds (length buffer) s) ≡ Refused n p → marksAfter s buffer ≡ buffer
+unfolding marksAfter
+after-refused s buffer e = rw e
+
+pub after-clear : (s buffer : List ℕ) → firstCause (certifyCauses certifyNeeds (length buffer) s) ≡ Clear
+    → marksAfter s buffer ≡ kept (marks (machineIn s) (content 2 s) (content 3 s)) buffer
+unfolding marksAfter
+after-clear s buffer e = rw e
+
+-- ---- what an answer shows
+certified-by : (c d : Check) (m n : ℕ) → refusedOr c (answerOf d m) ≡ CertifiedAnswer n → (c ≡ Clear) × ((d ≡ Clear) × (n ≡ m))
+certified-by Clear Clear m n e = (refl, (refl, cc))
+certified-by Clear (Refused a b) m n e = let z : _≡_ {A = ℕ} 0 1 = cc in absurd (omega arith)
+certified-by (Refused a b) d m n e = let z : _≡_ {A = ℕ} 0 1 = cc in absurd (omega arith)
+
+-- an answer of certified: nothing is refused, the sequence is certified, and the number is that of the recognised places
+pub answer-certified : (room : ℕ) (s : List ℕ) {n : ℕ} → certification room s ≡ CertifiedAnswer n
+    → (firstCause (certifyCauses certifyNeeds room s) ≡ Clear)
+    × ((Certified (machineIn s) (content 2 s) (content 3 s)) × (n ≡ count (marks (machineIn s) (content 2 s) (content 3 s))))
+unfolding certification outcome
+answer-certified room s e =
+    let h = certified-by (firstCause (certifyCauses certifyNeeds room s)) (cause11 (machineIn s) (content 2 s) (content 3 s)) _ _ e in
+    (h .0, (clear-certified (machineIn s) (content 2 s) (content 3 s) (h .1 .0), h .1 .1))
+
+-- ---- answers and their values by their cases
+pub answer-clear : (n : ℕ) {c : Check} → c ≡ Clear → CertifiedAnswer n ≡ answerOf c n
 answer-clear n e = rw e
 
 pub answer-refused : (n : ℕ) {c : Check} {number place : ℕ} → c ≡ Refused number place → Open n place ≡ answerOf c n
 answer-refused n e = rw e
 
-pub values-certified : {a : Answer} {n : ℕ} → a ≡ Certified n → record { class = 110; place = n; a = 0; b = 0 } ≡ valuesOf a
+pub values-certified : {a : Answer} {n : ℕ} → a ≡ CertifiedAnswer n → record { class = 110; place = n; a = 0; b = 0 } ≡ valuesOf a
 values-certified e = rw e
 
 pub values-open : {a : Answer} {n number : ℕ} → a ≡ Open n number → record { class = 111; place = n; a = 0; b = number } ≡ valuesOf a

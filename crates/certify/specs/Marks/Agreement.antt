@@ -29,6 +29,13 @@ pub true-stands : (w xs : List ℕ) (p : ℕ) → Stands w xs p → stands w xs 
 unfolding stands
 true-stands w xs p h = rw (le-leb _ _ (h .inside), h .stands) (same-refl w)
 
+pub stands-holds : (w xs : List ℕ) (p : ℕ) → Stands w xs p → true ≡ stands w xs p
+stands-holds w xs p h = sym (true-stands w xs p h)
+
+pub stands-fails : (w xs : List ℕ) (p : ℕ) → (Stands w xs p → ⊥) → false ≡ stands w xs p
+stands-fails w xs p n =
+    ⊎-elim (λ (e : stands w xs p ≡ true). absurd (n (stands-true w xs p e))) (λ (e : stands w xs p ≡ false). sym e) (true-or-false (stands w xs p))
+
 -- ---- rule 2
 module _ (xs : List ℕ) (state : ℕ → ℕ) (ms : List ℕ) where
   -- rule 2 on marked places
@@ -49,6 +56,8 @@ module _ (xs : List ℕ) (state : ℕ → ℕ) (ms : List ℕ) where
   shown-true r e =
       let a = some-found _ _ e in
       let b = some-found _ _ (a .2) in
+      let l : 1 ≤ r - b .0 = omega (arith, b .1) in
+      let at-r : r ≡ b .0 + (r - b .0) = omega (arith, b .1) in
       let m1 = both-true _ _ (b .2) in
       let m2 = both-true _ _ (m1 .1) in
       let m3 = both-true _ _ (m2 .1) in
@@ -57,13 +66,13 @@ module _ (xs : List ℕ) (state : ℕ → ℕ) (ms : List ℕ) where
         p = a .0;
         q = b .0;
         m = r - b .0;
-        some = omega (arith, b .1);
+        some = l;
         p-marked = marked-true ms _ (m1 .0);
         q-marked = marked-true ms _ (m2 .0);
         states = eqb-true _ _ (m3 .0);
         end-marked = marked-true ms _ (m4 .0);
         commands = same-equal _ _ (m4 .1);
-        at = omega (arith, b .1);
+        at = at-r;
       }
 
   true-shown : (r : ℕ) → length ms ≡ length xs + 1 → Shown r → shown xs state ms r ≡ true

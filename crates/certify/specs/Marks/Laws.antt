@@ -2,13 +2,14 @@
 use Prim.Native.Nat.{ℕ, zero, suc, _+_, _-_, _≤_, _<_}
 use mathlib.Core.Path.{_≡_, refl, sym, ap, ap₂, _∙_}
 use mathlib.Core.Bool.{Bool, true, false, _&&_, _||_}
-use mathlib.Core.List.{List, [], _∷_}
+use mathlib.Core.List.{List, [], _∷_, _++_}
 use mathlib.Core.Logic.{_⊎_, inl, inr, ⊎-elim}
 use native.Mathlib.Omega.{arith}
 use native.Mathlib.Nat.{le-of-suc-le-suc, eq-or-lt-of-le, not-suc-le-zero}
 use lib.Dec.{leb, eqb}
 use lib.ListN.{length, getD, take, drop, List·getD-eq-default, length-take, length-drop}
-use lib.Seq.{ext-getD}
+use native.Mathlib.Numerals.{add-one}
+use lib.Seq.{take-suc}
 use borrow.Author.Tests.{le-leb, leb-true, eq-eqb, eqb-true, eqb-false}
 use Rattle.sheet.specs.Check.Laws.{both-true}
 use Rattle.machine.specs.Machine.{Mealy, stateAt}
@@ -93,6 +94,22 @@ pub count-most : (a : List ℕ) → count a ≤ length a
 unfolding count
 count-most [] = omega arith
 count-most (m ∷ a) = omega (arith, mark-few (eqb m 1), count-most a)
+
+count-append : (a b : List ℕ) → count (a ++ b) ≡ count a + count b
+unfolding count
+count-append [] b = omega arith
+count-append (m ∷ a) b = omega (arith, count-append a b)
+
+-- of the first places, one by one
+pub count-next : (a : List ℕ) (i : ℕ) → i < length a → count (take (i + 1) a) ≡ count (take i a) + mark (eqb (getD a i 0) 1)
+unfolding count
+count-next a i l =
+    ap (λ (j : ℕ). count (take j a)) (add-one i) ∙ ap count (take-suc a i 0 l) ∙ count-append (take i a) (getD a i 0 ∷ [])
+    ∙ (let z : count (getD a i 0 ∷ []) ≡ mark (eqb (getD a i 0) 1) = omega arith in ap (λ (n : ℕ). count (take i a) + n) z)
+
+pub count-none : (a : List ℕ) → count (take 0 a) ≡ 0
+unfolding count
+count-none a = refl
 
 -- of two lists of one length, the second marked wherever the first is
 module _ where

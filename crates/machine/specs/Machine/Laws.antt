@@ -18,6 +18,10 @@ pub tabled-commands : (n k start : ℕ) (next answer : List ℕ) → tabled n k 
 unfolding tabled
 tabled-commands n k start next answer = refl
 
+pub tabled-states : (n k start : ℕ) (next answer : List ℕ) → tabled n k start next answer .n ≡ n
+unfolding tabled
+tabled-states n k start next answer = refl
+
 pub tabled-start : (n k start : ℕ) (next answer : List ℕ) → tabled n k start next answer .start ≡ start
 unfolding tabled
 tabled-start n k start next answer = refl

@@ -1,10 +1,10 @@
 -- The laws of checks: how a cause, two checks in a row, a list of causes and a first cause answer.
-use Prim.Native.Nat.{ℕ, zero, suc, _+_, _≤_, _<_}
+use Prim.Native.Nat.{ℕ, zero, suc, _+_, _*_, _≤_, _<_}
 use mathlib.Core.Path.{_≡_, refl, sym, ap, _∙_}
 use mathlib.Core.Bool.{Bool, true, false, _&&_, _||_}
 use mathlib.Core.List.{List, [], _∷_, _++_}
 use native.Mathlib.Omega.{arith}
-use native.Mathlib.Nat.{le-of-suc-le-suc, eq-or-lt-of-le, not-suc-le-zero}
+use native.Mathlib.Nat.{le-of-suc-le-suc, eq-or-lt-of-le, not-suc-le-zero, add-zero, add-suc, zero-mul, suc-mul}
 use native.Mathlib.Numerals.{add-one}
 use mathlib.Core.Logic.{⊎-elim}
 use Rattle.sheet.specs.declared.check.Check.{Check}
@@ -123,3 +123,44 @@ module _ (f : ℕ → Check) where
 
   pub first-ends : {n i : ℕ} → i ≤ n → n ≤ i → first i f ≡ Clear → Clear ≡ first n f
   first-ends {n} {i} l m h = sym h ∙ ap (λ (x : ℕ). first x f) (omega arith)
+
+-- ---- rows of causes, one behind the other
+pub first-same : (n : ℕ) (f g : ℕ → Check) → ((i : ℕ) → i < n → f i ≡ g i) → first n f ≡ first n g
+unfolding first
+first-same zero f g h = refl
+first-same (suc n) f g h = rw (first-same n f g (λ i l. h i (omega arith)), h n (omega arith))
+
+pub first-add : (a b : ℕ) (g : ℕ → Check) → first (a + b) g ≡ (first a g else first b (λ i. g (a + i)))
+unfolding first
+first-add a zero g = rw add-zero (sym (else-end (first a g)))
+first-add a (suc b) g = rw (add-suc, first-add a b g) (else-assoc (first a g) (first b (λ i. g (a + i))) (g (a + b)))
+
+pub first-rows : (n k : ℕ) (g : ℕ → Check) → first n (λ s. first k (λ c. g (s * k + c))) ≡ first (n * k) g
+unfolding first
+first-rows zero k g = rw zero-mul
+first-rows (suc n) k g = rw (suc-mul, first-rows n k g) (sym (first-add (n * k) k g))
+
+-- ---- where the first of n is a refusal, it is the first one present
+pub record Present (n : ℕ) (f : ℕ → Check) (a b : ℕ) : Type 0 where
+  pub place : ℕ
+  pub inside : place < n
+  pub before : first place f ≡ Clear
+  pub here : f place ≡ Refused a b
+
+wider : {n : ℕ} {f : ℕ → Check} {a b : ℕ} → Present n f a b → Present (suc n) f a b
+wider h = record { place = h .place; inside = omega (arith, h .inside); before = h .before; here = h .here }
+
+present-step : (n : ℕ) (f : ℕ → Check) {a b : ℕ} (c : Check) → first n f ≡ c → (c else f n) ≡ Refused a b → (c ≡ Refused a b → Present n f a b) → Present (suc n) f a b
+present-step n f Clear h e on = record { place = n; inside = omega arith; before = h; here = sym (else-clear (f n)) ∙ e }
+present-step n f (Refused x y) h e on = wider (on (sym (else-refused x y (f n)) ∙ e))
+
+pub first-present : (n : ℕ) (f : ℕ → Check) {a b : ℕ} → first n f ≡ Refused a b → Present n f a b
+unfolding first
+first-present zero f e = let z : _≡_ {A = ℕ} 0 1 = cc in absurd (omega arith)
+first-present (suc n) f e = present-step n f (first n f) refl e (λ h. first-present n f h)
+
+-- where a cause refuses, its test holds, and number and place are its own
+pub present-test : (n p : ℕ) (t : Bool) {a b : ℕ} → (refusal n with p if t) ≡ Refused a b → (t ≡ true) × ((a ≡ n) × (b ≡ p))
+unfolding refusal_with_if_
+present-test n p true e = (refl, (cc, cc))
+present-test n p false e = let z : _≡_ {A = ℕ} 0 1 = cc in absurd (omega arith)

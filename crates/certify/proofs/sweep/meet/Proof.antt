@@ -1,36 +1,45 @@
+-- `certify::sweep::meet` meets its contract, by its three ways out.
+-- Assumes nothing.
 use borrow.Author.Needs.{needs}
+use mathlib.Core.Path.{refl, _∙_}
+use lib.ListN.{length-set}
+use Rattle.certify.specs.Sweep.{equal}
+use Rattle.certify.proofs.Meeting.{meets-back, meets-on}
 use Rattle.certify.proofs.sweep.meet.Statement.{statement}
 use Rattle.certify.proofs.sweep.meet.Tie as tie
-use Rattle.certify.proofs.sweep.meet.Reads as reads
-use Rattle.certify.proofs.sweep.meet.Lts as lts
 
--- src/sweep.rt:43:8
 slice-read-if1 : tie.Need-slice-read-if1
 slice-read-if1 c = search needs
 
--- src/sweep.rt:43:22
 slice-read-if1-2 : tie.Need-slice-read-if1-2
 slice-read-if1-2 c = search needs
 
--- src/sweep.rt:44:9
 returns : tie.Need-returns
-returns c = ?
+returns c = λ M h. equal (c .if1 .taken) refl refl
 
--- src/sweep.rt:46:5
+slice-read-if2 : tie.Need-slice-read-if2
+slice-read-if2 c = search needs
+
 slice-write-marks : tie.Need-slice-write-marks
 slice-write-marks c = search needs
 
--- src/sweep.rt:47:5
-slice-write-marks-2 : tie.Need-slice-write-marks-2
-slice-write-marks-2 c = ?
+chase-requires : tie.Need-chase-requires
+chase-requires c κs = search needs
 
--- src/sweep.rt:24:1
 same-length : tie.Need-same-length
-same-length c = search needs
+same-length c = c .before .before .chase .kept .1 .1 .1 .0 ∙ simp length-set
 
--- src/sweep.rt:24:1
 returns-2 : tie.Need-returns-2
-returns-2 c = ?
+returns-2 c = λ M h. meets-back h (c .before .before .before .before .before .before .before .before .before .before .before .before .pre .1 .1 .0) (c .before .before .before .before .before .before .before .before .before .before .before .before .pre .0) (c .before .before .before .before .before .before .before .before .before .before .before .before .pre .1 .0) (c .before .before .before .before .before .before .if1 .left) (c .before .before .before .before .if2 .taken) (c .before .before .chase .ensures)
+
+slice-write-marks-2 : tie.Need-slice-write-marks-2
+slice-write-marks-2 c = search needs
+
+same-length-2 : tie.Need-same-length-2
+same-length-2 c = search needs
+
+returns-3 : tie.Need-returns-3
+returns-3 c = λ M h. meets-on h (c .before .before .before .before .before .before .before .before .pre .1 .1 .0) (c .before .before .before .before .before .before .before .before .pre .0) (c .before .before .before .before .before .before .before .before .pre .1 .0) (c .before .before .if1 .left) (c .if2 .left)
 
 pub meet-spec : {M : Type 1} → statement M
 meet-spec =
@@ -39,7 +48,11 @@ meet-spec =
     slice-read-if1
     slice-read-if1-2
     returns
+    slice-read-if2
     slice-write-marks
-    slice-write-marks-2
+    chase-requires
     same-length
-    returns-2)
+    returns-2
+    slice-write-marks-2
+    same-length-2
+    returns-3)

@@ -1,46 +1,49 @@
+-- `certify::tally::count` meets its contract. The loop's invariant: n counts the places before i.
+-- Assumes nothing.
+use native.Mathlib.Omega.{arith}
+use borrow.Author.Needs.{needs}
+use Prim.Native.Nat.{_+_, _-_, _≤_}
+use mathlib.Core.Path.{_≡_, sym, ap, ap₂, _∙_}
+use lib.ListN.{length, take, length-take}
+use lib.Seq.{take-all}
+use denote.Ref.{now}
+use Rattle.certify.specs.Marks.{count}
+use Rattle.certify.specs.Marks.Laws.{count-most, count-next, count-none}
 use Rattle.certify.proofs.tally.count.Statement.{statement}
 use Rattle.certify.proofs.tally.count.Tie as tie
-use Rattle.certify.proofs.tally.count.Reads as reads
-use Rattle.certify.proofs.tally.count.Lts as lts
-use Rattle.certify.proofs.tally.one.Reads as one-reads
 
 abbrev Inv-loop : tie.InvT-loop
-Inv-loop marks n₀ i₀ n i = ?
+Inv-loop marks n₀ i₀ n i = (i ≤ length marks) × (n ≡ count (take i marks))
 
 abbrev μ-loop : tie.MeasureT-loop
-μ-loop marks n₀ i₀ n i = ?
+μ-loop marks n₀ i₀ n i = length marks - i
 
--- src/tally.rt:32:5
 loop-holds : tie.Need-loop-holds Inv-loop μ-loop
-loop-holds c = ?
+loop-holds c = (search needs, sym (count-none (now (c .before .args .marks))))
 
--- src/tally.rt:33:18
 shared-slice-read-one : tie.Need-shared-slice-read-one Inv-loop μ-loop
-shared-slice-read-one c = ?
+shared-slice-read-one c = search needs
 
--- src/tally.rt:33:14
 one-requires : tie.Need-one-requires Inv-loop μ-loop
-one-requires c κs = ?
+one-requires c κs = search needs
 
--- src/tally.rt:33:9
 add-n : tie.Need-add-n Inv-loop μ-loop
-add-n c = ?
+add-n c =
+    let marks = now (c .before .before .before .before .before .args .marks) in
+    let next = count-next marks (c .before .before .before .loop .i) (c .before .before .loop-test .taken) in
+    omega (arith, c .before .before .before .loop .inv .1, c .one .ensures, count-most (take (c .before .before .before .loop .i + 1) marks), length-take (c .before .before .before .loop .i + 1) marks)
 
--- src/tally.rt:34:9
 add-i : tie.Need-add-i Inv-loop μ-loop
-add-i c = ?
+add-i c = search needs
 
--- src/tally.rt:32:5
 loop-less : tie.Need-loop-less Inv-loop μ-loop
-loop-less c = ?
+loop-less c = search needs
 
--- src/tally.rt:32:5
 loop-again : tie.Need-loop-again Inv-loop μ-loop
-loop-again c = ?
+loop-again c = (search needs, ap₂ _+_ (c .before .before .before .loop .inv .1) (c .one .ensures) ∙ sym (count-next (now (c .before .before .before .before .before .args .marks)) (c .before .before .before .loop .i) (c .before .before .loop-test .taken)))
 
--- src/tally.rt:27:1
 returns : tie.Need-returns Inv-loop μ-loop
-returns c = ?
+returns c = c .before .loop .inv .1 ∙ ap count (take-all (c .before .loop .i) (now (c .before .before .before .args .marks)) (c .loop-test .left))
 
 pub count-spec : {M : Type 1} → statement M
 count-spec =

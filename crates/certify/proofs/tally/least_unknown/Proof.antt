@@ -1,57 +1,53 @@
+-- `certify::tally::least_unknown` meets its contract. The loop's invariant: every entry before e is known.
+-- Assumes nothing.
+use borrow.Author.Needs.{needs}
+use Prim.Native.Nat.{_-_, _≤_}
+use mathlib.Core.Path.{_≡_}
+use Rattle.sheet.specs.declared.check.Check.the-variants.{Clear}
+use Rattle.sheet.specs.Check.{first}
+use Rattle.sheet.specs.Check.Laws.{first-none, first-stops, first-goes-on, first-ends}
+use Rattle.certify.specs.Closing.{unknownAt}
 use Rattle.certify.proofs.tally.least_unknown.Statement.{statement}
 use Rattle.certify.proofs.tally.least_unknown.Tie as tie
-use Rattle.certify.proofs.tally.least_unknown.Reads as reads
-use Rattle.certify.proofs.tally.least_unknown.Lts as lts
-use Rattle.sheet.proofs.refuse.Reads as refuse-reads
 
 abbrev Inv-loop : tie.InvT-loop
-Inv-loop known entries e₀ e = ?
+Inv-loop known entries e₀ e = (e ≤ entries) × (first e (unknownAt known) ≡ Clear)
 
 abbrev μ-loop : tie.MeasureT-loop
-μ-loop known entries e₀ e = ?
+μ-loop known entries e₀ e = entries - e
 
--- src/tally.rt:45:5
 loop-holds : tie.Need-loop-holds Inv-loop μ-loop
-loop-holds c = ?
+loop-holds c = (search needs, first-none _)
 
--- src/tally.rt:46:22
 add-number : tie.Need-add-number Inv-loop μ-loop
-add-number c = ?
+add-number c = search needs
 
--- src/tally.rt:47:40
 element-copy-out-refuse : tie.Need-element-copy-out-refuse Inv-loop μ-loop
-element-copy-out-refuse c = ?
+element-copy-out-refuse c = search needs
 
--- src/tally.rt:47:13
 refuse-requires : tie.Need-refuse-requires Inv-loop μ-loop
-refuse-requires c κs = ?
+refuse-requires c κs = search needs
 
--- src/tally.rt:52:13
 enum-told : tie.Need-enum-told Inv-loop μ-loop
-enum-told c = ?
+enum-told c = search needs
 
--- src/tally.rt:52:13
 returns : tie.Need-returns Inv-loop μ-loop
-returns c = ?
+returns c = first-stops _ (search needs) (c .before .before .before .before .before .loop .inv .1) (c .before .before .refuse .ensures) (c .enum-told .given .1)
 
 enum-told-2 : tie.Need-enum-told-2 Inv-loop μ-loop
-enum-told-2 c = ?
+enum-told-2 c = search needs
 
--- src/tally.rt:54:9
 add-e : tie.Need-add-e Inv-loop μ-loop
-add-e c = ?
+add-e c = search needs
 
--- src/tally.rt:45:5
 loop-less : tie.Need-loop-less Inv-loop μ-loop
-loop-less c = ?
+loop-less c = search needs
 
--- src/tally.rt:45:5
 loop-again : tie.Need-loop-again Inv-loop μ-loop
-loop-again c = ?
+loop-again c = (search needs, first-goes-on _ _ (c .before .before .before .before .before .loop .inv .1) (c .before .before .refuse .ensures) (c .enum-told2 .given .1))
 
--- src/tally.rt:40:1
 returns-2 : tie.Need-returns-2 Inv-loop μ-loop
-returns-2 c = ?
+returns-2 c = first-ends _ (c .before .loop .inv .0) (c .loop-test .left) (c .before .loop .inv .1)
 
 pub least-unknown-spec : {M : Type 1} → statement M
 least-unknown-spec =

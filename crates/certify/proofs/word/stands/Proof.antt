@@ -1,57 +1,60 @@
+-- `certify::word::stands` meets its contract. The loop's invariant: the commands before i agree.
+-- Assumes nothing.
+use native.Mathlib.Omega.{arith}
+use borrow.Author.Needs.{needs}
+use Prim.Native.Nat.{ℕ, _+_, _-_, _≤_, _<_}
+use mathlib.Core.Path.{_≡_}
+use lib.ListN.{length, getD}
+use denote.Ref.{now}
+use Rattle.certify.specs.Marks.Agreement.{stands-holds, stands-fails}
+use Rattle.certify.proofs.Words.{agrees, differs, too-short, agrees-on}
 use Rattle.certify.proofs.word.stands.Statement.{statement}
 use Rattle.certify.proofs.word.stands.Tie as tie
-use Rattle.certify.proofs.word.stands.Reads as reads
-use Rattle.certify.proofs.word.stands.Lts as lts
 
 abbrev Inv-loop : tie.InvT-loop
-Inv-loop w xs p i₀ i = ?
+Inv-loop w xs p i₀ i = (i ≤ length w) × ((j : ℕ) → j < i → getD xs (p + j) 0 ≡ getD w j 0)
 
 abbrev μ-loop : tie.MeasureT-loop
-μ-loop w xs p i₀ i = ?
+μ-loop w xs p i₀ i = length w - i
 
--- src/word.rt:22:8
 sub-if1 : tie.Need-sub-if1 Inv-loop μ-loop
-sub-if1 c = ?
+sub-if1 c = search needs
 
--- src/word.rt:23:9
 returns : tie.Need-returns Inv-loop μ-loop
-returns c = ?
+returns c =
+    let start = c .before in
+    stands-fails (now (start .args .w)) (now (start .args .xs)) (start .args .p) (too-short _ _ _ (c .if1 .taken))
 
--- src/word.rt:26:5
 loop-holds : tie.Need-loop-holds Inv-loop μ-loop
-loop-holds c = ?
+loop-holds c = (search needs, λ j l. let z : ⊥ = omega arith in absurd z)
 
--- src/word.rt:27:15
 add-if2 : tie.Need-add-if2 Inv-loop μ-loop
-add-if2 c = ?
+add-if2 c = search needs
 
--- src/word.rt:27:12
 shared-slice-read-if2 : tie.Need-shared-slice-read-if2 Inv-loop μ-loop
-shared-slice-read-if2 c = ?
+shared-slice-read-if2 c = search needs
 
--- src/word.rt:27:25
 shared-slice-read-if2-2 : tie.Need-shared-slice-read-if2-2 Inv-loop μ-loop
-shared-slice-read-if2-2 c = ?
+shared-slice-read-if2-2 c = search needs
 
--- src/word.rt:28:13
 returns-2 : tie.Need-returns-2 Inv-loop μ-loop
-returns-2 c = ?
+returns-2 c =
+    let start = c .before .before .before .before .before .before in
+    stands-fails (now (start .args .w)) (now (start .args .xs)) (start .args .p) (differs _ _ _ (c .before .before .before .before .loop .i) (c .before .before .before .loop-test .taken) (c .if2 .taken))
 
--- src/word.rt:30:9
 add-i : tie.Need-add-i Inv-loop μ-loop
-add-i c = ?
+add-i c = search needs
 
--- src/word.rt:26:5
 loop-less : tie.Need-loop-less Inv-loop μ-loop
-loop-less c = ?
+loop-less c = search needs
 
--- src/word.rt:26:5
 loop-again : tie.Need-loop-again Inv-loop μ-loop
-loop-again c = ?
+loop-again c = (search needs, agrees-on (now (c .before .before .before .before .before .before .args .w)) (now (c .before .before .before .before .before .before .args .xs)) _ _ (c .before .before .before .before .loop .inv .1) (c .if2 .left))
 
--- src/word.rt:18:1
 returns-3 : tie.Need-returns-3 Inv-loop μ-loop
-returns-3 c = ?
+returns-3 c =
+    let start = c .before .before .before in
+    stands-holds (now (start .args .w)) (now (start .args .xs)) (start .args .p) (agrees _ _ _ (search needs) (start .pre) (λ j l. c .before .loop .inv .1 j (omega (arith, c .loop-test .left))))
 
 pub stands-spec : {M : Type 1} → statement M
 stands-spec =
