@@ -14,10 +14,13 @@ use Rattle.sheet.specs.Check.{refusal_with_if_, _else_, firstCause}
 use Rattle.sheet.specs.Check.Laws.{clear-absent, both-clear, else-clear, else-refused}
 use Rattle.sheet.specs.Reader.{the, content}
 use Rattle.machine.specs.Limits.{mostSequence, mostEntries}
-use Rattle.machine.specs.Machine.{Mealy, stateAt, Proper, Commands}
+use Rattle.machine.specs.declared.loading.Loaded.{Loaded}
+use Rattle.machine.specs.Machine.{Mealy, stateAt, tabled, meaning, Proper, Commands}
+use Rattle.machine.specs.Machine.Laws.{tabled-states, tabled-commands}
 use Rattle.machine.specs.Causes.{commandsCause, machineIn, held, loadCauses}
 use Rattle.machine.specs.Causes.Laws.{clear-commands}
 use Rattle.machine.specs.Causes.Lists.{held-is, clear-table}
+use Rattle.machine.specs.Loading.{LoadedFrom}
 use Rattle.certify.specs.declared.answer.Answer.{Answer}
 use Rattle.certify.specs.declared.answer.Answer.the-variants.{Refused as RefusedAnswer}
 use Rattle.certify.specs.Recognition.{Stands, Closure, rule1, rule2}
@@ -36,13 +39,19 @@ use Rattle.certify.proofs.Entries.{entry-one}
 pub few-entries : (M : Mealy) → Proper M → M .n * M .k ≤ mostEntries
 few-entries M h = omega (arith, mul-le-mul (h .few-states) (h .few-commands))
 
+-- of the program's table
+pub entries-tabled : (n k start : ℕ) (next answer : List ℕ) → n * k ≡ tabled n k start next answer .n * tabled n k start next answer .k
+entries-tabled n k start next answer = sym (ap₂ _*_ (tabled-states n k start next answer) (tabled-commands n k start next answer))
+
+pub few-tabled : (n k start : ℕ) (next answer : List ℕ) → Proper (tabled n k start next answer) → n * k ≤ mostEntries
+few-tabled n k start next answer h = omega (arith, entries-tabled n k start next answer, few-entries (tabled n k start next answer) h)
+
 -- ---- rule 1's places as marks
-pub wordMarks : List ℕ → List ℕ → List ℕ
+abbrev pub wordMarks : List ℕ → List ℕ → List ℕ
 wordMarks w xs = listed (length xs + 1) (λ p. mark (stands w xs p))
 
 module _ (w xs : List ℕ) {given : List ℕ} (e : given ≡ wordMarks w xs) where
   marked-stands : (p : ℕ) → MarkedIn given p → Stands w xs p
-  unfolding wordMarks
   marked-stands p m =
       let cell : getD (listed (length xs + 1) (λ q. mark (stands w xs q))) p 0 ≡ 1 = rw (← e) m in
       let l = marked-inside (listed (length xs + 1) (λ q. mark (stands w xs q))) p cell in
@@ -50,18 +59,16 @@ module _ (w xs : List ℕ) {given : List ℕ} (e : given ≡ wordMarks w xs) whe
       stands-true w xs p (mark-true (stands w xs p) (sym at ∙ cell))
 
   stands-marked : (p : ℕ) → Stands w xs p → MarkedIn given p
-  unfolding wordMarks
   stands-marked p h =
       ap (λ (l : List ℕ). getD l p 0) e ∙ listed-at (length xs + 1) (λ q. mark (stands w xs q)) p (omega (arith, h .inside)) ∙ ap mark (true-stands w xs p h)
 
   pub word-closable : (M : Mealy) → Proper M → Commands mostSequence (M .k) xs → Closable M xs given
-  unfolding wordMarks
   word-closable M p c = record {
-      proper = p;
-      commands = c;
-      long = ap length e ∙ listed-length _ _;
-      few = λ q. rw e (listed-few (length xs + 1) _ (λ i. mark-few (stands w xs i)) q);
-    }
+    proper = p;
+    commands = c;
+    long = ap length e ∙ listed-length _ _;
+    few = λ q. rw e (listed-few (length xs + 1) _ (λ i. mark-few (stands w xs i)) q);
+  }
 
 -- the closure of the same places is the same
 closure-map : {xs : List ℕ} {st : ℕ → ℕ} {A B : ℕ → Type 0} → ((p : ℕ) → A p → B p) → {p : ℕ} → Closure xs st A p → Closure xs st B p
@@ -73,11 +80,11 @@ module _ (M : Mealy) (w xs : List ℕ) {given ms known : List ℕ} (proper : Pro
     (e : given ≡ wordMarks w xs) (h : Closed M xs given ms known) where
   pub marks-are : ms ≡ marks M w xs
   marks-are = marks-unique M w xs ms (record {
-      long = h .exact .long;
-      few = h .exact .few;
-      sound = λ p m. closure-map (marked-stands w xs e) (h .exact .sound p m);
-      complete = λ p l c. h .exact .complete p l (closure-map (stands-marked w xs e) c);
-    })
+    long = h .exact .long;
+    few = h .exact .few;
+    sound = λ p m. closure-map (marked-stands w xs e) (h .exact .sound p m);
+    complete = λ p l c. h .exact .complete p l (closure-map (stands-marked w xs e) c);
+  })
 
   known-verified : (s c : ℕ) → s < M .n → c < M .k → (getD known (s * M .k + c) 0 ≡ 0 → ⊥) → verified M xs ms s c ≡ true
   known-verified s c sl cl n =
@@ -138,13 +145,33 @@ module _ (room : ℕ) (s : List ℕ) where
     unfolding cause9
     room-enough = ltb-false _ _ (clear-absent 9 _ _ (both-clear _ _ (both .1) .1))
 
+-- what marking the recognised places asks
+pub record Asked (s before xs : List ℕ) (M : Mealy) : Type 0 where
+  pub machine : M ≡ machineIn s
+  pub proper : Proper M
+  pub commands : Commands mostSequence (M .k) xs
+  pub room : length xs + 1 ≤ length before
+
+pub asked : (s before : List ℕ) {l : Loaded} {c : Check} {xs : List ℕ} → LoadedFrom certifyNeeds s l → c ≡ firstCause (certifyCauses certifyNeeds (length before) s) → c ≡ Clear
+    → xs ≡ content 3 s → Asked s before xs (meaning (l .machine))
+asked s before {l} {c} {xs} h ce e xe =
+    let clear = sym ce ∙ e in
+    let loaded = h .check ∙ load-clear (length before) s clear in
+    let M = h .machine loaded in
+    record {
+      machine = M;
+      proper = rw M (h .proper loaded);
+      commands = rw (M, xe) (sequence-commands (length before) s clear);
+      room = rw xe (room-enough (length before) s clear);
+    }
+
 -- ---- the promise
 pub certifies-refused : (s before : List ℕ) {c : Check} {n p : ℕ} → c ≡ firstCause (certifyCauses certifyNeeds (length before) s) → c ≡ Refused n p
     → Certifies s before before (RefusedAnswer n p)
 certifies-refused s before ce e = record {
-    answer = sym (certification-refused (length before) s (sym ce ∙ e));
-    marks = sym (after-refused s before (sym ce ∙ e));
-  }
+  answer = sym (certification-refused (length before) s (sym ce ∙ e));
+  marks = sym (after-refused s before (sym ce ∙ e));
+}
 
 pub certifies-clear : (s before : List ℕ) {c : Check} {M : Mealy} {w xs after ms : List ℕ} {a : Answer}
     → c ≡ firstCause (certifyCauses certifyNeeds (length before) s) → c ≡ Clear → M ≡ machineIn s → w ≡ content 2 s → xs ≡ content 3 s

@@ -64,7 +64,6 @@ module _ (M : Mealy) (xs given : List ℕ) where
             (set-at ms p 1 q inside);
       }
 
-
   -- of two paired places whose marks differ one is marked, so both are in the closure
   pub both-in : {ms : List ℕ} {a b : ℕ} → Marking M xs given ms → Paired M xs given a b → (getD ms a 0 ≡ getD ms b 0 → ⊥)
       → (From M xs given a) × (From M xs given b)

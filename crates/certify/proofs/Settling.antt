@@ -25,7 +25,7 @@ count-rises : (a b : List ℕ) → length a ≡ length b → ((p : ℕ) → getD
 count-rises a b l h r =
     ⊎-elim (λ (e : ltb (count a) (count b) ≡ true). ltb-true _ _ e)
     (λ (e : ltb (count a) (count b) ≡ false).
-      let z : ⊥ = omega (arith, r .was, count-same a b l h (ltb-false (count a) (count b) e) (r .place) (r .is)) in absurd z)
+    let z : ⊥ = omega (arith, r .was, count-same a b l h (ltb-false (count a) (count b) e) (r .place) (r .is)) in absurd z)
     (true-or-false (ltb (count a) (count b)))
 
 module _ (M : Mealy) (xs given : List ℕ) where
@@ -42,15 +42,15 @@ module _ (M : Mealy) (xs given : List ℕ) where
 
   pub settling-starts : {known : List ℕ} → Closable M xs given → Fresh mostEntries known → Settling given known false true
   settling-starts h f = record {
-      asked = h;
-      marking = record { long = h .long; few = h .few; above = λ p e. e; sound = λ p e. rule1 e };
-      table = f .long;
-      low = λ e. omega (arith, f .zero e);
-      knows = λ e n. absurd (n (f .zero e));
-      fresh = λ q. f .zero;
-      closed = λ q. absurd (true≢false q);
-      all = λ q. absurd (true≢false q);
-    }
+    asked = h;
+    marking = record { long = h .long; few = h .few; above = λ p e. e; sound = λ p e. rule1 e };
+    table = f .long;
+    low = λ e. omega (arith, f .zero e);
+    knows = λ e n. absurd (n (f .zero e));
+    fresh = λ q. f .zero;
+    closed = λ q. absurd (true≢false q);
+    all = λ q. absurd (true≢false q);
+  }
 
   module _ {ms known : List ℕ} {apply changed : Bool} (h : Settling ms known apply changed) where
     knows-more : Knows M xs ms known
@@ -66,15 +66,15 @@ module _ (M : Mealy) (xs given : List ℕ) where
 
     pub settling-sweepable : Sweepable M apply xs ms known
     settling-sweepable = record {
-        proper = h .asked .proper;
-        commands = h .asked .commands;
-        long = h .marking .long;
-        few = h .marking .few;
-        table = h .table;
-        knows = knows-more;
-        low = h .low;
-        fresh = h .fresh;
-      }
+      proper = h .asked .proper;
+      commands = h .asked .commands;
+      long = h .marking .long;
+      few = h .marking .few;
+      table = h .table;
+      knows = knows-more;
+      low = h .low;
+      fresh = h .fresh;
+    }
 
     module _ {ms′ known′ : List ℕ} {changed′ : Bool} (s : Swept M xs ms known ms′ known′ changed′) where
       knows-flat : Knows M xs given known′
@@ -90,15 +90,15 @@ module _ (M : Mealy) (xs given : List ℕ) where
 
       pub settling-on : Settling ms′ known′ true changed′
       settling-on = record {
-          asked = h .asked;
-          marking = marking-flat M xs given ms (h .marking) (s .marking);
-          table = s .table;
-          low = s .low;
-          knows = knows-flat;
-          fresh = λ q. absurd (true≢false q);
-          closed = λ f. rw (s .stays f .0) (s .closed f);
-          all = λ f. rw (s .stays f .0) (s .all f);
-        }
+        asked = h .asked;
+        marking = marking-flat M xs given ms (h .marking) (s .marking);
+        table = s .table;
+        low = s .low;
+        knows = knows-flat;
+        fresh = λ q. absurd (true≢false q);
+        closed = λ f. rw (s .stays f .0) (s .closed f);
+        all = λ f. rw (s .stays f .0) (s .all f);
+      }
 
       -- the places without a mark and the entries that are not known become fewer, or the last change is over
       pub settling-less : changed ≡ true
@@ -112,25 +112,25 @@ module _ (M : Mealy) (xs given : List ℕ) where
           let ck = count-most known′ in
           let one : mark changed ≡ 1 = ap mark t in
           ⊎-elim (λ (f : changed′ ≡ true).
-            let two : mark changed′ ≡ 1 = ap mark f in
-            ⊎-elim (λ (r : Risen ms ms′).
-              omega (arith, count-rises ms ms′ lm (s .marking .above) r, s .marking .long, s .table))
-            (λ (r : Risen known known′).
-              omega (arith, count-rises known known′ lk (s .keeps) r, s .marking .long, s .table))
-            (s .rises f))
+          let two : mark changed′ ≡ 1 = ap mark f in
+          ⊎-elim (λ (r : Risen ms ms′).
+          omega (arith, count-rises ms ms′ lm (s .marking .above) r, s .marking .long, s .table))
+          (λ (r : Risen known known′).
+          omega (arith, count-rises known known′ lk (s .keeps) r, s .marking .long, s .table))
+          (s .rises f))
           (λ (f : changed′ ≡ false).
-            let two : mark changed′ ≡ 0 = ap mark f in
-            omega (arith, ap count (s .stays f .0), ap count (s .stays f .1)))
+          let two : mark changed′ ≡ 0 = ap mark f in
+          omega (arith, ap count (s .stays f .0), ap count (s .stays f .1)))
           (true-or-false changed′)
 
     pub settled-closed : changed ≡ false → Closed M xs given ms known
     settled-closed f = record {
-        exact = record {
-          long = h .marking .long;
-          few = h .marking .few;
-          sound = h .marking .sound;
-          complete = closed-complete xs (stateAt M xs) (MarkedIn given) ms (h .marking .long) (λ p l e. h .marking .above p e) (h .closed f);
-        };
-        knows = h .knows;
-        all = h .all f;
-      }
+      exact = record {
+        long = h .marking .long;
+        few = h .marking .few;
+        sound = h .marking .sound;
+        complete = closed-complete xs (stateAt M xs) (MarkedIn given) ms (h .marking .long) (λ p l e. h .marking .above p e) (h .closed f);
+      };
+      knows = h .knows;
+      all = h .all f;
+    }

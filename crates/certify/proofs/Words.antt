@@ -17,10 +17,10 @@ module _ (w xs : List ℕ) (p : ℕ) where
   -- all commands agree
   pub agrees : length w ≤ length xs - p → p ≤ length xs → ((i : ℕ) → i < length w → getD xs (p + i) 0 ≡ getD w i 0) → Stands w xs p
   agrees l pl h = record {
-      inside = omega arith;
-      stands = ext-getD 0 (take (length w) (drop p xs)) w (simp (length-take, length-drop) (omega arith))
+    inside = omega arith;
+    stands = ext-getD 0 (take (length w) (drop p xs)) w (simp (length-take, length-drop) (omega arith))
         (λ i k. let il : i < length w = omega (arith, simp length-take at k) in getD-take (length w) (drop p xs) i 0 il ∙ getD-drop p xs i 0 ∙ h i il);
-    }
+  }
 
   -- one does not
   pub differs : (i : ℕ) → i < length w → (getD xs (p + i) 0 ≡ getD w i 0 → ⊥) → Stands w xs p → ⊥
@@ -50,9 +50,9 @@ marked-on w xs marks p h l {b} {v} ve be =
       place = omega arith;
       long = length-set marks p v ∙ h .long;
       cells = λ q ql.
-        ⊎-elim (λ (k : (q ≡ p) × (getD (set marks p v) q 0 ≡ v)). k .1 ∙ ve ∙ ap mark be ∙ ap (λ (x : ℕ). mark (stands w xs x)) (sym (k .0)))
-        (λ (k : (q ≡ p → ⊥) × (getD (set marks p v) q 0 ≡ getD marks q 0)). k .1 ∙ h .cells q (below q p (omega arith) (k .0)))
-        (set-at marks p v q inside);
+          ⊎-elim (λ (k : (q ≡ p) × (getD (set marks p v) q 0 ≡ v)). k .1 ∙ ve ∙ ap mark be ∙ ap (λ (x : ℕ). mark (stands w xs x)) (sym (k .0)))
+          (λ (k : (q ≡ p → ⊥) × (getD (set marks p v) q 0 ≡ getD marks q 0)). k .1 ∙ h .cells q (below q p (omega arith) (k .0)))
+          (set-at marks p v q inside);
     }
   where
     below : (q p : ℕ) → q ≤ p → (q ≡ p → ⊥) → q < p

@@ -70,13 +70,13 @@ module _ (M : Mealy) (w xs : List ℕ) where
 
   pub true-verified : (s c : ℕ) → Verified M w xs s c → verified M xs (marks M w xs) s c ≡ true
   true-verified s c v = shown-verified M xs (marks M w xs) s c (record {
-      place = v .place;
-      inside = v .inside;
-      state = v .state;
-      command = v .command;
-      before = recognised-marked M w xs (v .place) (v .before);
-      after = recognised-marked M w xs (v .place + 1) (v .after);
-    })
+    place = v .place;
+    inside = v .inside;
+    state = v .state;
+    command = v .command;
+    before = recognised-marked M w xs (v .place) (v .before);
+    after = recognised-marked M w xs (v .place + 1) (v .after);
+  })
 
   -- ---- certified exactly where place 0 is recognised and every entry is verified
   pub clear-certified : cause11 M w xs ≡ Clear → Certified M w xs
@@ -86,7 +86,7 @@ module _ (M : Mealy) (w xs : List ℕ) where
       record {
         start = marked-recognised M w xs 0 (marked-true (marks M w xs) 0 (not-false _ (clear-absent 11 0 _ (h .0))));
         entries = λ s c ls lc.
-          verified-true s c (not-false _ (clear-absent 11 _ _ (first-clear-at (M .k) c _ (first-clear-at (M .n) s _ (h .1) ls) lc)));
+            verified-true s c (not-false _ (clear-absent 11 _ _ (first-clear-at (M .k) c _ (first-clear-at (M .n) s _ (h .1) ls) lc)));
       }
 
   pub certified-clear : Certified M w xs → cause11 M w xs ≡ Clear
@@ -100,8 +100,8 @@ module _ (M : Mealy) (w xs : List ℕ) where
 pub data OpenNumber (M : Mealy) (w xs : List ℕ) (v : ℕ) : Type 0 where
   start-open : (Recognised M w xs 0 → ⊥) → v ≡ 0 → OpenNumber M w xs v
   entry-open : (s c : ℕ) → s < M .n → c < M .k → Recognised M w xs 0 → (Verified M w xs s c → ⊥)
-    → ((t d : ℕ) → t < s → d < M .k → Verified M w xs t d) → ((d : ℕ) → d < c → Verified M w xs s d)
-    → v ≡ 1 + (s * M .k + c) → OpenNumber M w xs v
+      → ((t d : ℕ) → t < s → d < M .k → Verified M w xs t d) → ((d : ℕ) → d < c → Verified M w xs s d)
+      → v ≡ 1 + (s * M .k + c) → OpenNumber M w xs v
 
 module _ (M : Mealy) (w xs : List ℕ) where
   entryCheck : ℕ → ℕ → Check
@@ -115,9 +115,11 @@ module _ (M : Mealy) (w xs : List ℕ) where
       → Present (M .k) (entryCheck s) a v → (a ≡ 11) × OpenNumber M w xs v
   unfolding entryCheck
   in-row s ls r before h =
-      let t = present-test 11 _ _ (h .here) in
-      (t .1 .0, entry-open s (h .place) ls (h .inside) r (λ v. true≢false (sym (true-verified M w xs s (h .place) v) ∙ not-true _ (t .0))) before
-      (λ d l. clear-verified s d (first-clear-at (h .place) d (entryCheck s) (h .before) l)) (t .1 .1))
+      let t = present-test 11 _ _ (h .here) in (
+        t .1 .0,
+        entry-open s (h .place) ls (h .inside) r (λ v. true≢false (sym (true-verified M w xs s (h .place) v) ∙ not-true _ (t .0))) before
+            (λ d l. clear-verified s d (first-clear-at (h .place) d (entryCheck s) (h .before) l)) (t .1 .1),
+      )
 
   in-rows : Recognised M w xs 0 → {a v : ℕ} → Present (M .n) (λ s. first (M .k) (entryCheck s)) a v → (a ≡ 11) × OpenNumber M w xs v
   in-rows r h =

@@ -34,9 +34,9 @@ open-known M xs ms known sound all =
     test s c ls lc =
         ⊎-elim (λ (e : verified M xs ms s c ≡ true). ne-eqb _ _ (all s c ls lc e) ∙ sym (ap not e))
         (λ (e : verified M xs ms s c ≡ false).
-          ⊎-elim (λ (z : eqb (getD known (s * M .k + c) 0) 0 ≡ true). z ∙ sym (ap not e))
-          (λ (z : eqb (getD known (s * M .k + c) 0) 0 ≡ false). absurd (true≢false (sym (sound s c ls lc (eqb-false _ _ z)) ∙ e)))
-          (true-or-false (eqb (getD known (s * M .k + c) 0) 0)))
+        ⊎-elim (λ (z : eqb (getD known (s * M .k + c) 0) 0 ≡ true). z ∙ sym (ap not e))
+        (λ (z : eqb (getD known (s * M .k + c) 0) 0 ≡ false). absurd (true≢false (sym (sound s c ls lc (eqb-false _ _ z)) ∙ e)))
+        (true-or-false (eqb (getD known (s * M .k + c) 0) 0)))
         (true-or-false (verified M xs ms s c))
 
 -- the causes of certifying, written out

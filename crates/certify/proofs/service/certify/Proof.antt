@@ -1,63 +1,73 @@
+-- `certify::service::certify` meets its contract: a refusal, or the outcome and the marks.
+-- Assumes nothing.
 use borrow.Author.Needs.{needs}
+use mathlib.Core.Path.{refl, sym, ap, _∙_}
+use Prim.Native.Nat.{_+_}
+use lib.ListN.{length}
+use lib.Seq.{length-take-le, length-front}
+use denote.Ref.{now}
+use Rattle.sheet.specs.Reader.Laws.{handed-content}
+use Rattle.machine.specs.Machine.{Mealy}
+use Rattle.machine.specs.Machine.Laws.{tabled-commands}
+use Rattle.certify.proofs.Answering.{asked, certifies-refused, certifies-clear}
 use Rattle.certify.proofs.service.certify.Statement.{statement}
 use Rattle.certify.proofs.service.certify.Tie as tie
-use Rattle.certify.proofs.service.certify.Reads as reads
-use Rattle.certify.proofs.service.certify.Lts as lts
-use Rattle.certify.proofs.service.checks.Reads as checks-reads
-use Rattle.certify.proofs.service.recognise.Reads as recognise-reads
-use Rattle.machine.proofs.load_sheet.Reads as load-sheet-reads
-use Rattle.sheet.proofs.read.Reads as read-reads
 
--- src/service.rt:67:9
 load-sheet-requires : tie.Need-load-sheet-requires
 load-sheet-requires c κs = search needs
 
--- src/service.rt:70:9
 checks-requires : tie.Need-checks-requires
-checks-requires c κs = ?
+checks-requires c κs =
+    let loaded = c .before .load-sheet .ensures in
+    (loaded .check, sym (tabled-commands _ _ _ _ _) ∙ ap (λ (M : Mealy). M .k) (loaded .holds))
 
--- src/service.rt:71:29
 enum-known-check : tie.Need-enum-known-check
 enum-known-check c = search needs
 
--- src/service.rt:72:9
 returns : tie.Need-returns
-returns c = ?
+returns c =
+    let start = c .before .before .before .before .before .before .before .before in
+    certifies-refused (now (start .args .sheet)) (now (start .args .marks)) (c .before .before .before .checks .ensures) (c .before .check .given .1)
 
 enum-told : tie.Need-enum-told
 enum-told c = search needs
 
--- src/service.rt:74:9
 read-requires : tie.Need-read-requires
 read-requires c κs = search needs
 
--- src/service.rt:75:9
 read-requires-2 : tie.Need-read-requires-2
 read-requires-2 c κs = search needs
 
--- src/service.rt:76:15
 add-end : tie.Need-add-end
 add-end c = search needs
 
--- src/service.rt:77:25
 slice-relend-prefix-recognise : tie.Need-slice-relend-prefix-recognise
-slice-relend-prefix-recognise c = ?
+slice-relend-prefix-recognise c =
+    let start = c .before .before .before .before .before .before .before .before .before in
+    let h = asked (now (start .args .sheet)) (now (start .args .marks)) (c .before .before .before .before .before .before .load-sheet .ensures) (c .before .before .before .before .checks .ensures) (c .before .before .enum-told .given .1) (handed-content _ (start .args .sheet) (c .read2 .result) (c .read2 .ensures)) in
+    search needs
 
--- src/service.rt:77:25
 slice-aggregate-recognise : tie.Need-slice-aggregate-recognise
-slice-aggregate-recognise c = ?
+slice-aggregate-recognise c =
+    let start = c .before .before .before .before .before .before .before .before .before .before in
+    let h = asked (now (start .args .sheet)) (now (start .args .marks)) (c .before .before .before .before .before .before .before .load-sheet .ensures) (c .before .before .before .before .before .checks .ensures) (c .before .before .before .enum-told .given .1) (handed-content _ (start .args .sheet) (c .before .read2 .result) (c .before .read2 .ensures)) in
+    sym (length-take-le _ (now (start .args .marks)) (h .room))
 
--- src/service.rt:77:5
 recognise-requires : tie.Need-recognise-requires
-recognise-requires c κs = ?
+recognise-requires c κs =
+    let start = c .before .before .before .before .before .before .before .before .before .before in
+    let h = asked (now (start .args .sheet)) (now (start .args .marks)) (c .before .before .before .before .before .before .before .load-sheet .ensures) (c .before .before .before .before .before .checks .ensures) (c .before .before .before .enum-told .given .1) (handed-content _ (start .args .sheet) (c .before .read2 .result) (c .before .read2 .ensures)) in
+    (h .proper, (h .commands, length-take-le _ _ (h .room)))
 
--- src/service.rt:59:1
 same-length : tie.Need-same-length
-same-length c = search needs
+same-length c = length-front (now (c .before .before .before .before .before .before .before .before .before .before .before .before .before .args .marks)) (c .before .before .recognise .last .1 .1 .1 .0) (length (now (c .before .before .before .before .read2 .result)) + 1) (c .before .before .recognise .kept .1 .1 .1 .0)
 
--- src/service.rt:59:1
 returns-2 : tie.Need-returns-2
-returns-2 c = ?
+returns-2 c =
+    let start = c .before .before .before .before .before .before .before .before .before .before .before .before .before in
+    let h = asked (now (start .args .sheet)) (now (start .args .marks)) (c .before .before .before .before .before .before .before .before .before .before .load-sheet .ensures) (c .before .before .before .before .before .before .before .before .checks .ensures) (c .before .before .before .before .before .before .enum-told .given .1) (handed-content _ (start .args .sheet) (c .before .before .before .before .read2 .result) (c .before .before .before .before .read2 .ensures)) in
+    certifies-clear (now (start .args .sheet)) (now (start .args .marks)) (c .before .before .before .before .before .before .before .before .checks .ensures) (c .before .before .before .before .before .before .enum-told .given .1) (h .machine)
+    (handed-content _ (start .args .sheet) (c .before .before .before .before .before .read .result) (c .before .before .before .before .before .read .ensures)) (handed-content _ (start .args .sheet) (c .before .before .before .before .read2 .result) (c .before .before .before .before .read2 .ensures)) (c .before .before .recognise .ensures .0) (c .before .before .recognise .ensures .1) refl
 
 pub certify-spec : {M : Type 1} → statement M
 certify-spec =

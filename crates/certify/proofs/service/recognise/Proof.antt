@@ -1,53 +1,57 @@
+-- `certify::service::recognise` meets its contract: rule 1's marks, closed under rule 2, are the sequence's marks.
+-- Assumes nothing.
+use native.Mathlib.Omega.{arith}
 use borrow.Author.Needs.{needs}
+use denote.Ref.{now}
+use Rattle.machine.specs.Machine.{meaning}
+use Rattle.certify.proofs.Answering.{entries-tabled, few-tabled, word-closable, marks-are, outcome-is}
 use Rattle.certify.proofs.service.recognise.Statement.{statement}
 use Rattle.certify.proofs.service.recognise.Tie as tie
-use Rattle.certify.proofs.service.recognise.Reads as reads
-use Rattle.certify.proofs.service.recognise.Lts as lts
-use Rattle.certify.proofs.answer.answer_of.Reads as answer-of-reads
-use Rattle.certify.proofs.closure.close.Reads as close-reads
-use Rattle.certify.proofs.tally.count.Reads as count-reads
-use Rattle.certify.proofs.tally.open_check.Reads as open-check-reads
-use Rattle.certify.proofs.word.mark_words.Reads as mark-words-reads
 
--- src/service.rt:49:5
 mark-words-requires : tie.Need-mark-words-requires
 mark-words-requires c κs = search needs
 
--- src/service.rt:50:17
 close-requires : tie.Need-close-requires
-close-requires c κs = ?
+close-requires c κs =
+    let start = c .before .before .before .before .before .before .before .before in
+    word-closable (now (start .args .w)) (now (start .args .xs)) (c .before .before .before .mark-words .ensures) (meaning (start .args .m)) (start .pre .0) (start .pre .1 .0)
 
--- src/service.rt:51:19
 cast-entries : tie.Need-cast-entries
 cast-entries c = search needs
 
--- src/service.rt:51:34
 cast-entries-2 : tie.Need-cast-entries-2
 cast-entries-2 c = search needs
 
--- src/service.rt:51:19
 mul-entries : tie.Need-mul-entries
-mul-entries c = ?
+mul-entries c =
+    let start = c .before .before .before .before .before .before .before .before .before .before .before .before .before in
+    omega (arith, few-tabled (start .args .m .n) (start .args .m .k) (start .args .m .start) (start .args .m .next) (start .args .m .answer) (start .pre .0))
 
--- src/service.rt:52:9
 open-check-requires : tie.Need-open-check-requires
-open-check-requires c κs = ?
+open-check-requires c κs =
+    let start = c .before .before .before .before .before .before .before .before .before .before .before .before .before .before .before in
+    (omega (arith, c .before .before .before .before .before .before .close .ensures .exact .long), few-tabled (start .args .m .n) (start .args .m .k) (start .args .m .start) (start .args .m .next) (start .args .m .answer) (start .pre .0))
 
--- src/service.rt:53:9
 count-requires : tie.Need-count-requires
 count-requires c κs = search needs
 
--- src/service.rt:54:5
 answer-of-requires : tie.Need-answer-of-requires
 answer-of-requires c κs = search needs
 
--- src/service.rt:42:1
 same-length : tie.Need-same-length
-same-length c = search needs
+same-length c =
+    let start = c .before .before .before .before .before .before .before .before .before .before .before .before .before .before .before .before .before .before .before in
+    omega (arith, c .before .before .before .before .before .before .before .before .before .before .close .ensures .exact .long, start .pre .1 .1)
 
--- src/service.rt:42:1
 returns : tie.Need-returns
-returns c = ?
+returns c =
+    let start = c .before .before .before .before .before .before .before .before .before .before .before .before .before .before .before .before .before .before .before in
+    let words = c .before .before .before .before .before .before .before .before .before .before .before .before .before .before .mark-words .ensures in
+    let closed = c .before .before .before .before .before .before .before .before .before .before .close .ensures in (
+      outcome-is (meaning (start .args .m)) (now (start .args .w)) (now (start .args .xs)) (start .pre .0) (start .pre .1 .0) words closed
+          (entries-tabled (start .args .m .n) (start .args .m .k) (start .args .m .start) (start .args .m .next) (start .args .m .answer)) (c .before .before .before .open-check .ensures) (c .before .count .ensures) (c .answer-of .ensures),
+      marks-are (meaning (start .args .m)) (now (start .args .w)) (now (start .args .xs)) (start .pre .0) (start .pre .1 .0) words closed,
+    )
 
 pub recognise-spec : {M : Type 1} → statement M
 recognise-spec =
