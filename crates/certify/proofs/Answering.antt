@@ -1,21 +1,21 @@
 -- From the program's marks and known entries to the outcome, and from the checks to the service's answer.
 use Prim.Native.Nat.{ℕ, _+_, _*_, _≤_, _<_}
 use mathlib.Core.Path.{_≡_, refl, sym, ap, ap₂, _∙_}
-use mathlib.Core.Bool.{Bool, true}
-use mathlib.Core.List.{List, _++_, List·Memᴰ}
+use mathlib.Core.Bool.{true}
+use mathlib.Core.List.{List, _++_}
 use native.Mathlib.Omega.{arith}
 use native.Mathlib.Nat.{mul-le-mul}
 use lib.Dec.{ltb}
-use lib.ListN.{length, getD, take, drop}
+use lib.ListN.{length, getD, drop}
 use borrow.Author.Tests.{ltb-false}
 use Rattle.sheet.specs.declared.check.Check.{Check}
 use Rattle.sheet.specs.declared.check.Check.the-variants.{Clear, Refused}
 use Rattle.sheet.specs.Check.{refusal_with_if_, _else_, firstCause}
-use Rattle.sheet.specs.Check.Laws.{clear-absent, both-clear, else-clear, else-refused}
+use Rattle.sheet.specs.Check.Laws.{clear-absent, both-clear, else-refused}
 use Rattle.sheet.specs.Reader.{the, content}
 use Rattle.machine.specs.Limits.{mostSequence, mostEntries}
 use Rattle.machine.specs.declared.loading.Loaded.{Loaded}
-use Rattle.machine.specs.Machine.{Mealy, stateAt, tabled, meaning, Proper, Commands}
+use Rattle.machine.specs.Machine.{Mealy, tabled, meaning, Proper, Commands}
 use Rattle.machine.specs.Machine.Laws.{tabled-states, tabled-commands}
 use Rattle.machine.specs.Causes.{commandsCause, machineIn, held, loadCauses}
 use Rattle.machine.specs.Causes.Laws.{clear-commands}
@@ -24,11 +24,11 @@ use Rattle.machine.specs.Loading.{LoadedFrom}
 use Rattle.certify.specs.declared.answer.Answer.{Answer}
 use Rattle.certify.specs.declared.answer.Answer.the-variants.{Refused as RefusedAnswer}
 use Rattle.certify.specs.Recognition.{Stands, Closure, rule1, rule2}
-use Rattle.certify.specs.Marks.{listed, mark, count, stands, marks}
-use Rattle.certify.specs.Marks.Laws.{listed-length, listed-at, listed-few, mark-true, mark-few, marked-inside}
-use Rattle.certify.specs.Marks.Agreement.{stands-true, true-stands, Exact, marks-unique, marks-length}
-use Rattle.certify.specs.Certification.{certifyNeeds, cause7, cause9, markBytes, certifyCauses, verified, openOf, answerOf, outcome, certification, kept, marksAfter, Certifies}
-use Rattle.certify.specs.Certification.Laws.{ShownBy, verified-shown, shown-verified, outcome-of, certification-refused, certification-clear, after-refused, after-clear}
+use Rattle.certify.specs.Marks.{tabulate, mark, count, stands, marks}
+use Rattle.certify.specs.Marks.Laws.{tabulate-length, tabulate-at, tabulate-bits, mark-true, mark-bit, marked-inside}
+use Rattle.certify.specs.Marks.Agreement.{stands-true, true-stands, marks-unique, marks-length}
+use Rattle.certify.specs.Certification.{certifyNeeds, cause7, cause9, markBytes, certifyCauses, verified, openCause, answerOf, outcome, kept, Certifies}
+use Rattle.certify.specs.Certification.Laws.{verified-shown, shown-verified, outcome-of, certification-refused, certification-clear, after-refused, after-clear}
 use Rattle.certify.specs.Certification.Program.{open-known, certify-causes-are}
 use Rattle.certify.specs.Folding.{MarkedIn}
 use Rattle.certify.specs.Sweep.{entryAt}
@@ -48,26 +48,26 @@ few-tabled n k start next answer h = omega (arith, entries-tabled n k start next
 
 -- ---- rule 1's places as marks
 abbrev pub wordMarks : List ℕ → List ℕ → List ℕ
-wordMarks w xs = listed (length xs + 1) (λ p. mark (stands w xs p))
+wordMarks w xs = tabulate (length xs + 1) (λ p. mark (stands w xs p))
 
 module _ (w xs : List ℕ) {given : List ℕ} (e : given ≡ wordMarks w xs) where
   marked-stands : (p : ℕ) → MarkedIn given p → Stands w xs p
   marked-stands p m =
-      let cell : getD (listed (length xs + 1) (λ q. mark (stands w xs q))) p 0 ≡ 1 = rw (← e) m in
-      let l = marked-inside (listed (length xs + 1) (λ q. mark (stands w xs q))) p cell in
-      let at = listed-at (length xs + 1) (λ q. mark (stands w xs q)) p (omega (arith, listed-length (length xs + 1) (λ q. mark (stands w xs q)))) in
+      let cell : getD (tabulate (length xs + 1) (λ q. mark (stands w xs q))) p 0 ≡ 1 = rw (← e) m in
+      let l = marked-inside (tabulate (length xs + 1) (λ q. mark (stands w xs q))) p cell in
+      let at = tabulate-at (length xs + 1) (λ q. mark (stands w xs q)) p (omega (arith, tabulate-length (length xs + 1) (λ q. mark (stands w xs q)))) in
       stands-true w xs p (mark-true (stands w xs p) (sym at ∙ cell))
 
   stands-marked : (p : ℕ) → Stands w xs p → MarkedIn given p
   stands-marked p h =
-      ap (λ (l : List ℕ). getD l p 0) e ∙ listed-at (length xs + 1) (λ q. mark (stands w xs q)) p (omega (arith, h .inside)) ∙ ap mark (true-stands w xs p h)
+      ap (λ (l : List ℕ). getD l p 0) e ∙ tabulate-at (length xs + 1) (λ q. mark (stands w xs q)) p (omega (arith, h .inside)) ∙ ap mark (true-stands w xs p h)
 
   pub word-closable : (M : Mealy) → Proper M → Commands mostSequence (M .k) xs → Closable M xs given
   word-closable M p c = record {
     proper = p;
     commands = c;
-    long = ap length e ∙ listed-length _ _;
-    few = λ q. rw e (listed-few (length xs + 1) _ (λ i. mark-few (stands w xs i)) q);
+    long = ap length e ∙ tabulate-length _ _;
+    few = λ q. rw e (tabulate-bits (length xs + 1) _ (λ i. mark-bit (stands w xs i)) q);
   }
 
 -- the closure of the same places is the same
@@ -81,7 +81,7 @@ module _ (M : Mealy) (w xs : List ℕ) {given ms known : List ℕ} (proper : Pro
   pub marks-are : ms ≡ marks M w xs
   marks-are = marks-unique M w xs ms (record {
     long = h .exact .long;
-    few = h .exact .few;
+    bits = h .exact .bits;
     sound = λ p m. closure-map (marked-stands w xs e) (h .exact .sound p m);
     complete = λ p l c. h .exact .complete p l (closure-map (stands-marked w xs e) c);
   })
@@ -107,7 +107,7 @@ module _ (M : Mealy) (w xs : List ℕ) {given ms known : List ℕ} (proper : Pro
 
   pub outcome-is : {entries n : ℕ} {c : Check} {a : Answer} → entries ≡ M .n * M .k → c ≡ openBy ms known entries → n ≡ count ms → a ≡ answerOf c n → a ≡ outcome M w xs
   outcome-is ee ce ne ae =
-      let o : openBy ms known _ ≡ openOf M xs ms = ap (openBy ms known) ee ∙ open-known M xs ms known known-verified verified-known in
+      let o : openBy ms known _ ≡ openCause M xs ms = ap (openBy ms known) ee ∙ open-known M xs ms known known-verified verified-known in
       ae ∙ ap₂ answerOf (ce ∙ o) ne ∙ sym (outcome-of M w xs (sym marks-are))
 
 -- ---- the checks

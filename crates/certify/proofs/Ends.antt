@@ -3,14 +3,13 @@ use Prim.Native.Nat.{ℕ, zero, _+_, _*_, _≤_, _<_}
 use mathlib.Core.Path.{_≡_, refl, sym, ap, ap₂, _∙_}
 use mathlib.Core.Bool.{Bool, true, false, true≢false}
 use mathlib.Core.List.{List}
-use mathlib.Core.Logic.{_⊎_, inl, inr, ⊎-elim}
+use mathlib.Core.Logic.{_⊎_, ⊎-elim}
 use native.Mathlib.Omega.{arith}
-use native.Mathlib.Nat.{eq-or-lt-of-le}
 use lib.ListN.{length, getD, take, drop, replicate, length-replicate, getD-replicate, List·getD-eq-default}
 use lib.Seq.{getD-take, getD-drop}
 use lib.Dec.{ltb}
 use borrow.Author.Tests.{ltb-true, ltb-false}
-use Rattle.machine.specs.Limits.{mostEntries, mostSequence}
+use Rattle.machine.specs.Limits.{mostSequence}
 use Rattle.machine.specs.Machine.{Mealy, stateAt}
 use Rattle.machine.specs.Machine.Laws.{state-start, state-next}
 use Rattle.certify.specs.Recognition.{rule1}
@@ -18,10 +17,8 @@ use Rattle.certify.specs.Marks.Laws.{true-or-false, marked-inside}
 use Rattle.certify.specs.Marks.Agreement.{Shown}
 use Rattle.certify.specs.Folding.{same}
 use Rattle.certify.specs.Sweep.{entryAt, Met, Sweepable, Swept}
-use Rattle.certify.proofs.Entries.{Learning}
 use Rattle.certify.proofs.Marking.{bit-one}
 use Rattle.certify.proofs.Represented.{begin, Walked, folded-closed}
-use Rattle.certify.proofs.Tables.{Linked, Topped}
 use Rattle.certify.proofs.Turn.{met-still, met-learning, Still, Head, walked-here}
 
 -- a table of n zeros

@@ -10,7 +10,7 @@ use lib.ListN.{length, getD, set, length-set}
 use lib.Seq.{getD-set-same}
 use borrow.Author.Tests.{ltb-true, ltb-false}
 use Rattle.machine.specs.Limits.{mostEntries}
-use Rattle.machine.specs.Machine.{Mealy, stateAt}
+use Rattle.machine.specs.Machine.{Mealy}
 use Rattle.machine.specs.Causes.Laws.{entry-below}
 use Rattle.certify.specs.Marks.Laws.{true-or-false}
 use Rattle.certify.specs.Folding.{From, Marking, Risen, tops, step}

@@ -1,14 +1,13 @@
 -- The loop of the sweep: its invariant, what its calls ask, and a turn.
 use Prim.Native.Nat.{ℕ, _+_, _*_, _≤_, _<_}
-use mathlib.Core.Path.{_≡_, refl, sym, ap, ap₂, _∙_}
+use mathlib.Core.Path.{_≡_, refl, sym, ap, _∙_}
 use mathlib.Core.Bool.{Bool, false}
 use mathlib.Core.List.{List}
 use native.Mathlib.Omega.{arith}
 use native.Mathlib.Nat.{mul-le-mul-left}
 use lib.ListN.{length, getD}
-use lib.Seq.{getD-take}
 use Rattle.machine.specs.Limits.{mostEntries, mostSequence}
-use Rattle.machine.specs.Machine.{Mealy, run, stateAt, tabled}
+use Rattle.machine.specs.Machine.{Mealy, tabled}
 use Rattle.machine.specs.Machine.Laws.{tabled-commands, tabled-next, state-next, state-stays}
 use Rattle.machine.specs.Causes.Laws.{entry-below}
 use Rattle.certify.specs.Folding.{Follows, Rising}

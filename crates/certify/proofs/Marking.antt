@@ -1,7 +1,7 @@
 -- The marks during a sweep: between the given ones and their closure, and what marking one more place keeps.
-use Prim.Native.Nat.{ℕ, _+_, _≤_, _<_}
-use mathlib.Core.Path.{_≡_, refl, sym, ap, _∙_}
-use mathlib.Core.Bool.{Bool, true, false, true≢false}
+use Prim.Native.Nat.{ℕ, _≤_, _<_}
+use mathlib.Core.Path.{_≡_, sym, ap, _∙_}
+use mathlib.Core.Bool.{true, false}
 use mathlib.Core.List.{List}
 use mathlib.Core.Logic.{_⊎_, inl, inr, ⊎-elim}
 use native.Mathlib.Omega.{arith}
@@ -10,9 +10,9 @@ use lib.Dec.{eqb}
 use lib.ListN.{length, getD, set, length-set}
 use lib.Seq.{getD-set-same, getD-set-other}
 use borrow.Author.Tests.{eqb-true, eqb-false}
-use Rattle.machine.specs.Machine.{Mealy, stateAt}
+use Rattle.machine.specs.Machine.{Mealy}
 use Rattle.certify.specs.Marks.Laws.{true-or-false}
-use Rattle.certify.specs.Folding.{From, Marking, Risen, Paired}
+use Rattle.certify.specs.Folding.{From, Marking, Paired}
 use Rattle.certify.proofs.Paired.{paired-sym, paired-carries}
 
 -- ---- numbers

@@ -1,7 +1,7 @@
 -- Soundness of folding: two places are paired where they are one, or equally many equal commands after two places of one state that belong
 -- to the closure. Paired places have one state, and if one of them belongs to the closure, so does the other, by rule 2.
 use Prim.Native.Nat.{ℕ, _+_, _≤_, _<_}
-use mathlib.Core.Path.{_≡_, refl, sym, ap, ap₂, _∙_}
+use mathlib.Core.Path.{_≡_, sym, ap, ap₂, _∙_}
 use mathlib.Core.List.{List}
 use mathlib.Core.Logic.{_⊎_, inl, inr, ⊎-elim}
 use native.Mathlib.Omega.{arith}
@@ -10,8 +10,8 @@ use lib.ListN.{length, getD, take, drop, length-take, length-drop}
 use lib.Seq.{ext-getD, getD-take, getD-drop}
 use Rattle.machine.specs.Machine.{Mealy, stateAt}
 use Rattle.machine.specs.Machine.Laws.{state-next}
-use Rattle.certify.specs.Recognition.{Closure, rule2}
-use Rattle.certify.specs.Folding.{From, MarkedIn, Paired, same, tops, step, Past, here, past}
+use Rattle.certify.specs.Recognition.{rule2}
+use Rattle.certify.specs.Folding.{From, Paired, same, tops, step, Past, here, past}
 
 -- the m commands from p and from q are equal where they are so one by one
 commands-equal : (xs : List ℕ) (p q m : ℕ) → p + m ≤ length xs → q + m ≤ length xs

@@ -1,9 +1,9 @@
 -- Completeness of folding: where a sweep changed nothing, marks that have equal states and equal commands after them go on equally, because
 -- they have one representative. Over any commands x, states st, marks ms and tables alt and root.
 use Prim.Native.Nat.{ℕ, zero, suc, _+_, _≤_, _<_}
-use mathlib.Core.Path.{_≡_, refl, sym, ap, ap₂, _∙_}
+use mathlib.Core.Path.{_≡_, refl, sym, ap, _∙_}
 use mathlib.Core.List.{List}
-use mathlib.Core.Logic.{_⊎_, inl, inr, ⊎-elim}
+use mathlib.Core.Logic.{_⊎_, ⊎-elim}
 use native.Mathlib.Omega.{arith}
 use native.Mathlib.Nat.{eq-or-lt-of-le}
 use lib.ListN.{length, getD}
@@ -178,11 +178,6 @@ module _ (xs : List ℕ) (st : ℕ → ℕ) (ms alt root alt′ root′ : List �
   rep-grows (top m e) = top m (higher _ (λ z. let y : ⊥ = omega arith in y) ∙ e)
   rep-grows (start m a b) = start m a b
   rep-grows (next t′ r′ v m h k c a b) = next t′ r′ v m (rep-grows h) (past-grows more k) c a b
-
-  pub comes-grows : {t cur : ℕ} → Comes xs st ms alt root t cur → Comes xs st ms alt′ root′ t cur
-  comes-grows (begin e d) = begin e d
-  comes-grows (from t′ r v h k c e d) = from t′ r v (rep-grows h) (past-grows more k) c e d
-  comes-grows (between t′ m m′ e) = between t′ m m′ e
 
   pub walked-grows : {i : ℕ} → Walked xs st ms alt root i → Walked xs st ms alt′ root′ i
   walked-grows h = record {

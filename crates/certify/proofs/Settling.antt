@@ -1,6 +1,6 @@
 -- Sweeping until nothing changes: what holds between two sweeps, that it ends, and what it shows in the end.
 use Prim.Native.Nat.{ℕ, _+_, _-_, _≤_, _<_}
-use mathlib.Core.Path.{_≡_, refl, sym, ap, _∙_}
+use mathlib.Core.Path.{_≡_, sym, ap, _∙_}
 use mathlib.Core.Bool.{Bool, true, false, true≢false}
 use mathlib.Core.List.{List}
 use mathlib.Core.Logic.{_⊎_, ⊎-elim}
@@ -15,7 +15,7 @@ use Rattle.certify.specs.Marks.{mark, count}
 use Rattle.certify.specs.Marks.Laws.{true-or-false, count-most, count-below, count-same}
 use Rattle.certify.specs.Marks.Agreement.{Shown, closed-complete}
 use Rattle.certify.specs.Folding.{MarkedIn, Marking, Risen}
-use Rattle.certify.specs.Sweep.{entryAt, Witness, Knows, Sweepable, Swept}
+use Rattle.certify.specs.Sweep.{entryAt, Knows, Sweepable, Swept}
 use Rattle.certify.specs.Closing.{Closable, Closed}
 use Rattle.certify.proofs.Ends.{Fresh}
 use Rattle.certify.proofs.Growing.{from-more, from-flat, marking-flat}
@@ -127,7 +127,7 @@ module _ (M : Mealy) (xs given : List ℕ) where
     settled-closed f = record {
       exact = record {
         long = h .marking .long;
-        few = h .marking .few;
+        bits = h .marking .few;
         sound = h .marking .sound;
         complete = closed-complete xs (stateAt M xs) (MarkedIn given) ms (h .marking .long) (λ p l e. h .marking .above p e) (h .closed f);
       };

@@ -1,23 +1,23 @@
 -- A turn of the sweep: what holds before place t, and that its steps lead to the same before place t + 1.
-use Prim.Native.Nat.{ℕ, _+_, _*_, _≤_, _<_}
+use Prim.Native.Nat.{ℕ, _+_, _≤_, _<_}
 use mathlib.Core.Path.{_≡_, refl, sym, ap, ap₂, _∙_}
 use mathlib.Core.Bool.{Bool, true, false, true≢false}
 use mathlib.Core.List.{List}
-use mathlib.Core.Logic.{_⊎_, inl, inr, ⊎-elim}
+use mathlib.Core.Logic.{_⊎_, inl, ⊎-elim}
 use native.Mathlib.Omega.{arith}
 use native.Mathlib.Nat.{eq-or-lt-of-le}
-use lib.ListN.{length, getD, set}
+use lib.ListN.{length, getD}
 use lib.Seq.{getD-set-same}
 use Rattle.machine.specs.Limits.{mostEntries, mostSequence}
 use Rattle.machine.specs.Machine.{Mealy, stateAt}
-use Rattle.certify.specs.Folding.{Marking, Risen, Paired, Past, here, past}
+use Rattle.certify.specs.Folding.{Paired, Past}
 use Rattle.certify.specs.Sweep.{entryAt, Met, Learnt, Rooted, Advanced, found, added, Onward}
 use Rattle.certify.proofs.Alternatives.{past-on}
-use Rattle.certify.proofs.Entries.{Learning, learning, Unchanged, learnt-still}
+use Rattle.certify.proofs.Entries.{Learning, learning, learnt-still}
 use Rattle.certify.proofs.Growing.{marking-flat}
 use Rattle.certify.proofs.Marking.{bit-one, was-zero}
-use Rattle.certify.proofs.Represented.{Rep, top, Comes, from, between, comes-rep, Walked, comes-walked, past-grows, rep-grows, comes-grows, walked-grows}
-use Rattle.certify.proofs.Tables.{roots-grow, links-grow, below, Linked, past-low, Topped, Gone, gone}
+use Rattle.certify.proofs.Represented.{Rep, top, Comes, from, between, comes-rep, Walked, comes-walked, past-grows, rep-grows, walked-grows}
+use Rattle.certify.proofs.Tables.{roots-grow, links-grow, below, Linked, past-low, Topped, gone}
 
 -- nothing changed where cur and t met: their marks are equal
 pub met-still : {M : Mealy} {xs ms ms′ : List ℕ} {cur t : ℕ} {changed changed′ : Bool} → Met M xs ms cur t changed ms′ changed′ → changed′ ≡ false

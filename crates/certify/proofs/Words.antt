@@ -1,6 +1,6 @@
 -- Where the word stands: the comparison command by command, and the marks that it gives.
 use Prim.Native.Nat.{ℕ, _+_, _-_, _≤_, _<_}
-use mathlib.Core.Path.{_≡_, refl, sym, ap, _∙_}
+use mathlib.Core.Path.{_≡_, sym, ap, _∙_}
 use mathlib.Core.Bool.{Bool}
 use mathlib.Core.List.{List}
 use mathlib.Core.Logic.{⊎-elim}
@@ -9,8 +9,8 @@ use native.Mathlib.Nat.{eq-or-lt-of-le}
 use lib.ListN.{length, getD, set, take, drop, length-set, length-take, length-drop}
 use lib.Seq.{ext-getD, getD-take, getD-drop}
 use Rattle.certify.specs.Recognition.{Stands}
-use Rattle.certify.specs.Marks.{listed, mark, stands}
-use Rattle.certify.specs.Marks.Laws.{listed-length, listed-at}
+use Rattle.certify.specs.Marks.{tabulate, mark, stands}
+use Rattle.certify.specs.Marks.Laws.{tabulate-length, tabulate-at}
 use Rattle.certify.proofs.Marking.{set-at}
 
 module _ (w xs : List ℕ) (p : ℕ) where
@@ -58,7 +58,7 @@ marked-on w xs marks p h l {b} {v} ve be =
     below : (q p : ℕ) → q ≤ p → (q ≡ p → ⊥) → q < p
     below q p l n = ⊎-elim (λ (e : q ≡ p). absurd (n e)) (λ (k : q < p). k) (eq-or-lt-of-le l)
 
-pub marked-all : (w xs marks : List ℕ) (p : ℕ) → Marked w xs marks p → length xs < p → marks ≡ listed (length xs + 1) (λ q. mark (stands w xs q))
+pub marked-all : (w xs marks : List ℕ) (p : ℕ) → Marked w xs marks p → length xs < p → marks ≡ tabulate (length xs + 1) (λ q. mark (stands w xs q))
 marked-all w xs marks p h l =
-    ext-getD 0 marks (listed (length xs + 1) (λ q. mark (stands w xs q))) (h .long ∙ sym (listed-length _ _))
-    (λ q ql. let k : q < length xs + 1 = omega (arith, h .long) in h .cells q (omega arith) ∙ sym (listed-at (length xs + 1) (λ x. mark (stands w xs x)) q k))
+    ext-getD 0 marks (tabulate (length xs + 1) (λ q. mark (stands w xs q))) (h .long ∙ sym (tabulate-length _ _))
+    (λ q ql. let k : q < length xs + 1 = omega (arith, h .long) in h .cells q (omega arith) ∙ sym (tabulate-at (length xs + 1) (λ x. mark (stands w xs x)) q k))

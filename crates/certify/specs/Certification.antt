@@ -1,6 +1,6 @@
--- Certifying (document 01, "Causes" rows 7, 9 and 11, and "Recognition"): its causes, its answer, and what it writes. The definitions are shut:
--- what judging may know of them are the service's contract and the laws in Certification.Laws. The twin's starred cases are computed in
--- Certification.Twin.
+-- Certifying (document 01, "Causes" and "Recognition"): causes 1 to 7 and 9, the open number, which is also judging's cause 11, the answer, and
+-- what is written. Shut are `verified`, `openCause`, `cause11`, `outcome`, `certification` and `marksAfter`: what judging may know of them are the
+-- service's contract and the laws in Certification.Laws. The starred sequences are computed in Certification.Twin.
 use Prim.Native.Nat.{ℕ, _+_, _*_}
 use mathlib.Core.Path.{_≡_}
 use mathlib.Core.Bool.{Bool, true, false, not, _&&_}
@@ -19,7 +19,7 @@ use Rattle.machine.specs.Causes.{commandsCause, machineIn, loadCauses}
 use Rattle.certify.specs.declared.answer.Answer.{Answer}
 use Rattle.certify.specs.declared.answer.Answer.the-variants.{Certified, Open, Refused as RefusedAnswer}
 use Rattle.certify.specs.declared.answer.Values.{Values}
-use Rattle.certify.specs.Marks.{some, marked, count, marks}
+use Rattle.certify.specs.Marks.{any, marked, count, marks}
 pub mod Laws
 pub mod Program
 pub mod Twin
@@ -43,28 +43,28 @@ markBytes xs = length xs + 1
 
 -- causes 1 to 7, then 9, for a service that certifies, the kinds that it needs and the room for marks
 unfoldable pub certifyCauses : Needs → ℕ → List ℕ → List Check
-certifyCauses n room s = loadCauses n s ++ (cause7 (machineIn s .k) (the 3 s) (content 3 s) ∷ cause9 room (markBytes (content 3 s)) ∷ [])
+certifyCauses needs room s = loadCauses needs s ++ (cause7 (machineIn s .k) (the 3 s) (content 3 s) ∷ cause9 room (markBytes (content 3 s)) ∷ [])
 
 -- ---- what is certified
--- "Entry (s, command) is verified if some place i has state s and that command, and i and i+1 are both recognised", by the marks
+-- "Entry (s, command) is verified if any place i has state s and that command, and i and i+1 are both recognised", by the marks
 pub verified : Mealy → List ℕ → List ℕ → ℕ → ℕ → Bool
 verified M xs ms s c =
-    some (length xs) (λ i. eqb (stateAt M xs i) s && (eqb (getD xs i 0) c && (marked ms i && marked ms (i + 1))))
+    any (length xs) (λ i. eqb (stateAt M xs i) s && (eqb (getD xs i 0) c && (marked ms i && marked ms (i + 1))))
 
 -- "not certified", with the open number: "0 if place 0 is not recognised, else 1+s·k+command for the least entry not verified", of marks
-pub openOf : Mealy → List ℕ → List ℕ → Check
-openOf M xs ms =
+pub openCause : Mealy → List ℕ → List ℕ → Check
+openCause M xs ms =
     (refusal 11 with 0 if not (marked ms 0))
     else first (M .n) (λ s. first (M .k) (λ c. refusal 11 with 1 + (s * M .k + c) if not (verified M xs ms s c)))
 
--- of a word and a sequence
+-- cause 11, "not certified", by the sequence's own marks: judging refuses with it, certifying answers open with the same number
 pub cause11 : Mealy → List ℕ → List ℕ → Check
-cause11 M w xs = openOf M xs (marks M w xs)
+cause11 M w xs = openCause M xs (marks M w xs)
 
 -- "certified, with the number of recognised places; or open, with that number and the open number"
 abbrev pub answerOf : Check → ℕ → Answer
 answerOf Clear recognised = Certified recognised
-answerOf (Refused cause number) recognised = Open recognised number
+answerOf (Refused number place) recognised = Open recognised place
 
 -- the answer where nothing is refused
 pub outcome : Mealy → List ℕ → List ℕ → Answer

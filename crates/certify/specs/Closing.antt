@@ -1,6 +1,6 @@
 -- What the certifier's own functions promise each other about whole sequences. Nothing here has to be believed: the service's contract does
 -- not name it.
-use Prim.Native.Nat.{ℕ, _+_, _*_, _≤_, _<_}
+use Prim.Native.Nat.{ℕ, _+_, _≤_, _<_}
 use mathlib.Core.Path.{_≡_}
 use mathlib.Core.Bool.{not}
 use mathlib.Core.List.{List}
@@ -8,7 +8,7 @@ use lib.Dec.{eqb}
 use lib.ListN.{length, getD}
 use Rattle.sheet.specs.declared.check.Check.{Check}
 use Rattle.sheet.specs.Check.{refusal_with_if_, _else_, first}
-use Rattle.machine.specs.Limits.{mostSequence, mostEntries}
+use Rattle.machine.specs.Limits.{mostSequence}
 use Rattle.machine.specs.Machine.{Mealy, stateAt, Proper, Commands}
 use Rattle.certify.specs.Marks.{marked}
 use Rattle.certify.specs.Marks.Agreement.{Exact}

@@ -1,5 +1,6 @@
--- The recognised places as marks, computed: one byte for each of the places 0 to N, 1 for recognised and 0 otherwise. Marks.Agreement shows that
--- they are exactly those of Recognition, so that nothing here has to be believed. The definitions are shut.
+-- The recognised places as marks, computed: one byte for each of the places 0 to N, 1 for recognised and 0 otherwise. Marks.Agreement shows
+-- that they are exactly those of Recognition, so only `count` has to be read besides. A small name is a computed test, the same name with a
+-- capital is the statement (`stands` and Stands, `closure` and Closure). Shut are `stands`, `shown`, `grown`, `settled`, `closure` and `marks`.
 use Prim.Native.Nat.{ℕ, zero, suc, _+_, _-_}
 use mathlib.Core.Bool.{Bool, true, false, _&&_, _||_}
 use mathlib.Core.List.{List, [], _∷_}
@@ -12,25 +13,25 @@ pub mod Agreement
 pub mod Twin
 
 -- whether a test holds of some number below n
-unfoldable pub some : ℕ → (ℕ → Bool) → Bool
-some zero f = false
-some (suc n) f = some n f || f n
+unfoldable pub any : ℕ → (ℕ → Bool) → Bool
+any zero f = false
+any (suc n) f = any n f || f n
 
--- f 0, f 1, .., f (n - 1)
-unfoldable pub listed : ℕ → (ℕ → ℕ) → List ℕ
-listed zero f = []
-listed (suc n) f = f 0 ∷ listed n (λ i. f (suc i))
+-- the list f 0, f 1, .., f (n - 1)
+unfoldable pub tabulate : ℕ → (ℕ → ℕ) → List ℕ
+tabulate zero f = []
+tabulate (suc n) f = f 0 ∷ tabulate n (λ i. f (suc i))
 
 -- "1 for recognised, 0 otherwise"
 abbrev pub mark : Bool → ℕ
 mark true = 1
 mark false = 0
 
--- whether a place has its mark
+-- whether the mark of a place is 1
 abbrev pub marked : List ℕ → ℕ → Bool
 marked ms p = eqb (getD ms p 0) 1
 
--- the number of marks
+-- how many marks are 1
 unfoldable pub count : List ℕ → ℕ
 count [] = 0
 count (m ∷ ms) = mark (eqb m 1) + count ms
@@ -42,23 +43,23 @@ stands w xs p = leb (p + length w) (length xs) && same (take (length w) (drop p 
 -- rule 2: whether marked places p, q and p + m show that r = q + m is recognised
 pub shown : List ℕ → (ℕ → ℕ) → List ℕ → ℕ → Bool
 shown xs state ms r =
-    some (length xs) (λ p. some r (λ q.
+    any (length xs) (λ p. any r (λ q.
     marked ms p && (marked ms q && (eqb (state p) (state q) && (marked ms (p + (r - q)) && same (take (r - q) (drop p xs)) (take (r - q) (drop q xs)))))))
 
--- the marks that rule 2 adds to these, once
+-- these marks, and those that one use of rule 2 adds
 pub grown : List ℕ → (ℕ → ℕ) → List ℕ → List ℕ
-grown xs state ms = listed (length xs + 1) (λ r. mark (marked ms r || shown xs state ms r))
+grown xs state ms = tabulate (length xs + 1) (λ r. mark (marked ms r || shown xs state ms r))
 
--- growing until the number of marks no longer rises, at most so many times
+-- growing until no more marks are 1, at most f times
 pub settled : ℕ → List ℕ → (ℕ → ℕ) → List ℕ → List ℕ
 settled zero xs state ms = ms
 settled (suc f) xs state ms =
     let more = grown xs state ms in
     elim (eqb (count more) (count ms)) [ true ↦ ms | false ↦ settled f xs state more ]
 
--- the marks of the places that rule 1 gives, grown by rule 2
+-- the marks of the places that rule 1 gives, grown by rule 2; N+1 times are enough: settled-stable, in Marks.Agreement
 pub closure : List ℕ → (ℕ → ℕ) → (ℕ → Bool) → List ℕ
-closure xs state base = settled (length xs + 1) xs state (listed (length xs + 1) (λ p. mark (base p)))
+closure xs state base = settled (length xs + 1) xs state (tabulate (length xs + 1) (λ p. mark (base p)))
 
 -- "marks 0 to N hold 1 for recognised, 0 otherwise"
 pub marks : Mealy → List ℕ → List ℕ → List ℕ

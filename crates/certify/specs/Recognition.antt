@@ -1,5 +1,5 @@
 -- Recognition as its rules read (document 01, "Recognition"; source document 002, section 2.4): the recognised places, verified entries and
--- certified sequences. M is the machine, w the word, xs the sequence. The definitions are shut: what is known of them outside are the laws in
+-- certified sequences. M is the machine, w the word, xs the sequence. `Recognised` is shut: what is known of it outside are the laws in
 -- Recognition.Laws.
 use Prim.Native.Nat.{ℕ, _+_, _≤_, _<_}
 use mathlib.Core.Path.{_≡_}
@@ -17,7 +17,7 @@ pub record Stands (w xs : List ℕ) (p : ℕ) : Type 0 where
 pub data Closure (xs : List ℕ) (state : ℕ → ℕ) (Base : ℕ → Type 0) : ℕ → Type 0 where
   rule1 : {p : ℕ} → Base p → Closure xs state Base p
   -- "q+m is recognised if m is at least 1, p and q are recognised places with the same state, p+m is recognised, and the m commands from p
-  -- equal the m commands from q"
+  -- equal the m commands from q"; q+m is a place of the sequence, here named r
   rule2 : {r : ℕ} (p q m : ℕ) → 1 ≤ m
       → Closure xs state Base p → Closure xs state Base q → state p ≡ state q
       → Closure xs state Base (p + m) → q + m ≤ length xs
@@ -38,7 +38,8 @@ pub record Verified (M : Mealy) (w xs : List ℕ) (s c : ℕ) : Type 0 where
   pub before : Recognised M w xs place
   pub after : Recognised M w xs (place + 1)
 
--- "A sequence is certified if place 0 is recognised and all n·k entries are verified": it is then a checking sequence
+-- "A sequence is certified if place 0 is recognised and all n·k entries are verified": if the word separates the states, it is
+-- then a checking sequence
 pub record Certified (M : Mealy) (w xs : List ℕ) : Type 0 where
   pub start : Recognised M w xs 0
   pub entries : (s c : ℕ) → s < M .n → c < M .k → Verified M w xs s c

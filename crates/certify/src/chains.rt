@@ -4,7 +4,7 @@
 // command: alternatives are places that are represented alike and have different commands.
 ghost use mathlib.Core.Path.{_≡_};
 ghost use Prim.Native.Nat.{_+_, _≤_, _<_};
-ghost use lib.ListN.{length, getD};
+ghost use lib.ListN.{length};
 ghost use Rattle.machine.specs.Limits.{mostSequence};
 ghost use Rattle.certify.specs.Folding.{Rising, Reached};
 ghost use Rattle.certify.specs.Sweep.{Rooted, Advanced};

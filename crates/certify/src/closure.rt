@@ -1,5 +1,4 @@
 // Sweeping until nothing changes: the recognised places, and the verified entries.
-ghost use mathlib.Core.Path.{_≡_};
 ghost use Rattle.machine.specs.Machine.{meaning};
 ghost use Rattle.certify.specs.Closing.{Closable, Closed};
 use crate::sweep::sweep;

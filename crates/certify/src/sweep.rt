@@ -2,7 +2,7 @@
 // represented alike. What it marks is recognised by rule 2, and where it changes nothing, rule 2
 // adds nothing.
 ghost use mathlib.Core.Path.{_≡_};
-ghost use Prim.Native.Nat.{ℕ, _+_, _*_, _≤_, _<_};
+ghost use Prim.Native.Nat.{ℕ, _+_, _≤_, _<_};
 ghost use lib.ListN.{length, getD};
 ghost use Rattle.machine.specs.Limits.{mostEntries, mostSequence};
 ghost use Rattle.machine.specs.Machine.{Mealy, meaning};

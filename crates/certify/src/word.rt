@@ -2,7 +2,7 @@
 ghost use mathlib.Core.Path.{_≡_};
 ghost use Prim.Native.Nat.{_+_, _≤_};
 ghost use lib.ListN.{length};
-ghost use Rattle.certify.specs.Marks.{listed, mark};
+ghost use Rattle.certify.specs.Marks.{tabulate, mark};
 ghost use Rattle.certify.specs.Marks.{stands as standsOf};
 
 fn bit(b: bool) -> u8
@@ -35,7 +35,7 @@ fn stands(w: &[u8], xs: &[u8], p: usize) -> bool
 // Writes a mark for each place: 1 where the word stands, else 0.
 pub fn mark_words(w: &[u8], xs: &[u8], marks: &mut [u8])
     requires { ⌜ length (now marks) ≡ length (now xs) + 1 ⌝ }
-    ensures { λ _. ⌜ now (marks .exit) ≡ listed (length (now (xs .entry)) + 1) (λ p. mark (standsOf (now (w .entry)) (now (xs .entry)) p)) ⌝ }
+    ensures { λ _. ⌜ now (marks .exit) ≡ tabulate (length (now (xs .entry)) + 1) (λ p. mark (standsOf (now (w .entry)) (now (xs .entry)) p)) ⌝ }
 {
     let mut p = 0;
     while p <= xs.len() {

@@ -18,9 +18,9 @@ use Rattle.certify.specs.declared.answer.Answer.{Answer}
 use Rattle.certify.specs.declared.answer.Answer.the-variants.{Certified as CertifiedAnswer, Open, Refused as RefusedAnswer}
 use Rattle.certify.specs.Recognition.{Recognised, Verified, Certified}
 use Rattle.certify.specs.Marks.{marked, count, marks}
-use Rattle.certify.specs.Marks.Laws.{some-found, some-holds, marked-true, true-marked}
+use Rattle.certify.specs.Marks.Laws.{any-found, any-holds, marked-true, true-marked}
 use Rattle.certify.specs.Marks.Agreement.{marked-recognised, recognised-marked}
-use Rattle.certify.specs.Certification.{certifyNeeds, certifyCauses, verified, openOf, cause11, answerOf, outcome, refusedOr, certification, kept, marksAfter, valuesOf}
+use Rattle.certify.specs.Certification.{certifyNeeds, certifyCauses, verified, openCause, cause11, answerOf, outcome, refusedOr, certification, kept, marksAfter, valuesOf}
 
 -- ---- verified entries, by any marks
 -- the place that shows an entry
@@ -35,7 +35,7 @@ pub record ShownBy (M : Mealy) (xs ms : List ℕ) (s c : ℕ) : Type 0 where
 pub verified-shown : (M : Mealy) (xs ms : List ℕ) (s c : ℕ) → verified M xs ms s c ≡ true → ShownBy M xs ms s c
 unfolding verified
 verified-shown M xs ms s c e =
-    let f = some-found _ _ e in
+    let f = any-found _ _ e in
     let a = both-true _ _ (f .2) in
     let b = both-true _ _ (a .1) in
     let d = both-true _ _ (b .1) in
@@ -51,7 +51,7 @@ verified-shown M xs ms s c e =
 pub shown-verified : (M : Mealy) (xs ms : List ℕ) (s c : ℕ) → ShownBy M xs ms s c → verified M xs ms s c ≡ true
 unfolding verified
 shown-verified M xs ms s c v =
-    some-holds _ _ (v .place) (v .inside)
+    any-holds _ _ (v .place) (v .inside)
     (rw (eq-eqb _ _ (v .state), eq-eqb _ _ (v .command), true-marked ms _ (v .before), true-marked ms _ (v .after)))
 
 module _ (M : Mealy) (w xs : List ℕ) where
@@ -80,7 +80,7 @@ module _ (M : Mealy) (w xs : List ℕ) where
 
   -- ---- certified exactly where place 0 is recognised and every entry is verified
   pub clear-certified : cause11 M w xs ≡ Clear → Certified M w xs
-  unfolding cause11 openOf
+  unfolding cause11 openCause
   clear-certified e =
       let h = both-clear _ _ e in
       record {
@@ -90,7 +90,7 @@ module _ (M : Mealy) (w xs : List ℕ) where
       }
 
   pub certified-clear : Certified M w xs → cause11 M w xs ≡ Clear
-  unfolding cause11 openOf
+  unfolding cause11 openCause
   certified-clear h =
       rw (absent 11 0 (ap not (true-marked (marks M w xs) 0 (recognised-marked M w xs 0 (h .start)))))
       (else-clear _ ∙ first-clear (M .n) _ (λ s ls. first-clear (M .k) _ (λ c lc. absent 11 _ (ap not (true-verified s c (h .entries s c ls lc))))))
@@ -134,7 +134,7 @@ module _ (M : Mealy) (w xs : List ℕ) where
   open-by false m e = (cc, start-open (λ r. true≢false (sym (true-marked (marks M w xs) 0 (recognised-marked M w xs 0 r)) ∙ m)) (cc))
 
   pub refused-open : {a v : ℕ} → cause11 M w xs ≡ Refused a v → (a ≡ 11) × OpenNumber M w xs v
-  unfolding cause11 openOf entryCheck
+  unfolding cause11 openCause entryCheck
   refused-open e = open-by (marked (marks M w xs) 0) refl e
 
 -- it is at most n·k
@@ -144,9 +144,9 @@ open-small M w xs v (entry-open s c ls lc r h b d e) = omega (arith, entry-below
 
 -- ---- the outcome
 -- the outcome, once the marks are known
-pub outcome-of : (M : Mealy) (w xs : List ℕ) {ms : List ℕ} → marks M w xs ≡ ms → outcome M w xs ≡ answerOf (openOf M xs ms) (count ms)
+pub outcome-of : (M : Mealy) (w xs : List ℕ) {ms : List ℕ} → marks M w xs ≡ ms → outcome M w xs ≡ answerOf (openCause M xs ms) (count ms)
 unfolding outcome cause11
-outcome-of M w xs e = ap (λ (ms : List ℕ). answerOf (openOf M xs ms) (count ms)) e
+outcome-of M w xs e = ap (λ (ms : List ℕ). answerOf (openCause M xs ms) (count ms)) e
 
 pub outcome-clear : (M : Mealy) (w xs : List ℕ) → cause11 M w xs ≡ Clear → outcome M w xs ≡ CertifiedAnswer (count (marks M w xs))
 unfolding outcome

@@ -1,15 +1,14 @@
 -- What the program's own functions need of the shut definitions: the open number by a table of known entries, and the causes in a row.
-use Prim.Native.Nat.{ℕ, _+_, _*_, _≤_, _<_}
+use Prim.Native.Nat.{ℕ, _+_, _*_, _<_}
 use mathlib.Core.Path.{_≡_, sym, ap, _∙_}
 use mathlib.Core.Bool.{Bool, true, false, true≢false, not}
 use mathlib.Core.List.{List, [], _∷_}
 use mathlib.Core.Logic.{⊎-elim}
 use lib.Dec.{eqb}
-use lib.ListN.{length, getD}
-use borrow.Author.Tests.{eq-eqb, ne-eqb, eqb-true, eqb-false}
+use lib.ListN.{getD}
+use borrow.Author.Tests.{ne-eqb, eqb-false}
 use Rattle.sheet.specs.declared.check.Check.{Check}
-use Rattle.sheet.specs.declared.check.Check.the-variants.{Clear, Refused}
-use Rattle.sheet.specs.Check.{refusal_with_if_, _else_, firstCause, first}
+use Rattle.sheet.specs.Check.{refusal_with_if_, _else_, firstCause}
 use Rattle.sheet.specs.Check.Laws.{cause-cons, cause-one, cause-append, first-same, first-rows}
 use Rattle.sheet.specs.Reader.{the, content}
 use Rattle.machine.specs.Machine.{Mealy}
@@ -17,14 +16,14 @@ use Rattle.machine.specs.Causes.{machineIn, loadCauses}
 use Rattle.certify.specs.Marks.{marked}
 use Rattle.certify.specs.Marks.Laws.{true-or-false}
 use Rattle.certify.specs.Closing.{unknownAt, openBy}
-use Rattle.certify.specs.Certification.{certifyNeeds, cause7, cause9, markBytes, certifyCauses, verified, openOf}
+use Rattle.certify.specs.Certification.{certifyNeeds, cause7, cause9, markBytes, certifyCauses, verified, openCause}
 
 -- a table that knows exactly the verified entries gives the open number
 pub open-known : (M : Mealy) (xs ms known : List ℕ)
     → ((s c : ℕ) → s < M .n → c < M .k → (getD known (s * M .k + c) 0 ≡ 0 → ⊥) → verified M xs ms s c ≡ true)
     → ((s c : ℕ) → s < M .n → c < M .k → verified M xs ms s c ≡ true → getD known (s * M .k + c) 0 ≡ 0 → ⊥)
-    → openBy ms known (M .n * M .k) ≡ openOf M xs ms
-unfolding openOf
+    → openBy ms known (M .n * M .k) ≡ openCause M xs ms
+unfolding openCause
 open-known M xs ms known sound all =
     ap (λ (c : Check). (refusal 11 with 0 if not (marked ms 0)) else c)
     (sym (first-rows (M .n) (M .k) (unknownAt known))

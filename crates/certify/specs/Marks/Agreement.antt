@@ -1,8 +1,8 @@
 -- The marks are those of the recognised places, and no other list is: the executable definition and the rules agree at every place.
-use Prim.Native.Nat.{ℕ, zero, suc, _+_, _-_, _≤_, _<_}
-use mathlib.Core.Path.{_≡_, refl, sym, ap, ap₂, _∙_}
-use mathlib.Core.Bool.{Bool, true, false, _&&_, _||_}
-use mathlib.Core.List.{List, [], _∷_}
+use Prim.Native.Nat.{ℕ, zero, suc, _+_, _-_, _≤_}
+use mathlib.Core.Path.{_≡_, refl, sym, ap, _∙_}
+use mathlib.Core.Bool.{Bool, true, false, _||_}
+use mathlib.Core.List.{List}
 use mathlib.Core.Logic.{_⊎_, inl, inr, ⊎-elim}
 use native.Mathlib.Omega.{arith}
 use lib.Dec.{leb, eqb}
@@ -15,8 +15,8 @@ use Rattle.machine.specs.Causes.{same}
 use Rattle.machine.specs.Causes.Separation.{same-refl, same-equal}
 use Rattle.certify.specs.Recognition.{Stands, Closure, rule1, rule2, Recognised}
 use Rattle.certify.specs.Recognition.Laws.{by-rule1, by-rule2, smallest, recognised-inside}
-use Rattle.certify.specs.Marks.{listed, mark, marked, count, stands, shown, grown, settled, closure, marks}
-use Rattle.certify.specs.Marks.Laws.{either-true, or-left, or-right, some-found, some-holds, listed-length, listed-at, listed-few, true-or-false, marked-true, true-marked, mark-true, mark-few, marked-inside, count-most, count-below, count-same}
+use Rattle.certify.specs.Marks.{tabulate, mark, marked, count, stands, shown, grown, settled, closure, marks}
+use Rattle.certify.specs.Marks.Laws.{either-true, or-left, or-right, any-found, any-holds, tabulate-length, tabulate-at, tabulate-bits, true-or-false, marked-true, true-marked, mark-true, mark-bit, marked-inside, count-most, count-below, count-same}
 
 -- ---- rule 1
 pub stands-true : (w xs : List ℕ) (p : ℕ) → stands w xs p ≡ true → Stands w xs p
@@ -54,8 +54,8 @@ module _ (xs : List ℕ) (state : ℕ → ℕ) (ms : List ℕ) where
   shown-true : (r : ℕ) → shown xs state ms r ≡ true → Shown r
   unfolding shown
   shown-true r e =
-      let a = some-found _ _ e in
-      let b = some-found _ _ (a .2) in
+      let a = any-found _ _ e in
+      let b = any-found _ _ (a .2) in
       let l : 1 ≤ r - b .0 = omega (arith, b .1) in
       let at-r : r ≡ b .0 + (r - b .0) = omega (arith, b .1) in
       let m1 = both-true _ _ (b .2) in
@@ -80,20 +80,20 @@ module _ (xs : List ℕ) (state : ℕ → ℕ) (ms : List ℕ) where
   true-shown r long h =
       let e : r - h .q ≡ h .m = omega arith in
       let inside = marked-inside ms (h .p + h .m) (h .end-marked) in
-      some-holds _ _ (h .p) (omega (arith, inside)) (some-holds _ _ (h .q) (omega arith) (rw e
+      any-holds _ _ (h .p) (omega (arith, inside)) (any-holds _ _ (h .q) (omega arith) (rw e
       (rw (true-marked ms (h .p) (h .p-marked), true-marked ms (h .q) (h .q-marked), eq-eqb _ _ (h .states), true-marked ms (h .p + h .m) (h .end-marked), h .commands) (same-refl (take (h .m) (drop (h .q) xs))))))
 
   grown-length : length (grown xs state ms) ≡ length xs + 1
   unfolding grown
-  grown-length = listed-length _ _
+  grown-length = tabulate-length _ _
 
-  grown-few : (r : ℕ) → getD (grown xs state ms) r 0 ≤ 1
+  grown-bits : (r : ℕ) → getD (grown xs state ms) r 0 ≤ 1
   unfolding grown
-  grown-few r = listed-few _ _ (λ i. mark-few (marked ms i || shown xs state ms i)) r
+  grown-bits r = tabulate-bits _ _ (λ i. mark-bit (marked ms i || shown xs state ms i)) r
 
   grown-at : (r : ℕ) → r ≤ length xs → getD (grown xs state ms) r 0 ≡ mark (marked ms r || shown xs state ms r)
   unfolding grown
-  grown-at r l = listed-at _ _ r (omega arith)
+  grown-at r l = tabulate-at _ _ r (omega arith)
 
   grown-keeps : (p : ℕ) → p ≤ length xs → getD ms p 0 ≡ 1 → getD (grown xs state ms) p 0 ≡ 1
   grown-keeps p l e = grown-at p l ∙ ap mark (or-left _ (true-marked ms p e))
@@ -156,7 +156,7 @@ module _ (xs : List ℕ) (state : ℕ → ℕ) where
 -- one mark for each place, 0 or 1, and 1 exactly in the smallest set
 pub record Exact (xs : List ℕ) (state : ℕ → ℕ) (Base : ℕ → Type 0) (ms : List ℕ) : Type 0 where
   pub long : length ms ≡ length xs + 1
-  pub few : (p : ℕ) → getD ms p 0 ≤ 1
+  pub bits : (p : ℕ) → getD ms p 0 ≤ 1
   pub sound : (p : ℕ) → getD ms p 0 ≡ 1 → Closure xs state Base p
   pub complete : (p : ℕ) → p ≤ length xs → Closure xs state Base p → getD ms p 0 ≡ 1
 
@@ -188,8 +188,8 @@ module _ (xs : List ℕ) (state : ℕ → ℕ) (Base : ℕ → Type 0) where
       })
 
   -- there is one such list
-  pub exact-one : (a b : List ℕ) → Exact xs state Base a → Exact xs state Base b → a ≡ b
-  exact-one a b ha hb = ext-getD 0 a b (ha .long ∙ sym (hb .long)) (λ p l. each p (omega (arith, ha .long)))
+  pub exact-unique : (a b : List ℕ) → Exact xs state Base a → Exact xs state Base b → a ≡ b
+  exact-unique a b ha hb = ext-getD 0 a b (ha .long ∙ sym (hb .long)) (λ p l. each p (omega (arith, ha .long)))
     where
       each : (p : ℕ) → p ≤ length xs → getD a p 0 ≡ getD b p 0
       each p l =
@@ -201,7 +201,7 @@ module _ (xs : List ℕ) (state : ℕ → ℕ) (Base : ℕ → Type 0) where
           (λ (d : eqb (getD b p 0) 1 ≡ false).
           let u = eqb-false (getD a p 0) 1 e in
           let v = eqb-false (getD b p 0) 1 d in
-          omega (arith, ha .few p, hb .few p))
+          omega (arith, ha .bits p, hb .bits p))
           (true-or-false (eqb (getD b p 0) 1)))
           (true-or-false (eqb (getD a p 0) 1))
 
@@ -220,7 +220,7 @@ module _ (xs : List ℕ) (state : ℕ → ℕ) (Base : ℕ → Type 0) where
     grows : (ms : List ℕ) → Growing ms → Growing (grown xs state ms)
     grows ms h = record {
       long = grown-length xs state ms;
-      few = grown-few xs state ms;
+      few = grown-bits xs state ms;
       sound = λ p e.
           ⊎-elim (h .sound p)
           (shown-sound ms p (omega (arith, marked-inside (grown xs state ms) p e, grown-length xs state ms)) (h .sound))
@@ -228,25 +228,25 @@ module _ (xs : List ℕ) (state : ℕ → ℕ) (Base : ℕ → Type 0) where
       holds = λ p l b. grown-keeps xs state ms p l (h .holds p l b);
     }
 
-    begun : Growing (listed (length xs + 1) (λ p. mark (base p)))
+    begun : Growing (tabulate (length xs + 1) (λ p. mark (base p)))
     begun = record {
-      long = listed-length _ _;
-      few = listed-few _ _ (λ i. mark-few (base i));
+      long = tabulate-length _ _;
+      few = tabulate-bits _ _ (λ i. mark-bit (base i));
       sound = λ p e.
-          let l = marked-inside (listed (length xs + 1) (λ i. mark (base i))) p e in
-          rule1 (from p (mark-true (base p) (sym (listed-at (length xs + 1) (λ i. mark (base i)) p (omega (arith, listed-length (length xs + 1) (λ i. mark (base i))))) ∙ e)));
-      holds = λ p l b. listed-at (length xs + 1) (λ i. mark (base i)) p (omega arith) ∙ ap mark (to p b);
+          let l = marked-inside (tabulate (length xs + 1) (λ i. mark (base i))) p e in
+          rule1 (from p (mark-true (base p) (sym (tabulate-at (length xs + 1) (λ i. mark (base i)) p (omega (arith, tabulate-length (length xs + 1) (λ i. mark (base i))))) ∙ e)));
+      holds = λ p l b. tabulate-at (length xs + 1) (λ i. mark (base i)) p (omega arith) ∙ ap mark (to p b);
     }
 
     pub closure-exact : Exact xs state Base (closure xs state base)
     unfolding closure Stable
     closure-exact =
-        let start = listed (length xs + 1) (λ i. mark (base i)) in
+        let start = tabulate (length xs + 1) (λ i. mark (base i)) in
         let h = settled-has xs state Growing grows (length xs + 1) start begun in
         let still = settled-stable xs state (length xs + 1) start (begun .long) (omega arith) in
         record {
           long = h .long;
-          few = h .few;
+          bits = h .few;
           sound = h .sound;
           complete = closed-complete _ (h .long) (h .holds) (λ r l s. still r (grown-adds xs state _ r l (h .long) s));
         }
@@ -258,7 +258,7 @@ module _ (M : Mealy) (w xs : List ℕ) where
   marks-exact = closure-exact xs (stateAt M xs) (Stands w xs) (stands w xs) (stands-true w xs) (true-stands w xs)
 
   pub marks-unique : (ms : List ℕ) → Exact xs (stateAt M xs) (Stands w xs) ms → ms ≡ marks M w xs
-  marks-unique ms h = exact-one xs (stateAt M xs) (Stands w xs) ms (marks M w xs) h marks-exact
+  marks-unique ms h = exact-unique xs (stateAt M xs) (Stands w xs) ms (marks M w xs) h marks-exact
 
   pub marks-length : length (marks M w xs) ≡ length xs + 1
   marks-length = marks-exact .long
@@ -280,5 +280,5 @@ module _ (M : Mealy) (w xs : List ℕ) where
   pub recognised-marked : (p : ℕ) → Recognised M w xs p → getD (marks M w xs) p 0 ≡ 1
   recognised-marked p h = marks-exact .complete p (recognised-inside M w xs p h) (from-recognised p h)
 
-  pub marks-few : (p : ℕ) → getD (marks M w xs) p 0 ≤ 1
-  marks-few = marks-exact .few
+  pub marks-bits : (p : ℕ) → getD (marks M w xs) p 0 ≤ 1
+  marks-bits = marks-exact .bits

@@ -1,22 +1,17 @@
 -- The laws of lists of marks: tests over a range, lists by their elements, and the number of marks.
 use Prim.Native.Nat.{ℕ, zero, suc, _+_, _-_, _≤_, _<_}
-use mathlib.Core.Path.{_≡_, refl, sym, ap, ap₂, _∙_}
-use mathlib.Core.Bool.{Bool, true, false, _&&_, _||_}
+use mathlib.Core.Path.{_≡_, refl, ap, _∙_}
+use mathlib.Core.Bool.{Bool, true, false, _||_}
 use mathlib.Core.List.{List, [], _∷_, _++_}
 use mathlib.Core.Logic.{_⊎_, inl, inr, ⊎-elim}
 use native.Mathlib.Omega.{arith}
 use native.Mathlib.Nat.{le-of-suc-le-suc, eq-or-lt-of-le, not-suc-le-zero}
-use lib.Dec.{leb, eqb}
-use lib.ListN.{length, getD, take, drop, List·getD-eq-default, length-take, length-drop}
+use lib.Dec.{eqb}
+use lib.ListN.{length, getD, take}
 use native.Mathlib.Numerals.{add-one}
 use lib.Seq.{take-suc}
-use borrow.Author.Tests.{le-leb, leb-true, eq-eqb, eqb-true, eqb-false}
-use Rattle.sheet.specs.Check.Laws.{both-true}
-use Rattle.machine.specs.Machine.{Mealy, stateAt}
-use Rattle.machine.specs.Causes.{same}
-use Rattle.machine.specs.Causes.Separation.{same-refl, same-equal}
-use Rattle.certify.specs.Recognition.{Stands, Closure, rule1, rule2, Recognised}
-use Rattle.certify.specs.Marks.{some, listed, mark, marked, count, stands, shown, grown, settled, closure, marks}
+use borrow.Author.Tests.{eq-eqb, eqb-true}
+use Rattle.certify.specs.Marks.{any, tabulate, mark, marked, count}
 
 -- ---- tests
 pub either-true : (a b : Bool) → (a || b) ≡ true → (a ≡ true) ⊎ (b ≡ true)
@@ -34,39 +29,39 @@ pub or-right : (a : Bool) {b : Bool} → b ≡ true → (a || b) ≡ true
 or-right true e = refl
 or-right false e = e
 
-pub some-found : (n : ℕ) (f : ℕ → Bool) → some n f ≡ true → (i : ℕ) × (i < n) × (f i ≡ true)
-unfolding some
-some-found zero f e = let z : _≡_ {A = ℕ} 0 1 = cc in absurd (omega arith)
-some-found (suc n) f e =
-    ⊎-elim (λ (h : some n f ≡ true). let r = some-found n f h in (r .0, omega (arith, r .1), r .2))
+pub any-found : (n : ℕ) (f : ℕ → Bool) → any n f ≡ true → (i : ℕ) × (i < n) × (f i ≡ true)
+unfolding any
+any-found zero f e = let z : _≡_ {A = ℕ} 0 1 = cc in absurd (omega arith)
+any-found (suc n) f e =
+    ⊎-elim (λ (h : any n f ≡ true). let r = any-found n f h in (r .0, omega (arith, r .1), r .2))
     (λ (h : f n ≡ true). (n, omega arith, h))
-    (either-true (some n f) (f n) e)
+    (either-true (any n f) (f n) e)
 
-pub some-holds : (n : ℕ) (f : ℕ → Bool) (i : ℕ) → i < n → f i ≡ true → some n f ≡ true
-unfolding some
-some-holds zero f i l e = absurd (not-suc-le-zero l)
-some-holds (suc n) f i l e =
-    ⊎-elim (λ (q : i ≡ n). or-right (some n f) (rw (← q) e))
-    (λ (q : i < n). or-left (f n) (some-holds n f i q e))
+pub any-holds : (n : ℕ) (f : ℕ → Bool) (i : ℕ) → i < n → f i ≡ true → any n f ≡ true
+unfolding any
+any-holds zero f i l e = absurd (not-suc-le-zero l)
+any-holds (suc n) f i l e =
+    ⊎-elim (λ (q : i ≡ n). or-right (any n f) (rw (← q) e))
+    (λ (q : i < n). or-left (f n) (any-holds n f i q e))
     (eq-or-lt-of-le (le-of-suc-le-suc l))
 
 -- ---- lists by their elements
-pub listed-length : (n : ℕ) (f : ℕ → ℕ) → length (listed n f) ≡ n
-unfolding listed
-listed-length zero f = refl
-listed-length (suc n) f = ap suc (listed-length n (λ i. f (suc i)))
+pub tabulate-length : (n : ℕ) (f : ℕ → ℕ) → length (tabulate n f) ≡ n
+unfolding tabulate
+tabulate-length zero f = refl
+tabulate-length (suc n) f = ap suc (tabulate-length n (λ i. f (suc i)))
 
-pub listed-at : (n : ℕ) (f : ℕ → ℕ) (i : ℕ) → i < n → getD (listed n f) i 0 ≡ f i
-unfolding listed
-listed-at zero f i l = absurd (not-suc-le-zero l)
-listed-at (suc n) f zero l = refl
-listed-at (suc n) f (suc i) l = listed-at n (λ j. f (suc j)) i (le-of-suc-le-suc l)
+pub tabulate-at : (n : ℕ) (f : ℕ → ℕ) (i : ℕ) → i < n → getD (tabulate n f) i 0 ≡ f i
+unfolding tabulate
+tabulate-at zero f i l = absurd (not-suc-le-zero l)
+tabulate-at (suc n) f zero l = refl
+tabulate-at (suc n) f (suc i) l = tabulate-at n (λ j. f (suc j)) i (le-of-suc-le-suc l)
 
-pub listed-few : (n : ℕ) (f : ℕ → ℕ) → ((i : ℕ) → f i ≤ 1) → (i : ℕ) → getD (listed n f) i 0 ≤ 1
-unfolding listed
-listed-few zero f h i = omega arith
-listed-few (suc n) f h zero = h 0
-listed-few (suc n) f h (suc i) = listed-few n (λ j. f (suc j)) (λ j. h (suc j)) i
+pub tabulate-bits : (n : ℕ) (f : ℕ → ℕ) → ((i : ℕ) → f i ≤ 1) → (i : ℕ) → getD (tabulate n f) i 0 ≤ 1
+unfolding tabulate
+tabulate-bits zero f h i = omega arith
+tabulate-bits (suc n) f h zero = h 0
+tabulate-bits (suc n) f h (suc i) = tabulate-bits n (λ j. f (suc j)) (λ j. h (suc j)) i
 
 -- ---- marks
 pub marked-true : (ms : List ℕ) (p : ℕ) → marked ms p ≡ true → getD ms p 0 ≡ 1
@@ -79,9 +74,9 @@ pub mark-true : (b : Bool) → mark b ≡ 1 → b ≡ true
 mark-true true e = refl
 mark-true false e = let z : _≡_ {A = ℕ} 0 1 = e in absurd (omega arith)
 
-pub mark-few : (b : Bool) → mark b ≤ 1
-mark-few true = omega arith
-mark-few false = omega arith
+pub mark-bit : (b : Bool) → mark b ≤ 1
+mark-bit true = omega arith
+mark-bit false = omega arith
 
 -- a place that is marked is among the places
 pub marked-inside : (ms : List ℕ) (p : ℕ) → getD ms p 0 ≡ 1 → p < length ms
@@ -93,7 +88,7 @@ marked-inside (m ∷ ms) (suc p) e = let h = marked-inside ms p e in omega arith
 pub count-most : (a : List ℕ) → count a ≤ length a
 unfolding count
 count-most [] = omega arith
-count-most (m ∷ a) = omega (arith, mark-few (eqb m 1), count-most a)
+count-most (m ∷ a) = omega (arith, mark-bit (eqb m 1), count-most a)
 
 count-append : (a b : List ℕ) → count (a ++ b) ≡ count a + count b
 unfolding count
