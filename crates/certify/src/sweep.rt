@@ -60,24 +60,24 @@ fn meet(
     }
 }
 
-// Learns the entry e of place t where t and the next place are marked; marks the next place where
-// t is marked and e is known and to be applied.
+// Learns the entry e of place i where i and the next place are marked; marks the next place where
+// i is marked and e is known and to be applied.
 fn learn(
     marks: &mut [u8],
     known: &mut [u8; Machine::ENTRIES],
     e: usize,
-    t: usize,
+    i: usize,
     apply: bool,
     changed: bool,
 ) -> bool
-    requires { ⌜ t + 1 < length (now marks) ⌝ }
+    requires { ⌜ i + 1 < length (now marks) ⌝ }
     requires { ⌜ e < mostEntries ⌝ }
-    ensures { λ r. ⌜ Learnt apply (now (marks .entry)) (now (known .entry)) e t changed (now (marks .exit)) (now (known .exit)) r ⌝ }
+    ensures { λ r. ⌜ Learnt apply (now (marks .entry)) (now (known .entry)) e i changed (now (marks .exit)) (now (known .exit)) r ⌝ }
 {
-    if marks[t] == 0 {
+    if marks[i] == 0 {
         return changed;
     }
-    let next = t + 1;
+    let next = i + 1;
     if marks[next] != 0 {
         if known[e] != 0 {
             return changed;
@@ -116,9 +116,9 @@ fn onward(
     if marks[t] == 0 {
         return advance(xs, alt, cur, t);
     }
-    let next = t + 1;
-    if marks[next] != 0 {
-        return next;
+    let after = t + 1;
+    if marks[after] != 0 {
+        return after;
     }
     let r = represent(root, s, t);
     advance(xs, alt, r, t)

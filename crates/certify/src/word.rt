@@ -20,7 +20,7 @@ fn stands(w: &[u8], xs: &[u8], p: usize) -> bool
     ensures { λ r. ⌜ r ≡ standsOf (now (w .entry)) (now (xs .entry)) p ⌝ }
 {
     if xs.len() - p < w.len() {
-        return false;
+        return false; // the sequence ends inside the word
     }
     let mut i = 0;
     while i < w.len() {

@@ -16,8 +16,8 @@ advance-requires c κs = search needs
 returns : tie.Need-returns
 returns c = Onward.unmarked (c .before .before .if1 .taken) refl (c .advance .ensures)
 
-add-next : tie.Need-add-next
-add-next c = search needs
+add-after : tie.Need-add-after
+add-after c = search needs
 
 shared-slice-read-if2 : tie.Need-shared-slice-read-if2
 shared-slice-read-if2 c = search needs
@@ -41,7 +41,7 @@ onward-spec =
     shared-slice-read-if1
     advance-requires
     returns
-    add-next
+    add-after
     shared-slice-read-if2
     returns-2
     represent-requires
