@@ -16,10 +16,10 @@ use Rattle.certify.specs.Recognition.{rule1}
 use Rattle.certify.specs.Marks.Laws.{true-or-false, marked-inside}
 use Rattle.certify.specs.Marks.Agreement.{Shown}
 use Rattle.certify.specs.Folding.{same}
-use Rattle.certify.specs.Sweep.{entryAt, Met, Sweepable, Swept}
+use Rattle.certify.specs.Sweep.{entryAt, Merged, Sweepable, Swept}
 use Rattle.certify.proofs.Marking.{bit-one}
 use Rattle.certify.proofs.Represented.{begin, Walked, folded-closed}
-use Rattle.certify.proofs.Turn.{met-still, met-learning, Still, Head, walked-here}
+use Rattle.certify.proofs.Turn.{merged-still, merged-learning, Still, Head, walked-here}
 
 -- a table of n zeros
 pub record Fresh (n : ℕ) (l : List ℕ) : Type 0 where
@@ -72,17 +72,17 @@ module _ (M : Mealy) (apply : Bool) (xs given known₀ : List ℕ) (h : Sweepabl
   -- after the last place
   module _ {ms known alt root ms′ : List ℕ} {cur t s : ℕ} {changed changed′ : Bool}
       (g : Head M xs given (h .few) (h .commands .low) known₀ (h .low) apply ms known alt root cur t s changed) (end : length xs ≤ t)
-      (met : Met M xs ms cur t changed ms′ changed′) where
+      (merged : Merged M xs ms cur t changed ms′ changed′) where
     final : t ≡ length xs
     final = omega (arith, g .place)
 
     module _ (f : changed′ ≡ false) where
       k : Still M xs given (h .few) (h .commands .low) known₀ (h .low) apply ms known alt root cur t
-      k = g .still (met-still met f .0)
+      k = g .still (merged-still merged f .0)
 
       walked : (i : ℕ) → i < length xs → (getD given i 0 ≡ 1 → getD given (i + 1) 0 ≡ 1 → ⊥) → Walked xs (stateAt M xs) given alt root i
       walked i l n =
-          let m : getD given cur 0 ≡ getD given t 0 = rw (k .same-marks) at (met-still met f .2) in
+          let m : getD given cur 0 ≡ getD given t 0 = rw (k .same-marks) at (merged-still merged f .2) in
           walked-here M xs given (h .few) (h .commands .low) known₀ (h .low) apply k m i (omega arith) n
 
       follows : (a b : ℕ) → a < length xs → b < length xs → stateAt M xs a ≡ stateAt M xs b → getD xs a 0 ≡ getD xs b 0 → stateAt M xs (a + 1) ≡ stateAt M xs (b + 1)
@@ -107,7 +107,7 @@ module _ (M : Mealy) (apply : Bool) (xs given known₀ : List ℕ) (h : Sweepabl
 
     pub sweeps : Swept M xs given known₀ ms′ known changed′
     sweeps =
-        let l = met-learning M xs given (h .few) (h .commands .low) known₀ (h .low) (g .learning) met in
+        let l = merged-learning M xs given (h .few) (h .commands .low) known₀ (h .low) (g .learning) merged in
         record {
           marking = l .marking;
           table = l .table;
@@ -115,7 +115,7 @@ module _ (M : Mealy) (apply : Bool) (xs given known₀ : List ℕ) (h : Sweepabl
           low = l .low-known;
           keeps = l .keeps;
           rises = l .risen;
-          stays = λ f. (met-still met f .1 ∙ k f .same-marks, k f .same-known);
+          stays = λ f. (merged-still merged f .1 ∙ k f .same-marks, k f .same-known);
           closed = closed;
           all = λ f i il a b z. k f .learnt i (omega (arith, final)) a b (rw (k f .same-known) at z);
         }

@@ -6,7 +6,7 @@ mod Following
 mod Growing
 mod Loop
 mod Marking
-mod Meeting
+mod Merging
 mod Paired
 mod Represented
 mod Settling

@@ -11,12 +11,12 @@ use Rattle.machine.specs.Machine.{Mealy, tabled}
 use Rattle.machine.specs.Machine.Laws.{tabled-commands, tabled-next, state-next, state-stays}
 use Rattle.machine.specs.Causes.Laws.{entry-below}
 use Rattle.certify.specs.Folding.{Follows, Rising}
-use Rattle.certify.specs.Sweep.{entryAt, Meeting, Met, Learnt, Onward, Sweepable, Swept}
+use Rattle.certify.specs.Sweep.{entryAt, Mergeable, Merged, Learnt, Onward, Sweepable, Swept}
 use Rattle.certify.proofs.Ends.{Fresh, begins, sweeps}
 use Rattle.certify.proofs.Entries.{learning}
 use Rattle.certify.proofs.Growing.{paired-more, folds-more}
 use Rattle.certify.proofs.Tables.{folding, rising}
-use Rattle.certify.proofs.Turn.{met-learning, Head, turn}
+use Rattle.certify.proofs.Turn.{merged-learning, Head, turn}
 
 -- the program's table of next states
 pub follows-tabled : (n k start : ℕ) (next answer : List ℕ) → Follows (tabled n k start next answer) k next
@@ -42,8 +42,8 @@ module _ (M : Mealy) (apply : Bool) (xs given known₀ : List ℕ) where
     pub running-rising : Rising xs alt
     running-rising = rising M xs given (h .head .place) (h .head .linked)
 
-    pub running-meeting : {k : ℕ} {next : List ℕ} → Follows M k next → Meeting M xs ms next alt root k s cur t
-    running-meeting f =
+    pub running-mergeable : {k : ℕ} {next : List ℕ} → Follows M k next → Mergeable M xs ms next alt root k s cur t
+    running-mergeable f =
         let above = h .head .learning .marking .above in
         record {
           follows = f;
@@ -56,8 +56,8 @@ module _ (M : Mealy) (apply : Bool) (xs given known₀ : List ℕ) where
     pub running-roots : (x r : ℕ) → getD root x 0 ≡ r + 1 → r < length xs
     running-roots x r e = omega (arith, h .head .topped .tops x r e .0, h .head .place)
 
-    pub running-ends : {ms′ : List ℕ} {changed′ : Bool} → length xs ≤ t → Met M xs ms cur t changed ms′ changed′ → Swept M xs given known₀ ms′ known changed′
-    running-ends l met = sweeps M apply xs given known₀ (h .asked) (h .head) l met
+    pub running-ends : {ms′ : List ℕ} {changed′ : Bool} → length xs ≤ t → Merged M xs ms cur t changed ms′ changed′ → Swept M xs given known₀ ms′ known changed′
+    running-ends l merged = sweeps M apply xs given known₀ (h .asked) (h .head) l merged
 
     module _ (tl : t < length xs) where
       -- the state of a place is one of the machine's, and its entry one of the table's
@@ -73,15 +73,15 @@ module _ (M : Mealy) (apply : Bool) (xs given known₀ : List ℕ) where
       entry-here : {k e : ℕ} → M .k ≡ k → e ≡ s * k + getD xs t 0 → entryAt M xs t ≡ e
       entry-here ke ee = rw (← h .head .state, ke) (sym ee)
 
-      pub met-long : {ms₁ : List ℕ} {changed₁ : Bool} → Met M xs ms cur t changed ms₁ changed₁ → length ms₁ ≡ length xs + 1
-      met-long met = met-learning M xs given (h .asked .few) (h .asked .commands .low) known₀ (h .asked .low) (h .head .learning) met .marking .long
+      pub merged-long : {ms₁ : List ℕ} {changed₁ : Bool} → Merged M xs ms cur t changed ms₁ changed₁ → length ms₁ ≡ length xs + 1
+      merged-long merged = merged-learning M xs given (h .asked .few) (h .asked .commands .low) known₀ (h .asked .low) (h .head .learning) merged .marking .long
 
       module _ {k e : ℕ} {next : List ℕ} (f : Follows M k next) (ee : e ≡ s * k + getD xs t 0) {ms₁ ms₂ known₂ : List ℕ} {changed₁ changed₂ : Bool}
-          (met : Met M xs ms cur t changed ms₁ changed₁) (learnt : Learnt apply ms₁ known e t changed₁ ms₂ known₂ changed₂) where
+          (merged : Merged M xs ms cur t changed ms₁ changed₁) (learnt : Learnt apply ms₁ known e t changed₁ ms₂ known₂ changed₂) where
         pub learnt-long : length ms₂ ≡ length xs + 1
         learnt-long =
             learning M xs given (h .asked .few) (h .asked .commands .low) known₀ (h .asked .low) tl (running-entry (f .commands) ee) (entry-here (f .commands) ee)
-            (met-learning M xs given (h .asked .few) (h .asked .commands .low) known₀ (h .asked .low) (h .head .learning) met) learnt .marking .long
+            (merged-learning M xs given (h .asked .few) (h .asked .commands .low) known₀ (h .asked .low) (h .head .learning) merged) learnt .marking .long
 
         pub turns : {alt′ root′ : List ℕ} {cur′ s′ : ℕ} → Onward xs ms₂ alt root s t cur alt′ root′ cur′ → s′ ≡ getD next e 0
             → Running ms₂ known₂ alt′ root′ cur′ (t + 1) s′ changed₂
@@ -91,5 +91,5 @@ module _ (M : Mealy) (apply : Bool) (xs given known₀ : List ℕ) where
             record {
               asked = h .asked;
               head = turn M xs given (h .asked .few) (h .asked .commands .low) known₀ (h .asked .low) apply (h .head) tl (h .asked .commands .few) low
-                  (entry-here (f .commands) ee) met learnt on (running-entry (f .commands) ee) there;
+                  (entry-here (f .commands) ee) merged learnt on (running-entry (f .commands) ee) there;
             }

@@ -108,8 +108,8 @@ module _ (xs : List ℕ) (st : ℕ → ℕ) (ms alt root : List ℕ) where
 
     module _ (a b : ℕ) (al : a < length xs) (bl : b < length xs) (c : getD xs a 0 ≡ getD xs b 0) (h : Alike a b) where
       -- both walked from one representative
-      met-alike : (p : Walked a) (q : Walked b) → p .r ≡ q .r → Alike (a + 1) (b + 1)
-      met-alike p q e =
+      walked-alike : (p : Walked a) (q : Walked b) → p .r ≡ q .r → Alike (a + 1) (b + 1)
+      walked-alike p q e =
           let v = walked-one p q e c in
           let m : getD ms (a + 1) 0 ≡ getD ms (b + 1) 0 = sym (p .agrees) ∙ ap (λ (x : ℕ). getD ms (x + 1) 0) v ∙ q .agrees in
           record {
@@ -139,7 +139,7 @@ module _ (xs : List ℕ) (st : ℕ → ℕ) (ms alt root : List ℕ) where
           let p = walked a al (λ x y. na y) in
           let q = walked b bl (λ x y. na (single b a bl al mb ma (sym (h .states)) (sym c) y)) in
           let e : getD root (st b) 0 ≡ p .r + 1 = rw (← h .states) (rep-top (p .rep) ma) in
-          met-alike p q (omega (arith, rep-top (q .rep) mb)))
+          walked-alike p q (omega (arith, rep-top (q .rep) mb)))
           (eq-or-lt-of-le (few (a + 1)))
 
       unmarked-on : getD ms a 0 ≡ 0 → Alike (a + 1) (b + 1)
@@ -147,7 +147,7 @@ module _ (xs : List ℕ) (st : ℕ → ℕ) (ms alt root : List ℕ) where
           let one = h .rep z in
           let p = walked a al (λ x y. omega arith) in
           let q = walked b bl (λ x y. omega (arith, h .marks)) in
-          met-alike p q (rep-one (p .rep) (one .1) ∙ rep-one (one .2) (q .rep))
+          walked-alike p q (rep-one (p .rep) (one .1) ∙ rep-one (one .2) (q .rep))
 
       alike-on : Alike (a + 1) (b + 1)
       alike-on = ⊎-elim (λ (e : getD ms a 0 ≡ 1). marked-on e) (λ (l : getD ms a 0 < 1). unmarked-on (omega arith)) (eq-or-lt-of-le (few a))

@@ -11,7 +11,7 @@ use lib.Seq.{getD-set-same}
 use Rattle.machine.specs.Limits.{mostEntries, mostSequence}
 use Rattle.machine.specs.Machine.{Mealy, stateAt}
 use Rattle.certify.specs.Folding.{Paired, Past}
-use Rattle.certify.specs.Sweep.{entryAt, Met, Learnt, Rooted, Advanced, found, added, Onward}
+use Rattle.certify.specs.Sweep.{entryAt, Merged, Learnt, Rooted, Advanced, found, added, Onward}
 use Rattle.certify.proofs.Alternatives.{past-on}
 use Rattle.certify.proofs.Entries.{Learning, learning, learnt-still}
 use Rattle.certify.proofs.Growing.{marking-flat}
@@ -19,18 +19,18 @@ use Rattle.certify.proofs.Marking.{bit-one, was-zero}
 use Rattle.certify.proofs.Represented.{Rep, top, Comes, from, between, comes-rep, Walked, comes-walked, past-grows, rep-grows, walked-grows}
 use Rattle.certify.proofs.Tables.{roots-grow, links-grow, below, Linked, past-low, Topped, gone}
 
--- nothing changed where cur and t met: their marks are equal
-pub met-still : {M : Mealy} {xs ms ms′ : List ℕ} {cur t : ℕ} {changed changed′ : Bool} → Met M xs ms cur t changed ms′ changed′ → changed′ ≡ false
+-- nothing changed where cur and t merged: their marks are equal
+pub merged-still : {M : Mealy} {xs ms ms′ : List ℕ} {cur t : ℕ} {changed changed′ : Bool} → Merged M xs ms cur t changed ms′ changed′ → changed′ ≡ false
     → (changed ≡ false) × (ms′ ≡ ms) × (getD ms cur 0 ≡ getD ms t 0)
-met-still (Met.equal e me ce) f = (sym ce ∙ f, me, e)
-met-still (Met.differ g r ce) f = absurd (true≢false (sym ce ∙ f))
+merged-still (Merged.equal e me ce) f = (sym ce ∙ f, me, e)
+merged-still (Merged.differ g r ce) f = absurd (true≢false (sym ce ∙ f))
 
 module _ (M : Mealy) (xs given : List ℕ) (few : (p : ℕ) → getD given p 0 ≤ 1) (low : (i : ℕ) → i < length xs → getD xs i 0 < M .k)
     (known₀ : List ℕ) (few₀ : (e : ℕ) → getD known₀ e 0 ≤ 1) where
-  pub met-learning : {ms ms′ known : List ℕ} {cur t : ℕ} {changed changed′ : Bool} → Learning M xs given few low known₀ few₀ ms known changed
-      → Met M xs ms cur t changed ms′ changed′ → Learning M xs given few low known₀ few₀ ms′ known changed′
-  met-learning h (Met.equal e me ce) = rw (me, ce) h
-  met-learning {ms} {ms′} {known} h (Met.differ g r ce) = record {
+  pub merged-learning : {ms ms′ known : List ℕ} {cur t : ℕ} {changed changed′ : Bool} → Learning M xs given few low known₀ few₀ ms known changed
+      → Merged M xs ms cur t changed ms′ changed′ → Learning M xs given few low known₀ few₀ ms′ known changed′
+  merged-learning h (Merged.equal e me ce) = rw (me, ce) h
+  merged-learning {ms} {ms′} {known} h (Merged.differ g r ce) = record {
     marking = marking-flat M xs given ms (h .marking) g;
     table = h .table;
     knows = h .knows;
@@ -119,12 +119,12 @@ module _ (M : Mealy) (xs given : List ℕ) (few : (p : ℕ) → getD given p 0 �
 
     module _ {ms known alt root ms₁ ms₂ known₂ alt′ root′ : List ℕ} {cur t s e cur′ : ℕ} {changed changed₁ changed₂ : Bool}
         (h : Head ms known alt root cur t s changed) (tl : t < length xs) (l : length xs ≤ mostSequence) (sl : s < 256)
-        (at : entryAt M xs t ≡ e) (met : Met M xs ms cur t changed ms₁ changed₁)
+        (at : entryAt M xs t ≡ e) (merged : Merged M xs ms cur t changed ms₁ changed₁)
         (learn : Learnt apply ms₁ known e t changed₁ ms₂ known₂ changed₂) (on : Onward xs ms₂ alt root s t cur alt′ root′ cur′) where
       turn-still : changed₂ ≡ false → Still ms₂ known₂ alt′ root′ cur′ (t + 1)
       turn-still f =
           let u = learnt-still learn f in
-          let m = met-still met (u .before) in
+          let m = merged-still merged (u .before) in
           let g = h .still (m .0) in
           let all : ms₂ ≡ given = u .same-marks ∙ m .1 ∙ g .same-marks in
           let one : ms₁ ≡ given = m .1 ∙ g .same-marks in
@@ -146,7 +146,7 @@ module _ (M : Mealy) (xs given : List ℕ) (few : (p : ℕ) → getD given p 0 �
 
       pub turn : (el : e < mostEntries) {s′ : ℕ} → s′ ≡ stateAt M xs (t + 1) → Head ms₂ known₂ alt′ root′ cur′ (t + 1) s′ changed₂
       turn el se =
-          let g = learning M xs given few low known₀ few₀ tl el at (met-learning (h .learning) met) learn in
+          let g = learning M xs given few low known₀ few₀ tl el at (merged-learning (h .learning) merged) learn in
           let q = gone M xs given tl l (g .marking) (h .linked) (h .topped) sl (h .state) (h .low-cur) (h .pair) on in
           record {
             place = omega arith;

@@ -62,7 +62,7 @@ pub record Follows (M : Mealy) (k : ℕ) (next : List ℕ) : Type 0 where
 
 -- ---- following the commands of a place
 -- what is asked: tables that fold places, and a marked place p of state s
-pub record Chased (M : Mealy) (xs ms next alt root : List ℕ) (k p s : ℕ) : Type 0 where
+pub record Propagable (M : Mealy) (xs ms next alt root : List ℕ) (k p s : ℕ) : Type 0 where
   pub follows : Follows M k next
   pub folds : Folds M xs ms alt root
   pub few : (q : ℕ) → getD ms q 0 ≤ 1

@@ -2,6 +2,6 @@ pub mod Recognition
 pub mod Marks
 pub mod Certification
 pub mod Folding
-pub mod Chase
+pub mod Propagation
 pub mod Sweep
 pub mod Closing

@@ -13,7 +13,7 @@ use Rattle.certify.specs.Folding.{From, Marking, Risen, Paired, Folds, F
 
 -- ---- the steps at a place t
 -- what is asked where the sweep comes to t from cur: both are paired, and the tables fold places
-pub record Meeting (M : Mealy) (xs ms next alt root : List ℕ) (k s cur t : ℕ) : Type 0 where
+pub record Mergeable (M : Mealy) (xs ms next alt root : List ℕ) (k s cur t : ℕ) : Type 0 where
   pub follows : Follows M k next
   pub folds : Folds M xs ms alt root
   pub few : (q : ℕ) → getD ms q 0 ≤ 1
@@ -21,9 +21,9 @@ pub record Meeting (M : Mealy) (xs ms next alt root : List ℕ) (k s cur t : ℕ
   pub state : s ≡ stateAt M xs t
 
 -- the marks of cur and t are equal, or else they and what follows from them are marked
-pub data Met (M : Mealy) (xs ms : List ℕ) (cur t : ℕ) (changed : Bool) (ms′ : List ℕ) (changed′ : Bool) : Type 0 where
-  equal : getD ms cur 0 ≡ getD ms t 0 → ms′ ≡ ms → changed′ ≡ changed → Met M xs ms cur t changed ms′ changed′
-  differ : Marking M xs ms ms′ → Risen ms ms′ → changed′ ≡ true → Met M xs ms cur t changed ms′ changed′
+pub data Merged (M : Mealy) (xs ms : List ℕ) (cur t : ℕ) (changed : Bool) (ms′ : List ℕ) (changed′ : Bool) : Type 0 where
+  equal : getD ms cur 0 ≡ getD ms t 0 → ms′ ≡ ms → changed′ ≡ changed → Merged M xs ms cur t changed ms′ changed′
+  differ : Marking M xs ms ms′ → Risen ms ms′ → changed′ ≡ true → Merged M xs ms cur t changed ms′ changed′
 
 -- the entry e is learnt where t and t + 1 are marked; a known one marks t + 1 where it is to be applied
 pub data Learnt (apply : Bool) (ms known : List ℕ) (e t : ℕ) (changed : Bool) (ms′ known′ : List ℕ) (changed′ : Bool) : Type 0 where

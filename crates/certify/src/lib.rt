@@ -1,8 +1,8 @@
 // Recognition and certification of a sequence: refusals 7 and 9, the marks, and what is certified.
 mod answer;
 mod chains;
-mod chase;
 mod closure;
+mod propagation;
 mod service;
 mod sweep;
 mod tally;

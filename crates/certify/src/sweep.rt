@@ -7,23 +7,23 @@ ghost use lib.ListN.{length, getD};
 ghost use Rattle.machine.specs.Limits.{mostEntries, mostSequence};
 ghost use Rattle.machine.specs.Machine.{Mealy, meaning};
 ghost use Rattle.certify.specs.Folding.{Rising};
-ghost use Rattle.certify.specs.Sweep.{Meeting, Met, Learnt, Onward, Sweepable, Swept};
+ghost use Rattle.certify.specs.Sweep.{Mergeable, Merged, Learnt, Onward, Sweepable, Swept};
 use crate::chains::STATE_BYTES;
 use crate::chains::advance;
 use crate::chains::represent;
-use crate::chase::chase;
+use crate::propagation::propagate;
 use machine::Machine;
 use machine::entry_at;
 
 // Whether something changed so far, and how many steps may still be spent on following marks.
 pub struct Progress {
     pub changed: bool,
-    pub fuel: usize,
+    pub steps: usize,
 }
 
 // Makes the marks of t and of cur, which represents it, equal. A mark of cur, which the sweep has
 // passed, is followed at once.
-fn meet(
+fn merge(
     xs: &[u8],
     next: &[u8],
     k: u8,
@@ -40,23 +40,23 @@ fn meet(
     requires { ⌜ length (now marks) ≡ length (now xs) + 1 ⌝ }
     requires { ⌜ length (now xs) ≤ mostSequence ⌝ }
     requires { ⌜ Rising (now xs) (now alt) ⌝ }
-    ensures { λ r. ⌜ ((M : Mealy) → Meeting M (now (xs .entry)) (now (marks .entry)) (now (next .entry)) (now (alt .entry)) (now (root .entry)) k s cur t → Met M (now (xs .entry)) (now (marks .entry)) cur t (p .changed) (now (marks .exit)) (r .changed)) ⌝ }
+    ensures { λ r. ⌜ ((M : Mealy) → Mergeable M (now (xs .entry)) (now (marks .entry)) (now (next .entry)) (now (alt .entry)) (now (root .entry)) k s cur t → Merged M (now (xs .entry)) (now (marks .entry)) cur t (p .changed) (now (marks .exit)) (r .changed)) ⌝ }
 {
     if marks[cur] == marks[t] {
         return p;
     }
     if marks[cur] == 0 {
         marks[cur] = 1;
-        let fuel = chase(xs, next, k, marks, alt, root, cur, s, p.fuel);
+        let steps = propagate(xs, next, k, marks, alt, root, cur, s, p.steps);
         return Progress {
             changed: true,
-            fuel,
+            steps,
         };
     }
     marks[t] = 1;
     Progress {
         changed: true,
-        fuel: p.fuel,
+        steps: p.steps,
     }
 }
 
@@ -141,23 +141,23 @@ pub fn sweep(
     let mut root = [0u16; STATE_BYTES];
     let mut p = Progress {
         changed: false,
-        fuel: xs.len(),
+        steps: xs.len(),
     };
     let mut cur = 0;
     let mut s = m.start;
     let mut t = 0;
     while t < xs.len() {
-        let q = meet(xs, &next, m.k, marks, &alt, &root, s, cur, t, p);
+        let q = merge(xs, &next, m.k, marks, &alt, &root, s, cur, t, p);
         let e = entry_at(m.k, s, xs[t]);
         let changed = learn(marks, known, e, t, apply, q.changed);
         cur = onward(xs, marks, &mut alt, &mut root, s, t, cur);
         p = Progress {
             changed,
-            fuel: q.fuel,
+            steps: q.steps,
         };
         s = next[e];
         t += 1;
     }
-    let q = meet(xs, &next, m.k, marks, &alt, &root, s, cur, t, p);
+    let q = merge(xs, &next, m.k, marks, &alt, &root, s, cur, t, p);
     q.changed
 }

@@ -9,7 +9,7 @@ use denote.Ref.{now}
 use Rattle.machine.specs.Machine.{meaning}
 use Rattle.machine.specs.Machine.Laws.{tabled-start}
 use Rattle.certify.proofs.Ends.{fresh}
-use Rattle.certify.proofs.Loop.{follows-tabled, Running, starts, running-long, running-rising, running-meeting, running-roots, running-ends, running-entry, met-long, learnt-long, turns}
+use Rattle.certify.proofs.Loop.{follows-tabled, Running, starts, running-long, running-rising, running-mergeable, running-roots, running-ends, running-entry, merged-long, learnt-long, turns}
 use Rattle.certify.proofs.sweep.sweep.Statement.{statement}
 use Rattle.certify.proofs.sweep.sweep.Tie as tie
 
@@ -25,11 +25,11 @@ loop-holds c =
     starts (meaning (start .args .m)) (start .args .apply) (now (start .args .xs)) (now (start .args .marks)) (now (start .args .known)) (start .pre) (fresh 20355) (fresh 256)
     (sym (tabled-start (start .args .m .n) (start .args .m .k) (start .args .m .start) (start .args .m .next) (start .args .m .answer)))
 
-slice-aggregate-meet : tie.Need-slice-aggregate-meet Inv-loop μ-loop
-slice-aggregate-meet c = search needs
+slice-aggregate-merge : tie.Need-slice-aggregate-merge Inv-loop μ-loop
+slice-aggregate-merge c = search needs
 
-meet-requires : tie.Need-meet-requires Inv-loop μ-loop
-meet-requires c κs =
+merge-requires : tie.Need-merge-requires Inv-loop μ-loop
+merge-requires c κs =
     let start = c .before .before .before .before .before .before .before .before .before in
     let h = c .before .before .before .before .before .loop .inv in
     (omega (arith, h .head .low-cur, h .head .place), (h .head .place, (running-long (meaning (start .args .m)) (start .args .apply) (now (start .args .xs)) (now (start .args .marks)) (now (start .args .known)) h, (h .asked .commands .few, running-rising (meaning (start .args .m)) (start .args .apply) (now (start .args .xs)) (now (start .args .marks)) (now (start .args .known)) h))))
@@ -45,18 +45,18 @@ learn-requires c κs =
     let start = c .before .before .before .before .before .before .before .before .before .before .before .before .before .before .before .before in
     let h = c .before .before .before .before .before .before .before .before .before .before .before .before .loop .inv in
     let f = follows-tabled (start .args .m .n) (start .args .m .k) (start .args .m .start) (start .args .m .next) (start .args .m .answer) in
-    let met = c .before .before .before .before .before .before .meet .ensures (meaning (start .args .m)) (running-meeting (meaning (start .args .m)) (start .args .apply) (now (start .args .xs)) (now (start .args .marks)) (now (start .args .known)) h f) in
+    let merged = c .before .before .before .before .before .before .merge .ensures (meaning (start .args .m)) (running-mergeable (meaning (start .args .m)) (start .args .apply) (now (start .args .xs)) (now (start .args .marks)) (now (start .args .known)) h f) in
     let tl = c .before .before .before .before .before .before .before .before .before .before .before .loop-test .taken in
-    (omega (arith, met-long (meaning (start .args .m)) (start .args .apply) (now (start .args .xs)) (now (start .args .marks)) (now (start .args .known)) h tl met), running-entry (meaning (start .args .m)) (start .args .apply) (now (start .args .xs)) (now (start .args .marks)) (now (start .args .known)) h tl (f .commands) (c .before .before .entry-at .ensures))
+    (omega (arith, merged-long (meaning (start .args .m)) (start .args .apply) (now (start .args .xs)) (now (start .args .marks)) (now (start .args .known)) h tl merged), running-entry (meaning (start .args .m)) (start .args .apply) (now (start .args .xs)) (now (start .args .marks)) (now (start .args .known)) h tl (f .commands) (c .before .before .entry-at .ensures))
 
 onward-requires : tie.Need-onward-requires Inv-loop μ-loop
 onward-requires c κs =
     let start = c .before .before .before .before .before .before .before .before .before .before .before .before .before .before .before .before .before .before .before .before .before .before in
     let h = c .before .before .before .before .before .before .before .before .before .before .before .before .before .before .before .before .before .before .loop .inv in
     let f = follows-tabled (start .args .m .n) (start .args .m .k) (start .args .m .start) (start .args .m .next) (start .args .m .answer) in
-    let met = c .before .before .before .before .before .before .before .before .before .before .before .before .meet .ensures (meaning (start .args .m)) (running-meeting (meaning (start .args .m)) (start .args .apply) (now (start .args .xs)) (now (start .args .marks)) (now (start .args .known)) h f) in
+    let merged = c .before .before .before .before .before .before .before .before .before .before .before .before .merge .ensures (meaning (start .args .m)) (running-mergeable (meaning (start .args .m)) (start .args .apply) (now (start .args .xs)) (now (start .args .marks)) (now (start .args .known)) h f) in
     let tl = c .before .before .before .before .before .before .before .before .before .before .before .before .before .before .before .before .before .loop-test .taken in
-    (omega (arith, h .head .low-cur), (tl, (learnt-long (meaning (start .args .m)) (start .args .apply) (now (start .args .xs)) (now (start .args .marks)) (now (start .args .known)) h tl f (c .before .before .before .before .before .before .before .before .entry-at .ensures) met (c .before .before .before .before .before .learn .ensures), (h .asked .commands .few, (running-rising (meaning (start .args .m)) (start .args .apply) (now (start .args .xs)) (now (start .args .marks)) (now (start .args .known)) h, running-roots (meaning (start .args .m)) (start .args .apply) (now (start .args .xs)) (now (start .args .marks)) (now (start .args .known)) h)))))
+    (omega (arith, h .head .low-cur), (tl, (learnt-long (meaning (start .args .m)) (start .args .apply) (now (start .args .xs)) (now (start .args .marks)) (now (start .args .known)) h tl f (c .before .before .before .before .before .before .before .before .entry-at .ensures) merged (c .before .before .before .before .before .learn .ensures), (h .asked .commands .few, (running-rising (meaning (start .args .m)) (start .args .apply) (now (start .args .xs)) (now (start .args .marks)) (now (start .args .known)) h, running-roots (meaning (start .args .m)) (start .args .apply) (now (start .args .xs)) (now (start .args .marks)) (now (start .args .known)) h)))))
 
 array-read-s : tie.Need-array-read-s Inv-loop μ-loop
 array-read-s c =
@@ -76,14 +76,14 @@ loop-again c =
     let start = c .before .before .before .before .before .before .before .before .before .before .before .before .before .before .before .before .before .before .before .before .before .before .before in
     let h = c .before .before .before .before .before .before .before .before .before .before .before .before .before .before .before .before .before .before .before .loop .inv in
     let f = follows-tabled (start .args .m .n) (start .args .m .k) (start .args .m .start) (start .args .m .next) (start .args .m .answer) in
-    let met = c .before .before .before .before .before .before .before .before .before .before .before .before .before .meet .ensures (meaning (start .args .m)) (running-meeting (meaning (start .args .m)) (start .args .apply) (now (start .args .xs)) (now (start .args .marks)) (now (start .args .known)) h f) in
-    turns (meaning (start .args .m)) (start .args .apply) (now (start .args .xs)) (now (start .args .marks)) (now (start .args .known)) h (c .before .before .before .before .before .before .before .before .before .before .before .before .before .before .before .before .before .before .loop-test .taken) f (c .before .before .before .before .before .before .before .before .before .entry-at .ensures) met (c .before .before .before .before .before .before .learn .ensures) (c .onward .ensures) refl
+    let merged = c .before .before .before .before .before .before .before .before .before .before .before .before .before .merge .ensures (meaning (start .args .m)) (running-mergeable (meaning (start .args .m)) (start .args .apply) (now (start .args .xs)) (now (start .args .marks)) (now (start .args .known)) h f) in
+    turns (meaning (start .args .m)) (start .args .apply) (now (start .args .xs)) (now (start .args .marks)) (now (start .args .known)) h (c .before .before .before .before .before .before .before .before .before .before .before .before .before .before .before .before .before .before .loop-test .taken) f (c .before .before .before .before .before .before .before .before .before .entry-at .ensures) merged (c .before .before .before .before .before .before .learn .ensures) (c .onward .ensures) refl
 
-slice-aggregate-meet-2 : tie.Need-slice-aggregate-meet-2 Inv-loop μ-loop
-slice-aggregate-meet-2 c = search needs
+slice-aggregate-merge-2 : tie.Need-slice-aggregate-merge-2 Inv-loop μ-loop
+slice-aggregate-merge-2 c = search needs
 
-meet-requires-2 : tie.Need-meet-requires-2 Inv-loop μ-loop
-meet-requires-2 c κs =
+merge-requires-2 : tie.Need-merge-requires-2 Inv-loop μ-loop
+merge-requires-2 c κs =
     let start = c .before .before .before .before .before .before .before .before .before in
     let h = c .before .before .before .before .before .loop .inv in
     (omega (arith, h .head .low-cur, h .head .place), (h .head .place, (running-long (meaning (start .args .m)) (start .args .apply) (now (start .args .xs)) (now (start .args .marks)) (now (start .args .known)) h, (h .asked .commands .few, running-rising (meaning (start .args .m)) (start .args .apply) (now (start .args .xs)) (now (start .args .marks)) (now (start .args .known)) h))))
@@ -100,7 +100,7 @@ returns c =
     let start = c .before .before .before .before .before .before .before .before .before .before .before .before in
     let h = c .before .before .before .before .before .before .before .before .loop .inv in
     let f = follows-tabled (start .args .m .n) (start .args .m .k) (start .args .m .start) (start .args .m .next) (start .args .m .answer) in
-    running-ends (meaning (start .args .m)) (start .args .apply) (now (start .args .xs)) (now (start .args .marks)) (now (start .args .known)) h (c .before .before .before .before .before .before .before .loop-test .left) (c .before .before .meet2 .ensures (meaning (start .args .m)) (running-meeting (meaning (start .args .m)) (start .args .apply) (now (start .args .xs)) (now (start .args .marks)) (now (start .args .known)) h f))
+    running-ends (meaning (start .args .m)) (start .args .apply) (now (start .args .xs)) (now (start .args .marks)) (now (start .args .known)) h (c .before .before .before .before .before .before .before .loop-test .left) (c .before .before .merge2 .ensures (meaning (start .args .m)) (running-mergeable (meaning (start .args .m)) (start .args .apply) (now (start .args .xs)) (now (start .args .marks)) (now (start .args .known)) h f))
 
 pub sweep-spec : {M : Type 1} → statement M
 sweep-spec =
@@ -109,8 +109,8 @@ sweep-spec =
     Inv-loop
     μ-loop
     loop-holds
-    slice-aggregate-meet
-    meet-requires
+    slice-aggregate-merge
+    merge-requires
     shared-slice-read-entry-at
     entry-at-requires
     learn-requires
@@ -119,7 +119,7 @@ sweep-spec =
     add-t
     loop-less
     loop-again
-    slice-aggregate-meet-2
-    meet-requires-2
+    slice-aggregate-merge-2
+    merge-requires-2
     same-length
     returns)

@@ -5,8 +5,8 @@ ghost use Prim.Native.Nat.{_+_, _≤_, _<_};
 ghost use lib.ListN.{length};
 ghost use Rattle.machine.specs.Limits.{mostSequence};
 ghost use Rattle.machine.specs.Machine.{Mealy};
-ghost use Rattle.certify.specs.Folding.{Rising, Marking, Chased};
-ghost use Rattle.certify.specs.Chase.{Restarted, Settled, Followed};
+ghost use Rattle.certify.specs.Folding.{Rising, Marking, Propagable};
+ghost use Rattle.certify.specs.Propagation.{Restarted, Settled, Followed};
 use crate::chains::STATE_BYTES;
 use crate::chains::alternative;
 use crate::chains::wide;
@@ -84,8 +84,8 @@ fn follow(
     settle(marks, root, v + 1, i + 1, byte(next, e))
 }
 
-// Follows the commands of a marked place p of state s, fuel of them at most; how much is left.
-pub fn chase(
+// Follows the commands of a marked place p of state s, in at most so many steps; how many are left.
+pub fn propagate(
     xs: &[u8],
     next: &[u8],
     k: u8,
@@ -94,14 +94,14 @@ pub fn chase(
     root: &[u16; STATE_BYTES],
     p: usize,
     s: u8,
-    fuel: usize,
+    steps: usize,
 ) -> usize
     requires { ⌜ length (now marks) ≡ length (now xs) + 1 ⌝ }
     requires { ⌜ length (now xs) ≤ mostSequence ⌝ }
     requires { ⌜ Rising (now xs) (now alt) ⌝ }
-    ensures { λ r. ⌜ ((M : Mealy) → Chased M (now (xs .entry)) (now (marks .entry)) (now (next .entry)) (now (alt .entry)) (now (root .entry)) k p s → Marking M (now (xs .entry)) (now (marks .entry)) (now (marks .exit))) ⌝ }
+    ensures { λ r. ⌜ ((M : Mealy) → Propagable M (now (xs .entry)) (now (marks .entry)) (now (next .entry)) (now (alt .entry)) (now (root .entry)) k p s → Marking M (now (xs .entry)) (now (marks .entry)) (now (marks .exit))) ⌝ }
 {
-    let mut left = fuel;
+    let mut left = steps;
     let mut at = restart(root, p, s);
     while left > 0 {
         let Step::On { r, i, s: state } = at else {

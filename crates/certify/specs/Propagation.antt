@@ -4,8 +4,8 @@ use Prim.Native.Nat.{ℕ, _+_, _*_, _<_}
 use mathlib.Core.Path.{_≡_}
 use mathlib.Core.List.{List}
 use lib.ListN.{length, getD, set}
-use Rattle.certify.specs.declared.chase.Step.{Step}
-use Rattle.certify.specs.declared.chase.Step.the-variants.{Stop, On}
+use Rattle.certify.specs.declared.propagation.Step.{Step}
+use Rattle.certify.specs.declared.propagation.Step.the-variants.{Stop, On}
 use Rattle.certify.specs.Folding.{Past}
 
 -- a marked place i of state s is represented by its state's place, where there is one; root holds place + 1, 0 for none

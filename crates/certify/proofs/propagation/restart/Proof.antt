@@ -1,12 +1,12 @@
--- `certify::chase::restart` meets its contract, by its two ways out.
+-- `certify::propagation::restart` meets its contract, by its two ways out.
 -- Assumes nothing.
 use native.Mathlib.Omega.{arith}
 use borrow.Author.Needs.{needs}
 use Prim.Native.Nat.{_-_}
 use mathlib.Core.Path.{refl}
-use Rattle.certify.specs.Chase.{Restarted}
-use Rattle.certify.proofs.chase.restart.Statement.{statement}
-use Rattle.certify.proofs.chase.restart.Tie as tie
+use Rattle.certify.specs.Propagation.{Restarted}
+use Rattle.certify.proofs.propagation.restart.Statement.{statement}
+use Rattle.certify.proofs.propagation.restart.Tie as tie
 
 mul-wide : tie.Need-mul-wide
 mul-wide c = search needs

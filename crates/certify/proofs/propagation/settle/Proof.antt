@@ -1,10 +1,10 @@
--- `certify::chase::settle` meets its contract, by its four ways out.
+-- `certify::propagation::settle` meets its contract, by its four ways out.
 -- Assumes nothing.
 use borrow.Author.Needs.{needs}
 use mathlib.Core.Path.{refl}
-use Rattle.certify.specs.Chase.{Settled}
-use Rattle.certify.proofs.chase.settle.Statement.{statement}
-use Rattle.certify.proofs.chase.settle.Tie as tie
+use Rattle.certify.specs.Propagation.{Settled}
+use Rattle.certify.proofs.propagation.settle.Statement.{statement}
+use Rattle.certify.proofs.propagation.settle.Tie as tie
 
 slice-read-if1 : tie.Need-slice-read-if1
 slice-read-if1 c = search needs

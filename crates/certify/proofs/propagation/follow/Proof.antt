@@ -1,13 +1,13 @@
--- `certify::chase::follow` meets its contract, by its four ways out.
+-- `certify::propagation::follow` meets its contract, by its four ways out.
 -- Assumes nothing.
 use native.Mathlib.Omega.{arith}
 use borrow.Author.Needs.{needs}
 use Prim.Native.Nat.{ℕ}
 use mathlib.Core.Path.{refl, ap, _∙_}
 use lib.ListN.{getD}
-use Rattle.certify.specs.Chase.{Followed}
-use Rattle.certify.proofs.chase.follow.Statement.{statement}
-use Rattle.certify.proofs.chase.follow.Tie as tie
+use Rattle.certify.specs.Propagation.{Followed}
+use Rattle.certify.proofs.propagation.follow.Statement.{statement}
+use Rattle.certify.proofs.propagation.follow.Tie as tie
 
 returns : tie.Need-returns
 returns c = Followed.ends refl refl
