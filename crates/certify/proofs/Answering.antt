@@ -7,18 +7,16 @@ use native.Mathlib.Omega.{arith}
 use native.Mathlib.Nat.{mul-le-mul}
 use lib.Dec.{ltb}
 use lib.ListN.{length, getD, drop}
-use borrow.Author.Tests.{ltb-false}
 use Rattle.sheet.specs.declared.check.Check.{Check}
 use Rattle.sheet.specs.declared.check.Check.the-variants.{Clear, Refused}
 use Rattle.sheet.specs.Check.{refusal_with_if_, _else_, firstCause}
-use Rattle.sheet.specs.Check.Laws.{clear-absent, both-clear, else-refused}
+use Rattle.sheet.specs.Check.Laws.{else-refused}
 use Rattle.sheet.specs.Reader.{the, content}
 use Rattle.machine.specs.Limits.{mostSequence, mostEntries}
 use Rattle.machine.specs.declared.loading.Loaded.{Loaded}
 use Rattle.machine.specs.Machine.{Mealy, tabled, meaning, Proper, Commands}
 use Rattle.machine.specs.Machine.Laws.{tabled-states, tabled-commands}
 use Rattle.machine.specs.Causes.{commandsCause, machineIn, held, loadCauses}
-use Rattle.machine.specs.Causes.Laws.{clear-commands}
 use Rattle.machine.specs.Causes.Lists.{held-is, clear-table}
 use Rattle.machine.specs.Loading.{LoadedFrom}
 use Rattle.certify.specs.declared.answer.Answer.{Answer}
@@ -28,8 +26,8 @@ use Rattle.certify.specs.Marks.{tabulate, mark, count, stands, marks}
 use Rattle.certify.specs.Marks.Laws.{tabulate-length, tabulate-at, tabulate-bits, mark-true, mark-bit, marked-inside}
 use Rattle.certify.specs.Marks.Agreement.{stands-true, true-stands, marks-unique, marks-length}
 use Rattle.certify.specs.Certification.{certifyNeeds, cause7, cause9, markBytes, certifyCauses, verified, openCause, answerOf, outcome, kept, Certifies}
-use Rattle.certify.specs.Certification.Laws.{verified-shown, shown-verified, outcome-of, certification-refused, certification-clear, after-refused, after-clear}
-use Rattle.certify.specs.Certification.Program.{open-known, certify-causes-are}
+use Rattle.certify.specs.Certification.Laws.{verified-shown, shown-verified, outcome-of, certification-refused, certification-clear, after-refused, after-clear, certify-causes-are, load-clear, sequence-commands, room-enough}
+use Rattle.certify.specs.Certification.Program.{open-known}
 use Rattle.certify.specs.Folding.{MarkedIn}
 use Rattle.certify.specs.Sweep.{entryAt}
 use Rattle.certify.specs.Closing.{Closable, Closed, openBy}
@@ -128,22 +126,7 @@ module _ (room : ℕ) (s : List ℕ) where
   checks-are {k} {xs} ee ke xe se ne ie ce =
       let nine-is = ne ∙ ap (λ (x : List ℕ). refusal 9 with length x + 1 if ltb room (length x + 1)) xe in
       let seven-is = se ∙ ap (λ (x : ℕ). commandsCause 7 mostSequence x (the 3 s) (content 3 s)) ke in
-      ce ∙ ap₂ _else_ ee (ie ∙ ap₂ _else_ seven-is nine-is) ∙ checks-by (firstCause (loadCauses certifyNeeds s)) refl ∙ sym (certify-causes-are room s)
-
-  -- ---- where nothing is refused
-  module _ (e : firstCause (certifyCauses certifyNeeds room s) ≡ Clear) where
-    both : (firstCause (loadCauses certifyNeeds s) ≡ Clear) × ((cause7 (machineIn s .k) (the 3 s) (content 3 s) else cause9 room (markBytes (content 3 s))) ≡ Clear)
-    both = both-clear _ _ (sym (certify-causes-are room s) ∙ e)
-
-    pub load-clear : firstCause (loadCauses certifyNeeds s) ≡ Clear
-    load-clear = both .0
-
-    pub sequence-commands : Commands mostSequence (machineIn s .k) (content 3 s)
-    sequence-commands = clear-commands 7 mostSequence (machineIn s .k) (the 3 s) (content 3 s) (both-clear _ _ (both .1) .0)
-
-    pub room-enough : length (content 3 s) + 1 ≤ room
-    unfolding cause9
-    room-enough = ltb-false _ _ (clear-absent 9 _ _ (both-clear _ _ (both .1) .1))
+      ce ∙ ap₂ _else_ ee (ie ∙ ap₂ _else_ seven-is nine-is) ∙ checks-by (firstCause (loadCauses certifyNeeds s)) refl ∙ sym (certify-causes-are certifyNeeds room s)
 
 -- what marking the recognised places asks
 pub record Asked (s before xs : List ℕ) (M : Mealy) : Type 0 where
@@ -156,13 +139,13 @@ pub asked : (s before : List ℕ) {l : Loaded} {c : Check} {xs : List ℕ} → L
     → xs ≡ content 3 s → Asked s before xs (meaning (l .machine))
 asked s before {l} {c} {xs} h ce e xe =
     let clear = sym ce ∙ e in
-    let loaded = h .check ∙ load-clear (length before) s clear in
+    let loaded = h .check ∙ load-clear certifyNeeds (length before) s clear in
     let M = h .machine loaded in
     record {
       machine = M;
       proper = rw M (h .proper loaded);
-      commands = rw (M, xe) (sequence-commands (length before) s clear);
-      room = rw xe (room-enough (length before) s clear);
+      commands = rw (M, xe) (sequence-commands certifyNeeds (length before) s clear);
+      room = rw xe (room-enough certifyNeeds (length before) s clear);
     }
 
 -- ---- the promise

@@ -1,4 +1,4 @@
--- Following a mark's commands is sound: what it marks lies in the closure of the marks that it was given, and the two places that it follows
+-- Following the commands of a marked place is sound: what it marks lies in the closure of the marks that it was given, and the two places that it follows
 -- stay paired.
 use Prim.Native.Nat.{ℕ, _+_, _≤_}
 use mathlib.Core.Path.{_≡_, refl, sym, ap, _∙_}
@@ -11,7 +11,7 @@ use Rattle.certify.specs.declared.propagation.Step.{Step}
 use Rattle.certify.specs.declared.propagation.Step.the-variants.{Stop, On}
 use Rattle.certify.specs.Recognition.{rule1}
 use Rattle.certify.specs.Folding.{From, Marking, Paired, tops, step, Propagable}
-use Rattle.certify.specs.Propagation.{Restarted, Settled, Followed}
+use Rattle.certify.specs.Propagation.{Restarted, Equalised, Followed}
 use Rattle.certify.proofs.Paired.{paired-sym, paired-trans, paired-state, paired-past}
 use Rattle.certify.proofs.Growing.{marking-same}
 use Rattle.certify.proofs.Marking.{marking-more, both-in}
@@ -51,14 +51,14 @@ module _ {M : Mealy} {xs g : List ℕ} where
     propagation-starts l h = record { marking = marking-same l (asked .few); continues = restarts (rule1 (asked .marked)) (asked .state) h }
 
     -- two paired places get equal marks
-    settles : {ms ms′ : List ℕ} {r i s : ℕ} {a : Step} → r ≤ length xs → i ≤ length xs → Marking M xs g ms → Representative M xs g r i s
-        → Settled ms root r i s ms′ a → Propagating M xs g ms′ a
-    settles rl il h t (Settled.on e d) = record { marking = rw e h; continues = goes-on t d }
-    settles rl il h t (Settled.stop e d) = record { marking = rw e h; continues = stopped d }
-    settles {r = r} rl il h t (Settled.first n e d) =
+    equalises : {ms ms′ : List ℕ} {r i s : ℕ} {a : Step} → r ≤ length xs → i ≤ length xs → Marking M xs g ms → Representative M xs g r i s
+        → Equalised ms root r i s ms′ a → Propagating M xs g ms′ a
+    equalises rl il h t (Equalised.on e d) = record { marking = rw e h; continues = goes-on t d }
+    equalises rl il h t (Equalised.stop e d) = record { marking = rw e h; continues = stopped d }
+    equalises {r = r} rl il h t (Equalised.first n e d) =
         let f = both-in M xs g h (t .pair) n in
         record { marking = rw e (marking-more M xs g _ r rl (f .0) h); continues = restarts (f .0) (t .state ∙ sym (paired-state M xs g (t .pair))) d }
-    settles {i = i} rl il h t (Settled.second n e d) =
+    equalises {i = i} rl il h t (Equalised.second n e d) =
         let f = both-in M xs g h (t .pair) n in
         record { marking = rw e (marking-more M xs g _ i il (f .1) h); continues = restarts (f .1) (t .state) d }
 
@@ -70,7 +70,7 @@ module _ {M : Mealy} {xs g : List ℕ} where
         let t = h .continues r i s d in
         let pair : Paired M xs g v i =
         paired-trans M xs g (paired-sym M xs g (paired-past M xs g alt (asked .folds .links) path)) (t .pair) in
-        settles (omega arith) (omega arith) (h .marking)
+        equalises (omega arith) (omega arith) (h .marking)
         (record {
           pair = step v i pair vl il same refl refl;
           state = e ∙ sym (asked .follows .states s _) ∙ ap (λ (x : ℕ). M .next x (getD xs i 0)) (t .state) ∙ sym (state-next M xs i il);

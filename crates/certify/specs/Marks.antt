@@ -1,5 +1,5 @@
 -- The recognised places as marks, computed: one byte for each of the places 0 to N, 1 for recognised and 0 otherwise. Marks.Agreement shows
--- that they are exactly those of Recognition, so only `count` has to be read besides. A small name is a computed test, the same name with a
+-- that they are exactly those of Recognition, so only `count` has to be read besides. A small name is what is computed, the same name with a
 -- capital is the statement (`stands` and Stands, `closure` and Closure). Shut are `stands`, `shown`, `grown`, `settled`, `closure` and `marks`.
 use Prim.Native.Nat.{ℕ, zero, suc, _+_, _-_}
 use mathlib.Core.Bool.{Bool, true, false, _&&_, _||_}
@@ -40,11 +40,18 @@ count (m ∷ ms) = mark (eqb m 1) + count ms
 pub stands : List ℕ → List ℕ → ℕ → Bool
 stands w xs p = leb (p + length w) (length xs) && same (take (length w) (drop p xs)) w
 
--- rule 2: whether marked places p, q and p + m show that r = q + m is recognised
+-- rule 2: whether p, q and p + m are marked, p and q have the same state, and the m commands from both are equal
+abbrev pub follows : List ℕ → (ℕ → ℕ) → List ℕ → ℕ → ℕ → ℕ → Bool
+follows xs state ms p q m =
+    marked ms p
+    && (marked ms q
+    && (eqb (state p) (state q)
+    && (marked ms (p + m)
+    && same (take m (drop p xs)) (take m (drop q xs)))))
+
+-- whether r = q + m is recognised by rule 2 for some p, q and m
 pub shown : List ℕ → (ℕ → ℕ) → List ℕ → ℕ → Bool
-shown xs state ms r =
-    any (length xs) (λ p. any r (λ q.
-    marked ms p && (marked ms q && (eqb (state p) (state q) && (marked ms (p + (r - q)) && same (take (r - q) (drop p xs)) (take (r - q) (drop q xs)))))))
+shown xs state ms r = any (length xs) (λ p. any r (λ q. follows xs state ms p q (r - q)))
 
 -- these marks, and those that one use of rule 2 adds
 pub grown : List ℕ → (ℕ → ℕ) → List ℕ → List ℕ

@@ -1,6 +1,6 @@
 -- Recognition as its rules read (document 01, "Recognition"; source document 002, section 2.4): the recognised places, verified entries and
 -- certified sequences. M is the machine, w the word, xs the sequence. `Recognised` is shut: what is known of it outside are the laws in
--- Recognition.Laws.
+-- Recognition.Laws, and in Marks.Agreement that it can be computed.
 use Prim.Native.Nat.{ℕ, _+_, _≤_, _<_}
 use mathlib.Core.Path.{_≡_}
 use mathlib.Core.List.{List}

@@ -1,6 +1,6 @@
 // The tables that fold places which must stand in one state of any unit that gives the right
-// answers. A place that is marked is represented by one marked place of its state. From a
-// representative, the next place is represented by the one after the alternative that has the same
+// answers. A marked place before an unmarked one is represented by the first such place of its
+// state. From a representative, the next place is represented by the one after the alternative that has the same
 // command: alternatives are places that are represented alike and have different commands.
 ghost use mathlib.Core.Path.{_≡_};
 ghost use Prim.Native.Nat.{_+_, _≤_, _<_};
@@ -10,9 +10,10 @@ ghost use Rattle.certify.specs.Folding.{Rising, Reached};
 ghost use Rattle.certify.specs.Sweep.{Rooted, Advanced};
 use machine::Machine;
 
-// Of a state that a byte can name.
-pub const STATE_BYTES: usize = 256;
+// As many states as a byte can name, so that no state is out of range.
+pub const BYTE_STATES: usize = 256;
 
+// A table's cell as a place.
 pub fn wide(x: u16) -> usize
     ensures { λ r. ⌜ r ≡ x ⌝ }
 {
@@ -55,7 +56,7 @@ pub fn advance(xs: &[u8], alt: &mut [u16; Machine::SEQUENCE], r: usize, t: usize
 }
 
 // The place that represents the state s, which becomes t where there is none yet.
-pub fn represent(root: &mut [u16; STATE_BYTES], s: u8, t: usize) -> usize
+pub fn represent(root: &mut [u16; BYTE_STATES], s: u8, t: usize) -> usize
     requires { ⌜ t < mostSequence ⌝ }
     ensures { λ r. ⌜ Rooted (now (root .entry)) s t (now (root .exit)) r ⌝ }
 {

@@ -5,7 +5,7 @@ use crate::sweep::sweep;
 use machine::Machine;
 
 // Closes the marks under rule 2; the entries that are then verified. The first sweep applies no
-// known entry, so that a path that is being folded is not left half way.
+// known entry: that plays no part in the result, but saves sweeps on built sequences.
 pub fn close(m: Machine, xs: &[u8], marks: &mut [u8]) -> [u8; Machine::ENTRIES]
     requires { ⌜ Closable (meaning m) (now xs) (now marks) ⌝ }
     ensures { λ known. ⌜ Closed (meaning m) (now (xs .entry)) (now (marks .entry)) (now (marks .exit)) known ⌝ }

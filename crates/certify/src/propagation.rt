@@ -6,8 +6,8 @@ ghost use lib.ListN.{length};
 ghost use Rattle.machine.specs.Limits.{mostSequence};
 ghost use Rattle.machine.specs.Machine.{Mealy};
 ghost use Rattle.certify.specs.Folding.{Rising, Marking, Propagable};
-ghost use Rattle.certify.specs.Propagation.{Restarted, Settled, Followed};
-use crate::chains::STATE_BYTES;
+ghost use Rattle.certify.specs.Propagation.{Restarted, Equalised, Followed};
+use crate::chains::BYTE_STATES;
 use crate::chains::alternative;
 use crate::chains::wide;
 use machine::Machine;
@@ -20,8 +20,9 @@ pub enum Step {
     On { r: usize, i: usize, s: u8 },
 }
 
-// From a marked place i of state s.
-fn restart(root: &[u16; STATE_BYTES], i: usize, s: u8) -> Step
+// How a marked place i of state s is followed: together with the place that represents its state,
+// where there is one.
+fn restart(root: &[u16; BYTE_STATES], i: usize, s: u8) -> Step
     ensures { λ r. ⌜ Restarted (now (root .entry)) i s r ⌝ }
 {
     let r = wide(root[s as usize]);
@@ -31,12 +32,12 @@ fn restart(root: &[u16; STATE_BYTES], i: usize, s: u8) -> Step
     Step::On { r: r - 1, i, s }
 }
 
-// Makes the marks of i, of state s, and of r, which represents it, equal. Goes on from the place
-// that gets its mark; without one from both, until they are marked.
-fn settle(marks: &mut [u8], root: &[u16; STATE_BYTES], r: usize, i: usize, s: u8) -> Step
+// Gives i, of state s, and r, which represents it, one mark. Where one gets it now, following
+// restarts there; where neither has it, it goes on from both; where both had it, it stops.
+fn equalise(marks: &mut [u8], root: &[u16; BYTE_STATES], r: usize, i: usize, s: u8) -> Step
     requires { ⌜ r < length (now marks) ⌝ }
     requires { ⌜ i < length (now marks) ⌝ }
-    ensures { λ a. ⌜ Settled (now (marks .entry)) (now (root .entry)) r i s (now (marks .exit)) a ⌝ }
+    ensures { λ a. ⌜ Equalised (now (marks .entry)) (now (root .entry)) r i s (now (marks .exit)) a ⌝ }
 {
     if marks[r] == marks[i] {
         if marks[r] == 0 {
@@ -59,7 +60,7 @@ fn follow(
     k: u8,
     marks: &mut [u8],
     alt: &[u16; Machine::SEQUENCE],
-    root: &[u16; STATE_BYTES],
+    root: &[u16; BYTE_STATES],
     r: usize,
     i: usize,
     s: u8,
@@ -81,7 +82,7 @@ fn follow(
         return Step::Stop;
     }
     let e = entry_at(k, s, c);
-    settle(marks, root, v + 1, i + 1, byte(next, e))
+    equalise(marks, root, v + 1, i + 1, byte(next, e))
 }
 
 // Follows the commands of a marked place p of state s, in at most so many steps; how many are left.
@@ -91,7 +92,7 @@ pub fn propagate(
     k: u8,
     marks: &mut [u8],
     alt: &[u16; Machine::SEQUENCE],
-    root: &[u16; STATE_BYTES],
+    root: &[u16; BYTE_STATES],
     p: usize,
     s: u8,
     steps: usize,

@@ -8,7 +8,7 @@ ghost use Rattle.machine.specs.Limits.{mostEntries, mostSequence};
 ghost use Rattle.machine.specs.Machine.{Mealy, meaning};
 ghost use Rattle.certify.specs.Folding.{Rising};
 ghost use Rattle.certify.specs.Sweep.{Mergeable, Merged, Learnt, Onward, Sweepable, Swept};
-use crate::chains::STATE_BYTES;
+use crate::chains::BYTE_STATES;
 use crate::chains::advance;
 use crate::chains::represent;
 use crate::propagation::propagate;
@@ -29,7 +29,7 @@ fn merge(
     k: u8,
     marks: &mut [u8],
     alt: &[u16; Machine::SEQUENCE],
-    root: &[u16; STATE_BYTES],
+    root: &[u16; BYTE_STATES],
     s: u8,
     cur: usize,
     t: usize,
@@ -95,12 +95,13 @@ fn learn(
     changed
 }
 
-// Where the sweep comes to t + 1 from, where cur represents an unmarked t.
+// The place that represents t + 1. An unmarked t is represented by cur, a marked one by its state's
+// place; between two marked places nothing is folded.
 fn onward(
     xs: &[u8],
     marks: &[u8],
     alt: &mut [u16; Machine::SEQUENCE],
-    root: &mut [u16; STATE_BYTES],
+    root: &mut [u16; BYTE_STATES],
     s: u8,
     t: usize,
     cur: usize,
@@ -138,7 +139,7 @@ pub fn sweep(
 {
     let next = m.next;
     let mut alt = [0u16; Machine::SEQUENCE];
-    let mut root = [0u16; STATE_BYTES];
+    let mut root = [0u16; BYTE_STATES];
     let mut p = Progress {
         changed: false,
         steps: xs.len(),

@@ -13,6 +13,7 @@ use sheet::Check;
 use sheet::first_of;
 use sheet::refuse;
 
+// 1 for a mark of 1, else 0.
 fn one(m: u8) -> usize
     ensures { λ r. ⌜ r ≡ mark (eqb m 1) ⌝ }
 {

@@ -5,6 +5,7 @@ ghost use lib.ListN.{length};
 ghost use Rattle.certify.specs.Marks.{tabulate, mark};
 ghost use Rattle.certify.specs.Marks.{stands as standsOf};
 
+// A mark as a byte.
 fn bit(b: bool) -> u8
     ensures { λ r. ⌜ r ≡ mark b ⌝ }
 {

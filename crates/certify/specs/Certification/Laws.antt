@@ -2,29 +2,30 @@
 use Prim.Native.Nat.{ℕ, _+_, _*_, _≤_, _<_}
 use mathlib.Core.Path.{_≡_, refl, sym, ap, _∙_}
 use mathlib.Core.Bool.{Bool, true, false, true≢false, not}
-use mathlib.Core.List.{List}
+use mathlib.Core.List.{List, [], _∷_}
 use native.Mathlib.Omega.{arith}
-use borrow.Author.Tests.{eq-eqb, eqb-true, not-true, not-false}
+use borrow.Author.Tests.{eq-eqb, eqb-true, ltb-false, not-true, not-false}
 use lib.ListN.{length, getD}
 use Rattle.sheet.specs.declared.check.Check.{Check}
 use Rattle.sheet.specs.declared.check.Check.the-variants.{Clear, Refused}
 use Rattle.sheet.specs.Check.{refusal_with_if_, _else_, firstCause, first}
-use Rattle.sheet.specs.Check.Laws.{both-true, absent, clear-absent, both-clear, else-clear, first-clear, first-clear-at, Present, first-present, present-test}
-use Rattle.sheet.specs.Reader.{content}
-use Rattle.machine.specs.Machine.{Mealy, stateAt}
-use Rattle.machine.specs.Causes.{machineIn}
-use Rattle.machine.specs.Causes.Laws.{entry-below}
-use Rattle.certify.specs.declared.answer.Answer.{Answer}
+use Rattle.sheet.specs.Check.Laws.{cause-cons, cause-one, cause-append, both-true, absent, clear-absent, both-clear, else-clear, first-clear, first-clear-at, Present, first-present, present-test}
+use Rattle.sheet.specs.declared.reader.Needs.{Needs}
+use Rattle.sheet.specs.Reader.{the, content}
+use Rattle.machine.specs.Limits.{mostSequence}
+use Rattle.machine.specs.Machine.{Mealy, stateAt, Commands}
+use Rattle.machine.specs.Causes.{machineIn, loadCauses}
+use Rattle.machine.specs.Causes.Laws.{entry-below, clear-commands}
 use Rattle.certify.specs.declared.answer.Answer.the-variants.{Certified as CertifiedAnswer, Open, Refused as RefusedAnswer}
 use Rattle.certify.specs.Recognition.{Recognised, Verified, Certified}
 use Rattle.certify.specs.Marks.{marked, count, marks}
 use Rattle.certify.specs.Marks.Laws.{any-found, any-holds, marked-true, true-marked}
 use Rattle.certify.specs.Marks.Agreement.{marked-recognised, recognised-marked}
-use Rattle.certify.specs.Certification.{certifyNeeds, certifyCauses, verified, openCause, cause11, answerOf, outcome, refusedOr, certification, kept, marksAfter, valuesOf}
+use Rattle.certify.specs.Certification.{certifyNeeds, cause7, cause9, markBytes, certifyCauses, verified, openCause, cause11, answerOf, outcome, refusedOr, certification, kept, marksAfter}
 
 -- ---- verified entries, by any marks
--- the place that shows an entry
-pub record ShownBy (M : Mealy) (xs ms : List ℕ) (s c : ℕ) : Type 0 where
+-- an entry verified by marks, with its place
+pub record VerifiedBy (M : Mealy) (xs ms : List ℕ) (s c : ℕ) : Type 0 where
   pub place : ℕ
   pub inside : place < length xs
   pub state : stateAt M xs place ≡ s
@@ -32,7 +33,7 @@ pub record ShownBy (M : Mealy) (xs ms : List ℕ) (s c : ℕ) : Type 0 where
   pub before : getD ms place 0 ≡ 1
   pub after : getD ms (place + 1) 0 ≡ 1
 
-pub verified-shown : (M : Mealy) (xs ms : List ℕ) (s c : ℕ) → verified M xs ms s c ≡ true → ShownBy M xs ms s c
+pub verified-shown : (M : Mealy) (xs ms : List ℕ) (s c : ℕ) → verified M xs ms s c ≡ true → VerifiedBy M xs ms s c
 unfolding verified
 verified-shown M xs ms s c e =
     let f = any-found _ _ e in
@@ -48,7 +49,7 @@ verified-shown M xs ms s c e =
       after = marked-true ms _ (d .1);
     }
 
-pub shown-verified : (M : Mealy) (xs ms : List ℕ) (s c : ℕ) → ShownBy M xs ms s c → verified M xs ms s c ≡ true
+pub shown-verified : (M : Mealy) (xs ms : List ℕ) (s c : ℕ) → VerifiedBy M xs ms s c → verified M xs ms s c ≡ true
 unfolding verified
 shown-verified M xs ms s c v =
     any-holds _ _ (v .place) (v .inside)
@@ -175,6 +176,30 @@ pub after-clear : (s buffer : List ℕ) → firstCause (certifyCauses certifyNee
 unfolding marksAfter
 after-clear s buffer e = rw e
 
+-- ---- the causes of a service that certifies, and what a sheet shows where they are clear
+pub certify-causes-are : (needs : Needs) (room : ℕ) (s : List ℕ) → firstCause (certifyCauses needs room s)
+    ≡ (firstCause (loadCauses needs s) else (cause7 (machineIn s .k) (the 3 s) (content 3 s) else cause9 room (markBytes (content 3 s))))
+unfolding certifyCauses
+certify-causes-are needs room s =
+    let seven = cause7 (machineIn s .k) (the 3 s) (content 3 s) in
+    let nine = cause9 room (markBytes (content 3 s)) in
+    cause-append (loadCauses needs s) (seven ∷ nine ∷ [])
+    ∙ ap (λ (c : Check). firstCause (loadCauses needs s) else c) (cause-cons seven (nine ∷ []) ∙ ap (λ (c : Check). seven else c) (cause-one nine))
+
+module _ (needs : Needs) (room : ℕ) (s : List ℕ) (e : firstCause (certifyCauses needs room s) ≡ Clear) where
+  both-parts : (firstCause (loadCauses needs s) ≡ Clear) × ((cause7 (machineIn s .k) (the 3 s) (content 3 s) else cause9 room (markBytes (content 3 s))) ≡ Clear)
+  both-parts = both-clear _ _ (sym (certify-causes-are needs room s) ∙ e)
+
+  pub load-clear : firstCause (loadCauses needs s) ≡ Clear
+  load-clear = both-parts .0
+
+  pub sequence-commands : Commands mostSequence (machineIn s .k) (content 3 s)
+  sequence-commands = clear-commands 7 mostSequence (machineIn s .k) (the 3 s) (content 3 s) (both-clear _ _ (both-parts .1) .0)
+
+  pub room-enough : markBytes (content 3 s) ≤ room
+  unfolding cause9
+  room-enough = ltb-false _ _ (clear-absent 9 _ _ (both-clear _ _ (both-parts .1) .1))
+
 -- ---- what an answer shows
 certified-by : (c d : Check) (m n : ℕ) → refusedOr c (answerOf d m) ≡ CertifiedAnswer n → (c ≡ Clear) × ((d ≡ Clear) × (n ≡ m))
 certified-by Clear Clear m n e = (refl, (refl, cc))
@@ -190,18 +215,35 @@ answer-certified room s e =
     let h = certified-by (firstCause (certifyCauses certifyNeeds room s)) (cause11 (machineIn s) (content 2 s) (content 3 s)) _ _ e in
     (h .0, (clear-certified (machineIn s) (content 2 s) (content 3 s) (h .1 .0), h .1 .1))
 
--- ---- answers and their values by their cases
-pub answer-clear : (n : ℕ) {c : Check} → c ≡ Clear → CertifiedAnswer n ≡ answerOf c n
-answer-clear n e = rw e
+-- the other direction
+pub certified-answer : (room : ℕ) (s : List ℕ) → firstCause (certifyCauses certifyNeeds room s) ≡ Clear
+    → Certified (machineIn s) (content 2 s) (content 3 s) → certification room s ≡ CertifiedAnswer (count (marks (machineIn s) (content 2 s) (content 3 s)))
+certified-answer room s e h =
+    certification-clear room s e
+    ∙ outcome-clear (machineIn s) (content 2 s) (content 3 s) (certified-clear (machineIn s) (content 2 s) (content 3 s) h)
 
-pub answer-refused : (n : ℕ) {c : Check} {number place : ℕ} → c ≡ Refused number place → Open n place ≡ answerOf c n
-answer-refused n e = rw e
+open-by-answer : (c d : Check) (m n v : ℕ) → refusedOr c (answerOf d m) ≡ Open n v → (c ≡ Clear) × (((a : ℕ) × (d ≡ Refused a v)) × (n ≡ m))
+open-by-answer Clear Clear m n v e = let z : _≡_ {A = ℕ} 0 1 = cc in absurd (omega arith)
+open-by-answer Clear (Refused a b) m n v e = (refl, ((a, cc), cc))
+open-by-answer (Refused a b) d m n v e = let z : _≡_ {A = ℕ} 0 1 = cc in absurd (omega arith)
 
-pub values-certified : {a : Answer} {n : ℕ} → a ≡ CertifiedAnswer n → record { class = 110; place = n; a = 0; b = 0 } ≡ valuesOf a
-values-certified e = rw e
+-- an answer of open: nothing is refused, and the number is the open number, judging's cause 11
+pub answer-open : (room : ℕ) (s : List ℕ) {n v : ℕ} → certification room s ≡ Open n v
+    → (firstCause (certifyCauses certifyNeeds room s) ≡ Clear)
+    × ((cause11 (machineIn s) (content 2 s) (content 3 s) ≡ Refused 11 v) × (n ≡ count (marks (machineIn s) (content 2 s) (content 3 s))))
+unfolding certification outcome
+answer-open room s {n} {v} e =
+    let h = open-by-answer (firstCause (certifyCauses certifyNeeds room s)) (cause11 (machineIn s) (content 2 s) (content 3 s)) _ n v e in
+    let eleven = refused-open (machineIn s) (content 2 s) (content 3 s) (h .1 .0 .1) .0 in
+    (h .0, (h .1 .0 .1 ∙ ap (λ (a : ℕ). Refused a v) eleven, h .1 .1))
 
-pub values-open : {a : Answer} {n number : ℕ} → a ≡ Open n number → record { class = 111; place = n; a = 0; b = number } ≡ valuesOf a
-values-open e = rw e
+refused-by : (c d : Check) (m n p : ℕ) → refusedOr c (answerOf d m) ≡ RefusedAnswer n p → c ≡ Refused n p
+refused-by Clear Clear m n p e = let z : _≡_ {A = ℕ} 0 1 = cc in absurd (omega arith)
+refused-by Clear (Refused a b) m n p e = let z : _≡_ {A = ℕ} 0 1 = cc in absurd (omega arith)
+refused-by (Refused a b) d m n p e = cc
 
-pub values-refused : {a : Answer} {number place : ℕ} → a ≡ RefusedAnswer number place → record { class = number; place = place; a = 0; b = 0 } ≡ valuesOf a
-values-refused e = rw e
+-- an answer of refused: that is the first cause
+pub answer-refused : (room : ℕ) (s : List ℕ) {n p : ℕ} → certification room s ≡ RefusedAnswer n p → firstCause (certifyCauses certifyNeeds room s) ≡ Refused n p
+unfolding certification outcome
+answer-refused room s {n} {p} e =
+    refused-by (firstCause (certifyCauses certifyNeeds room s)) (cause11 (machineIn s) (content 2 s) (content 3 s)) _ n p e

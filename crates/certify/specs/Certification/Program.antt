@@ -1,22 +1,23 @@
--- What the program's own functions need of the shut definitions: the open number by a table of known entries, and the causes in a row.
+-- What the program's own functions need besides: the open number by a table of known entries, and answers and values by their cases.
 use Prim.Native.Nat.{ℕ, _+_, _*_, _<_}
 use mathlib.Core.Path.{_≡_, sym, ap, _∙_}
 use mathlib.Core.Bool.{Bool, true, false, true≢false, not}
-use mathlib.Core.List.{List, [], _∷_}
+use mathlib.Core.List.{List}
 use mathlib.Core.Logic.{⊎-elim}
 use lib.Dec.{eqb}
 use lib.ListN.{getD}
 use borrow.Author.Tests.{ne-eqb, eqb-false}
 use Rattle.sheet.specs.declared.check.Check.{Check}
-use Rattle.sheet.specs.Check.{refusal_with_if_, _else_, firstCause}
-use Rattle.sheet.specs.Check.Laws.{cause-cons, cause-one, cause-append, first-same, first-rows}
-use Rattle.sheet.specs.Reader.{the, content}
+use Rattle.sheet.specs.declared.check.Check.the-variants.{Clear, Refused}
+use Rattle.sheet.specs.Check.{refusal_with_if_, _else_}
+use Rattle.sheet.specs.Check.Laws.{first-same, first-rows}
 use Rattle.machine.specs.Machine.{Mealy}
-use Rattle.machine.specs.Causes.{machineIn, loadCauses}
+use Rattle.certify.specs.declared.answer.Answer.{Answer}
+use Rattle.certify.specs.declared.answer.Answer.the-variants.{Certified as CertifiedAnswer, Open, Refused as RefusedAnswer}
 use Rattle.certify.specs.Marks.{marked}
 use Rattle.certify.specs.Marks.Laws.{true-or-false}
 use Rattle.certify.specs.Closing.{unknownAt, openBy}
-use Rattle.certify.specs.Certification.{certifyNeeds, cause7, cause9, markBytes, certifyCauses, verified, openCause}
+use Rattle.certify.specs.Certification.{verified, openCause, answerOf, valuesOf}
 
 -- a table that knows exactly the verified entries gives the open number
 pub open-known : (M : Mealy) (xs ms known : List ℕ)
@@ -38,12 +39,18 @@ open-known M xs ms known sound all =
         (true-or-false (eqb (getD known (s * M .k + c) 0) 0)))
         (true-or-false (verified M xs ms s c))
 
--- the causes of certifying, written out
-pub certify-causes-are : (room : ℕ) (s : List ℕ) → firstCause (certifyCauses certifyNeeds room s)
-    ≡ (firstCause (loadCauses certifyNeeds s) else (cause7 (machineIn s .k) (the 3 s) (content 3 s) else cause9 room (markBytes (content 3 s))))
-unfolding certifyCauses
-certify-causes-are room s =
-    let seven = cause7 (machineIn s .k) (the 3 s) (content 3 s) in
-    let nine = cause9 room (markBytes (content 3 s)) in
-    cause-append (loadCauses certifyNeeds s) (seven ∷ nine ∷ [])
-    ∙ ap (λ (c : Check). firstCause (loadCauses certifyNeeds s) else c) (cause-cons seven (nine ∷ []) ∙ ap (λ (c : Check). seven else c) (cause-one nine))
+-- ---- answers and their values by their cases
+pub answer-of-clear : (n : ℕ) {c : Check} → c ≡ Clear → CertifiedAnswer n ≡ answerOf c n
+answer-of-clear n e = rw e
+
+pub answer-of-open : (n : ℕ) {c : Check} {number place : ℕ} → c ≡ Refused number place → Open n place ≡ answerOf c n
+answer-of-open n e = rw e
+
+pub values-certified : {a : Answer} {n : ℕ} → a ≡ CertifiedAnswer n → record { class = 110; place = n; a = 0; b = 0 } ≡ valuesOf a
+values-certified e = rw e
+
+pub values-open : {a : Answer} {n number : ℕ} → a ≡ Open n number → record { class = 111; place = n; a = 0; b = number } ≡ valuesOf a
+values-open e = rw e
+
+pub values-refused : {a : Answer} {number place : ℕ} → a ≡ RefusedAnswer number place → record { class = number; place = place; a = 0; b = 0 } ≡ valuesOf a
+values-refused e = rw e

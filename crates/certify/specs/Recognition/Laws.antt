@@ -1,12 +1,11 @@
 -- The laws of recognition: what building and judging may know of it.
 use Prim.Native.Nat.{ℕ, _+_, _≤_}
-use mathlib.Core.Path.{_≡_, refl, sym, ap, ap₂, _∙_}
+use mathlib.Core.Path.{_≡_, refl, _∙_}
 use mathlib.Core.List.{List}
 use native.Mathlib.Omega.{arith}
 use lib.ListN.{length, take, drop}
-use lib.Seq.{take-add}
-use Rattle.machine.specs.Machine.{Mealy, run, stateAt}
-use Rattle.machine.specs.Machine.Laws.{run-append}
+use Rattle.machine.specs.Machine.{Mealy, stateAt}
+use Rattle.machine.specs.Machine.Laws.{states-agree}
 use Rattle.certify.specs.Recognition.{Stands, rule1, rule2, Recognised}
 
 module _ (M : Mealy) (w xs : List ℕ) where
@@ -34,17 +33,8 @@ module _ (M : Mealy) (w xs : List ℕ) where
   pub recognised-inside : (p : ℕ) → Recognised M w xs p → p ≤ length xs
   recognised-inside = smallest (λ p. p ≤ length xs) (λ p h. omega (arith, h .inside)) (λ p q m ml rp hp rq hq e rm hm i same. i)
 
-  -- the state m commands after p is where these lead from p's state
-  state-along : (p m : ℕ) → stateAt M xs (p + m) ≡ run M (stateAt M xs p) (take m (drop p xs))
-  unfolding stateAt
-  state-along p m = ap (run M (M .start)) (take-add p m xs) ∙ run-append M (M .start) (take p xs) (take m (drop p xs))
-
-  -- equal commands from equal states lead to equal states
-  pub states-agree : (p q m : ℕ) → stateAt M xs p ≡ stateAt M xs q → take m (drop p xs) ≡ take m (drop q xs) → stateAt M xs (p + m) ≡ stateAt M xs (q + m)
-  states-agree p q m e same = state-along p m ∙ ap₂ (run M) e same ∙ sym (state-along q m)
-
   -- the state of a recognised place has a place where the word stands
   pub recognised-word : (p : ℕ) → Recognised M w xs p → (i : ℕ) × (Stands w xs i) × (stateAt M xs i ≡ stateAt M xs p)
   recognised-word =
       smallest (λ p. (i : ℕ) × (Stands w xs i) × (stateAt M xs i ≡ stateAt M xs p)) (λ p h. (p, h, refl))
-      (λ p q m ml rp hp rq hq e rm hm i same. (hm .0, hm .1, hm .2 ∙ states-agree p q m e same))
+      (λ p q m ml rp hp rq hq e rm hm i same. (hm .0, hm .1, hm .2 ∙ states-agree M xs p q m e same))

@@ -1,11 +1,11 @@
 -- The laws of machines and their runs.
 use Prim.Native.Nat.{ℕ, suc, _+_, _*_, _<_}
-use mathlib.Core.Path.{_≡_, refl, ap, ap₂, _∙_}
+use mathlib.Core.Path.{_≡_, refl, sym, ap, ap₂, _∙_}
 use mathlib.Core.List.{List, [], _∷_, _++_}
 use native.Mathlib.Omega.{arith}
 use native.Mathlib.Numerals.{add-one}
-use lib.ListN.{length, getD, take, length-take}
-use lib.Seq.{take-suc, getD-take}
+use lib.ListN.{length, getD, take, drop, length-take}
+use lib.Seq.{take-suc, take-add, getD-take}
 use Rattle.machine.specs.Machine.{Mealy, tabled, run, answers, stateAt, Proper}
 
 -- two machines are equal where they have the same states, commands, start and entries
@@ -85,6 +85,16 @@ state-next M xs p l =
     ap (λ (x : ℕ). run M (M .start) (take x xs)) (add-one p)
     ∙ ap (run M (M .start)) (take-suc xs p 0 l)
     ∙ run-append M (M .start) (take p xs) (getD xs p 0 ∷ [])
+
+-- the state m commands after p is where these lead from p's state
+state-along : (M : Mealy) (xs : List ℕ) (p m : ℕ) → stateAt M xs (p + m) ≡ run M (stateAt M xs p) (take m (drop p xs))
+unfolding stateAt
+state-along M xs p m = ap (run M (M .start)) (take-add p m xs) ∙ run-append M (M .start) (take p xs) (take m (drop p xs))
+
+-- equal commands from equal states lead to equal states
+pub states-agree : (M : Mealy) (xs : List ℕ) (p q m : ℕ) → stateAt M xs p ≡ stateAt M xs q → take m (drop p xs) ≡ take m (drop q xs)
+    → stateAt M xs (p + m) ≡ stateAt M xs (q + m)
+states-agree M xs p q m e same = state-along M xs p m ∙ ap₂ (run M) e same ∙ sym (state-along M xs q m)
 
 -- a proper machine stays among its states
 pub run-stays : (M : Mealy) → Proper M → (s : ℕ) (w : List ℕ) → s < M .n → ((i : ℕ) → i < length w → getD w i 0 < M .k) → run M s w < M .n

@@ -1,7 +1,7 @@
 -- `certify::answer::values_of` meets its contract.
 -- Assumes nothing.
 use borrow.Author.Needs.{needs}
-use Rattle.certify.specs.Certification.Laws.{values-certified, values-open, values-refused}
+use Rattle.certify.specs.Certification.Program.{values-certified, values-open, values-refused}
 use Rattle.certify.proofs.answer.values_of.Statement.{statement}
 use Rattle.certify.proofs.answer.values_of.Tie as tie
 

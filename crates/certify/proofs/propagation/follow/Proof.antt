@@ -30,17 +30,17 @@ returns-3 c = Followed.ends refl refl
 entry-at-requires : tie.Need-entry-at-requires
 entry-at-requires c κs = search needs
 
-add-settle : tie.Need-add-settle
-add-settle c = search needs
+add-equalise : tie.Need-add-equalise
+add-equalise c = search needs
 
-add-settle-2 : tie.Need-add-settle-2
-add-settle-2 c = search needs
+add-equalise-2 : tie.Need-add-equalise-2
+add-equalise-2 c = search needs
 
 byte-requires : tie.Need-byte-requires
 byte-requires c κs = search needs
 
-settle-requires : tie.Need-settle-requires
-settle-requires c κs = search needs
+equalise-requires : tie.Need-equalise-requires
+equalise-requires c κs = search needs
 
 same-length : tie.Need-same-length
 same-length c = search needs
@@ -49,7 +49,7 @@ returns-4 : tie.Need-returns-4
 returns-4 c =
     Followed.steps (c .before .before .before .before .before .before .before .before .alternative .result) (c .before .before .before .byte .result) (omega (arith, c .before .before .before .before .before .before .before .before .before .before .if2 .left)) (c .before .before .before .before .before .before .before .before .alternative .ensures .inside)
     (c .before .before .before .before .before .before .before .before .alternative .ensures .path) (c .before .before .before .before .before .before .if3 .left)
-    (c .before .before .before .byte .ensures ∙ ap (λ (e : ℕ). getD (c .before .before .before .before .before .before .before .before .before .before .before .before .before .before .before .args .next .now) e 0) (c .before .before .before .before .before .entry-at .ensures)) (c .before .before .settle .ensures)
+    (c .before .before .before .byte .ensures ∙ ap (λ (e : ℕ). getD (c .before .before .before .before .before .before .before .before .before .before .before .before .before .before .before .args .next .now) e 0) (c .before .before .before .before .before .entry-at .ensures)) (c .before .before .equalise .ensures)
 
 pub follow-spec : {M : Type 1} → statement M
 follow-spec =
@@ -62,9 +62,9 @@ follow-spec =
     shared-slice-read-if3
     returns-3
     entry-at-requires
-    add-settle
-    add-settle-2
+    add-equalise
+    add-equalise-2
     byte-requires
-    settle-requires
+    equalise-requires
     same-length
     returns-4)
