@@ -75,7 +75,7 @@ pub fn triple(buf: &mut [u8], machine: &[u8], word: &[u8], sequence: &[u8]) -> u
     record(buf, at, SEQUENCE_KIND, sequence)
 }
 
-// The twin's machine and word.
+// The records of the twin's machine and word.
 pub fn twin(buf: &mut [u8]) -> usize {
     let at = record(buf, 0, MACHINE_KIND, &TWIN);
     record(buf, at, WORD_KIND, &TWIN_WORD)
