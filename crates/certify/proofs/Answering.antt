@@ -25,8 +25,8 @@ use Rattle.certify.specs.Recognition.{Stands, Closure, rule1, rule2}
 use Rattle.certify.specs.Marks.{tabulate, mark, count, stands, marks}
 use Rattle.certify.specs.Marks.Laws.{tabulate-length, tabulate-at, tabulate-bits, mark-true, mark-bit, marked-inside}
 use Rattle.certify.specs.Marks.Agreement.{stands-true, true-stands, marks-unique, marks-length}
-use Rattle.certify.specs.Certification.{certifyNeeds, cause7, cause9, markBytes, certifyCauses, verified, openCause, answerOf, outcome, kept, Certifies}
-use Rattle.certify.specs.Certification.Laws.{verified-shown, shown-verified, outcome-of, certification-refused, certification-clear, after-refused, after-clear, certify-causes-are, load-clear, sequence-commands, room-enough}
+use Rattle.certify.specs.Certification.{certifyNeeds, cause7, cause9, markBytes, certifyCauses, verified, openCause, answerOf, outcome, Certifies}
+use Rattle.certify.specs.Certification.Laws.{verified-shown, shown-verified, outcome-of, certification-refused, certification-clear, after-refused, after-clear, cause9-is, kept-is, certify-causes-are, load-clear, sequence-commands, room-enough}
 use Rattle.certify.specs.Certification.Program.{open-known}
 use Rattle.certify.specs.Folding.{MarkedIn}
 use Rattle.certify.specs.Sweep.{entryAt}
@@ -122,9 +122,9 @@ module _ (room : ℕ) (s : List ℕ) where
   pub checks-are : {k : ℕ} {xs : List ℕ} {earlier seven nine inner c : Check} → earlier ≡ firstCause (loadCauses certifyNeeds s) → k ≡ held s .k → xs ≡ content 3 s
       → seven ≡ commandsCause 7 mostSequence k (the 3 s) (content 3 s) → nine ≡ (refusal 9 with length xs + 1 if ltb room (length xs + 1))
       → inner ≡ (seven else nine) → c ≡ (earlier else inner) → c ≡ firstCause (certifyCauses certifyNeeds room s)
-  unfolding cause9 later
+  unfolding later
   checks-are {k} {xs} ee ke xe se ne ie ce =
-      let nine-is = ne ∙ ap (λ (x : List ℕ). refusal 9 with length x + 1 if ltb room (length x + 1)) xe in
+      let nine-is = ne ∙ cause9-is room (length xs + 1) ∙ ap (λ (x : List ℕ). cause9 room (length x + 1)) xe in
       let seven-is = se ∙ ap (λ (x : ℕ). commandsCause 7 mostSequence x (the 3 s) (content 3 s)) ke in
       ce ∙ ap₂ _else_ ee (ie ∙ ap₂ _else_ seven-is nine-is) ∙ checks-by (firstCause (loadCauses certifyNeeds s)) refl ∙ sym (certify-causes-are certifyNeeds room s)
 
@@ -159,10 +159,9 @@ certifies-refused s before ce e = record {
 pub certifies-clear : (s before : List ℕ) {c : Check} {M : Mealy} {w xs after ms : List ℕ} {a : Answer}
     → c ≡ firstCause (certifyCauses certifyNeeds (length before) s) → c ≡ Clear → M ≡ machineIn s → w ≡ content 2 s → xs ≡ content 3 s
     → a ≡ outcome M w xs → ms ≡ marks M w xs → after ≡ ms ++ drop (length xs + 1) before → Certifies s before after a
-unfolding kept
 certifies-clear s before {c} {M} {w} {xs} ce e me we xe ae mse afe =
     let clear = sym ce ∙ e in
     record {
       answer = ae ∙ (rw (me, we, xe) (sym (certification-clear (length before) s clear)));
-      marks = afe ∙ ap₂ (λ (l : List ℕ) (n : ℕ). l ++ drop n before) mse (sym (marks-length M w xs)) ∙ (rw (me, we, xe) (sym (after-clear s before clear)));
+      marks = afe ∙ ap₂ (λ (l : List ℕ) (n : ℕ). l ++ drop n before) mse (sym (marks-length M w xs)) ∙ kept-is (marks M w xs) before ∙ (rw (me, we, xe) (sym (after-clear s before clear)));
     }

@@ -12,11 +12,11 @@ use borrow.Author.Tests.{ltb-true, ltb-false}
 use Rattle.machine.specs.Limits.{mostSequence}
 use Rattle.machine.specs.Machine.{Mealy, stateAt}
 use Rattle.machine.specs.Machine.Laws.{state-start, state-next}
-use Rattle.certify.specs.Recognition.{rule1}
 use Rattle.certify.specs.Marks.Laws.{true-or-false, marked-inside}
 use Rattle.certify.specs.Marks.Agreement.{Shown}
 use Rattle.certify.specs.Folding.{same}
 use Rattle.certify.specs.Sweep.{entryAt, Merged, Sweepable, Swept}
+use Rattle.certify.proofs.Growing.{marking-same}
 use Rattle.certify.proofs.Marking.{bit-one}
 use Rattle.certify.proofs.Represented.{begin, Walked, folded-closed}
 use Rattle.certify.proofs.Turn.{merged-still, merged-learning, Still, Head, walked-here}
@@ -48,7 +48,7 @@ module _ (M : Mealy) (apply : Bool) (xs given known₀ : List ℕ) (h : Sweepabl
     place = omega arith;
     state = se ∙ sym (state-start M xs);
     learning = record {
-      marking = record { long = h .long; few = h .few; above = λ p e. e; sound = λ p e. rule1 e };
+      marking = marking-same (h .long) (h .few);
       table = h .table;
       knows = h .knows;
       keeps = λ e q. q;

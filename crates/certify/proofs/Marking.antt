@@ -24,6 +24,9 @@ equal-or-not a b =
 pub bit-one : (b : ℕ) → b ≤ 1 → (b ≡ 0 → ⊥) → b ≡ 1
 bit-one b l n = ⊎-elim (λ (e : b ≡ 1). e) (λ (k : b < 1). absurd (n (omega arith))) (eq-or-lt-of-le l)
 
+pub less : (a b : ℕ) → a ≤ b → (a ≡ b → ⊥) → a < b
+less a b l n = ⊎-elim (λ (e : a ≡ b). absurd (n e)) (λ (k : a < b). k) (eq-or-lt-of-le l)
+
 -- ---- a cell of a table after a store
 pub set-at : (l : List ℕ) (i v j : ℕ) → i < length l → ((j ≡ i) × (getD (set l i v) j 0 ≡ v)) ⊎ ((j ≡ i → ⊥) × (getD (set l i v) j 0 ≡ getD l j 0))
 set-at l i v j il =

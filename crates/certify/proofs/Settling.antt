@@ -10,7 +10,6 @@ use lib.ListN.{length, getD}
 use borrow.Author.Tests.{ltb-true, ltb-false}
 use Rattle.machine.specs.Limits.{mostEntries}
 use Rattle.machine.specs.Machine.{Mealy, stateAt}
-use Rattle.certify.specs.Recognition.{rule1}
 use Rattle.certify.specs.Marks.{mark, count}
 use Rattle.certify.specs.Marks.Laws.{true-or-false, count-most, count-below, count-same}
 use Rattle.certify.specs.Marks.Agreement.{Shown, closed-complete}
@@ -18,7 +17,7 @@ use Rattle.certify.specs.Folding.{MarkedIn, Marking, Risen}
 use Rattle.certify.specs.Sweep.{entryAt, Knows, Sweepable, Swept}
 use Rattle.certify.specs.Closing.{Closable, Closed}
 use Rattle.certify.proofs.Ends.{Fresh}
-use Rattle.certify.proofs.Growing.{from-more, from-flat, marking-flat}
+use Rattle.certify.proofs.Growing.{from-more, from-flat, marking-flat, marking-same}
 
 -- a cell more has 1
 count-rises : (a b : List ℕ) → length a ≡ length b → ((p : ℕ) → getD a p 0 ≡ 1 → getD b p 0 ≡ 1) → Risen a b → count a < count b
@@ -43,7 +42,7 @@ module _ (M : Mealy) (xs given : List ℕ) where
   pub settling-starts : {known : List ℕ} → Closable M xs given → Fresh mostEntries known → Settling given known false true
   settling-starts h f = record {
     asked = h;
-    marking = record { long = h .long; few = h .few; above = λ p e. e; sound = λ p e. rule1 e };
+    marking = marking-same (h .long) (h .few);
     table = f .long;
     low = λ e. omega (arith, f .zero e);
     knows = λ e n. absurd (n (f .zero e));

@@ -4,14 +4,13 @@ use mathlib.Core.Path.{_≡_, refl, sym, ap, _∙_}
 use mathlib.Core.List.{List}
 use mathlib.Core.Logic.{_⊎_, ⊎-elim}
 use native.Mathlib.Omega.{arith}
-use native.Mathlib.Nat.{eq-or-lt-of-le}
 use lib.ListN.{length, getD, set, length-set}
 use lib.Seq.{getD-set-other}
 use Rattle.machine.specs.Limits.{mostSequence}
 use Rattle.machine.specs.Machine.{Mealy, stateAt}
 use Rattle.certify.specs.Folding.{From, Marking, Paired, same, tops, step, Past, here, past, Rising, Folds}
 use Rattle.certify.specs.Sweep.{Rooted, Advanced, found, added, Onward}
-use Rattle.certify.proofs.Marking.{bit-one, set-at}
+use Rattle.certify.proofs.Marking.{bit-one, less, set-at}
 use Rattle.certify.proofs.Paired.{paired-sym, paired-trans, paired-past}
 
 -- ---- the tables grow
@@ -27,7 +26,7 @@ links-grow {xs} {alt} {alt′} {r} {t} (added v k o z ae ce) x n =
 
 -- v is below t where they have different commands
 pub below : (xs : List ℕ) (v t : ℕ) → v ≤ t → (getD xs v 0 ≡ getD xs t 0 → ⊥) → v < t
-below xs v t l o = ⊎-elim (λ (e : v ≡ t). absurd (o (ap (λ (i : ℕ). getD xs i 0) e))) (λ (k : v < t). k) (eq-or-lt-of-le l)
+below xs v t l o = less v t l (λ e. o (ap (λ (i : ℕ). getD xs i 0) e))
 
 module _ (M : Mealy) (xs given : List ℕ) where
   -- ---- each alternative is paired with the next, a later place below t

@@ -11,7 +11,7 @@ use lib.Seq.{ext-getD, getD-take, getD-drop}
 use Rattle.certify.specs.Recognition.{Stands}
 use Rattle.certify.specs.Marks.{tabulate, mark, stands}
 use Rattle.certify.specs.Marks.Laws.{tabulate-length, tabulate-at}
-use Rattle.certify.proofs.Marking.{set-at}
+use Rattle.certify.proofs.Marking.{less, set-at}
 
 module _ (w xs : List ℕ) (p : ℕ) where
   -- all commands agree
@@ -51,12 +51,9 @@ marked-on w xs marks p h l {b} {v} ve be =
       long = length-set marks p v ∙ h .long;
       cells = λ q ql.
           ⊎-elim (λ (k : (q ≡ p) × (getD (set marks p v) q 0 ≡ v)). k .1 ∙ ve ∙ ap mark be ∙ ap (λ (x : ℕ). mark (stands w xs x)) (sym (k .0)))
-          (λ (k : (q ≡ p → ⊥) × (getD (set marks p v) q 0 ≡ getD marks q 0)). k .1 ∙ h .cells q (below q p (omega arith) (k .0)))
+          (λ (k : (q ≡ p → ⊥) × (getD (set marks p v) q 0 ≡ getD marks q 0)). k .1 ∙ h .cells q (less q p (omega arith) (k .0)))
           (set-at marks p v q inside);
     }
-  where
-    below : (q p : ℕ) → q ≤ p → (q ≡ p → ⊥) → q < p
-    below q p l n = ⊎-elim (λ (e : q ≡ p). absurd (n e)) (λ (k : q < p). k) (eq-or-lt-of-le l)
 
 pub marked-all : (w xs marks : List ℕ) (p : ℕ) → Marked w xs marks p → length xs < p → marks ≡ tabulate (length xs + 1) (λ q. mark (stands w xs q))
 marked-all w xs marks p h l =

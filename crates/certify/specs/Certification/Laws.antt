@@ -2,10 +2,11 @@
 use Prim.Native.Nat.{ℕ, _+_, _*_, _≤_, _<_}
 use mathlib.Core.Path.{_≡_, refl, sym, ap, _∙_}
 use mathlib.Core.Bool.{Bool, true, false, true≢false, not}
-use mathlib.Core.List.{List, [], _∷_}
+use mathlib.Core.List.{List, [], _∷_, _++_}
 use native.Mathlib.Omega.{arith}
 use borrow.Author.Tests.{eq-eqb, eqb-true, ltb-false, not-true, not-false}
-use lib.ListN.{length, getD}
+use lib.Dec.{ltb}
+use lib.ListN.{length, getD, drop}
 use Rattle.sheet.specs.declared.check.Check.{Check}
 use Rattle.sheet.specs.declared.check.Check.the-variants.{Clear, Refused}
 use Rattle.sheet.specs.Check.{refusal_with_if_, _else_, firstCause, first}
@@ -177,6 +178,10 @@ unfolding marksAfter
 after-clear s buffer e = rw e
 
 -- ---- the causes of a service that certifies, and what a sheet shows where they are clear
+pub cause9-is : (room bytes : ℕ) → (refusal 9 with bytes if ltb room bytes) ≡ cause9 room bytes
+unfolding cause9
+cause9-is room bytes = refl
+
 pub certify-causes-are : (needs : Needs) (room : ℕ) (s : List ℕ) → firstCause (certifyCauses needs room s)
     ≡ (firstCause (loadCauses needs s) else (cause7 (machineIn s .k) (the 3 s) (content 3 s) else cause9 room (markBytes (content 3 s))))
 unfolding certifyCauses
@@ -199,6 +204,11 @@ module _ (needs : Needs) (room : ℕ) (s : List ℕ) (e : firstCause (certifyCau
   pub room-enough : markBytes (content 3 s) ≤ room
   unfolding cause9
   room-enough = ltb-false _ _ (clear-absent 9 _ _ (both-clear _ _ (both-parts .1) .1))
+
+-- how marks are kept
+pub kept-is : (ms buffer : List ℕ) → ms ++ drop (length ms) buffer ≡ kept ms buffer
+unfolding kept
+kept-is ms buffer = refl
 
 -- ---- what an answer shows
 certified-by : (c d : Check) (m n : ℕ) → refusedOr c (answerOf d m) ≡ CertifiedAnswer n → (c ≡ Clear) × ((d ≡ Clear) × (n ≡ m))

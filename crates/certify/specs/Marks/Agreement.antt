@@ -29,9 +29,6 @@ pub true-stands : (w xs : List ℕ) (p : ℕ) → Stands w xs p → stands w xs 
 unfolding stands
 true-stands w xs p h = rw (le-leb _ _ (h .inside), h .stands) (same-refl w)
 
-pub stands-holds : (w xs : List ℕ) (p : ℕ) → Stands w xs p → true ≡ stands w xs p
-stands-holds w xs p h = sym (true-stands w xs p h)
-
 pub stands-fails : (w xs : List ℕ) (p : ℕ) → (Stands w xs p → ⊥) → false ≡ stands w xs p
 stands-fails w xs p n =
     ⊎-elim (λ (e : stands w xs p ≡ true). absurd (n (stands-true w xs p e))) (λ (e : stands w xs p ≡ false). sym e) (true-or-false (stands w xs p))

@@ -3,10 +3,10 @@
 use native.Mathlib.Omega.{arith}
 use borrow.Author.Needs.{needs}
 use Prim.Native.Nat.{ℕ, _+_, _-_, _≤_, _<_}
-use mathlib.Core.Path.{_≡_}
+use mathlib.Core.Path.{_≡_, sym}
 use lib.ListN.{length, getD}
 use denote.Ref.{now}
-use Rattle.certify.specs.Marks.Agreement.{stands-holds, stands-fails}
+use Rattle.certify.specs.Marks.Agreement.{true-stands, stands-fails}
 use Rattle.certify.proofs.Words.{agrees, differs, too-short, agrees-on}
 use Rattle.certify.proofs.word.stands.Statement.{statement}
 use Rattle.certify.proofs.word.stands.Tie as tie
@@ -54,7 +54,7 @@ loop-again c = (search needs, agrees-on (now (c .before .before .before .before 
 returns-3 : tie.Need-returns-3 Inv-loop μ-loop
 returns-3 c =
     let start = c .before .before .before in
-    stands-holds (now (start .args .w)) (now (start .args .xs)) (start .args .p) (agrees _ _ _ (search needs) (start .pre) (λ j l. c .before .loop .inv .1 j (omega (arith, c .loop-test .left))))
+    sym (true-stands (now (start .args .w)) (now (start .args .xs)) (start .args .p) (agrees _ _ _ (search needs) (start .pre) (λ j l. c .before .loop .inv .1 j (omega (arith, c .loop-test .left)))))
 
 pub stands-spec : {M : Type 1} → statement M
 stands-spec =
