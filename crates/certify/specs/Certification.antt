@@ -1,6 +1,7 @@
 -- Certifying (document 01, "Causes" and "Recognition"): causes 1 to 7 and 9, the open number, which is also judging's cause 11, the answer, and
 -- what is written. Shut are `verified`, `openCause`, `cause11`, `outcome`, `certification` and `marksAfter`: what judging may know of them are the
--- service's contract and the laws in Certification.Laws; Certification.Program has those of the program's own functions. The starred sequences are computed in Certification.Twin.
+-- service's contract and the laws in Certification.Laws. Certification.Program has the laws of the program's own functions, and in
+-- Certification.Twin the starred sequences are computed.
 use Prim.Native.Nat.{ℕ, _+_, _*_}
 use mathlib.Core.Path.{_≡_}
 use mathlib.Core.Bool.{Bool, true, false, not, _&&_}
@@ -46,7 +47,7 @@ unfoldable pub certifyCauses : Needs → ℕ → List ℕ → List Check
 certifyCauses needs room s = loadCauses needs s ++ (cause7 (machineIn s .k) (the 3 s) (content 3 s) ∷ cause9 room (markBytes (content 3 s)) ∷ [])
 
 -- ---- what is certified
--- verified, computed from marks
+-- Verified of Recognition, computed from marks
 pub verified : Mealy → List ℕ → List ℕ → ℕ → ℕ → Bool
 verified M xs ms s c =
     any (length xs) (λ i. eqb (stateAt M xs i) s && (eqb (getD xs i 0) c && (marked ms i && marked ms (i + 1))))
