@@ -10,7 +10,7 @@ use lib.ListN.{length, getD, drop}
 use Rattle.sheet.specs.declared.check.Check.{Check}
 use Rattle.sheet.specs.declared.check.Check.the-variants.{Clear, Refused}
 use Rattle.sheet.specs.Check.{refusal_with_if_, _else_, firstCause, first}
-use Rattle.sheet.specs.Check.Laws.{cause-cons, cause-one, cause-append, both-true, absent, clear-absent, both-clear, else-clear, first-clear, first-clear-at, Present, first-present, present-test}
+use Rattle.sheet.specs.Check.Laws.{cause-cons, cause-one, cause-append, both-true, absent, present, clear-absent, both-clear, else-clear, else-refused, first-clear, first-clear-at, Present, first-present, present-test}
 use Rattle.sheet.specs.declared.reader.Needs.{Needs}
 use Rattle.sheet.specs.Reader.{the, content}
 use Rattle.machine.specs.Limits.{mostSequence}
@@ -129,14 +129,20 @@ module _ (M : Mealy) (w xs : List ℕ) where
       (λ t d lt ld. clear-verified t d (first-clear-at (M .k) d (entryCheck t) (first-clear-at (h .place) t (λ s. first (M .k) (entryCheck s)) (h .before) lt) ld))
       (first-present (M .k) (entryCheck (h .place)) (h .here))
 
-  open-by : (b : Bool) → marked (marks M w xs) 0 ≡ b → {a v : ℕ} → ((refusal 11 with 0 if not b) else first (M .n) (λ s. first (M .k) (entryCheck s))) ≡ Refused a v
-      → (a ≡ 11) × OpenNumber M w xs v
-  unfolding refusal_with_if_ _else_
-  open-by true m e = in-rows (marked-recognised M w xs 0 (marked-true (marks M w xs) 0 m)) (first-present (M .n) _ e)
-  open-by false m e = (cc, start-open (λ r. true≢false (sym (true-marked (marks M w xs) 0 (recognised-marked M w xs 0 r)) ∙ m)) (cc))
+  rows : Check
+  rows = first (M .n) (λ s. first (M .k) (entryCheck s))
+
+  open-by : (b : Bool) → marked (marks M w xs) 0 ≡ b → {a v : ℕ} → ((refusal 11 with 0 if not b) else rows) ≡ Refused a v → (a ≡ 11) × OpenNumber M w xs v
+  unfolding rows
+  open-by true m {a} {v} e =
+      let on : rows ≡ Refused a v = sym (ap (λ (c : Check). c else rows) (absent 11 0 refl) ∙ else-clear rows) ∙ e in
+      in-rows (marked-recognised M w xs 0 (marked-true (marks M w xs) 0 m)) (first-present (M .n) _ on)
+  open-by false m {a} {v} e =
+      let zero : Refused 11 0 ≡ Refused a v = sym (ap (λ (c : Check). c else rows) (present 11 0 refl) ∙ else-refused 11 0 rows) ∙ e in
+      (cc, start-open (λ r. true≢false (sym (true-marked (marks M w xs) 0 (recognised-marked M w xs 0 r)) ∙ m)) (cc))
 
   pub refused-open : {a v : ℕ} → cause11 M w xs ≡ Refused a v → (a ≡ 11) × OpenNumber M w xs v
-  unfolding cause11 openCause entryCheck
+  unfolding cause11 openCause entryCheck rows
   refused-open e = open-by (marked (marks M w xs) 0) refl e
 
 -- it is at most n·k
