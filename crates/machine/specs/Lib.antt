@@ -3,3 +3,4 @@ pub mod Machine
 pub mod Causes
 pub mod Loading
 pub mod House
+pub mod Pigeonhole

@@ -1,11 +1,11 @@
 -- The laws of machines and their runs.
-use Prim.Native.Nat.{ℕ, suc, _+_, _*_, _<_}
+use Prim.Native.Nat.{ℕ, zero, suc, _+_, _*_, _<_}
 use mathlib.Core.Path.{_≡_, refl, sym, ap, ap₂, _∙_}
 use mathlib.Core.List.{List, [], _∷_, _++_}
 use native.Mathlib.Omega.{arith}
 use native.Mathlib.Numerals.{add-one}
-use lib.ListN.{length, getD, take, drop, length-take}
-use lib.Seq.{take-suc, take-add, getD-take}
+use lib.ListN.{length, getD, take, drop, length-take, length-drop}
+use lib.Seq.{take-append-seam, take-suc, take-add, getD-take, getD-drop}
 use Rattle.machine.specs.Machine.{Mealy, tabled, run, answers, stateAt, Proper}
 
 -- two machines are equal where they have the same states, commands, start and entries
@@ -35,6 +35,11 @@ pub tabled-answer : (n k start : ℕ) (next answer : List ℕ) (s c : ℕ) {v a 
 unfolding tabled
 tabled-answer n k start next answer s c ve ae = ve ∙ ap (λ (x : ℕ). getD answer x 0) ae
 
+-- its next states are the cells of the column
+pub tabled-cells : (n k start : ℕ) (next answer : List ℕ) (s c : ℕ) → tabled n k start next answer .next s c ≡ getD next (s * tabled n k start next answer .k + c) 0
+unfolding tabled
+tabled-cells n k start next answer s c = refl
+
 -- ---- answers
 -- the answers depend on the entries alone
 pub answers-same : (a b : Mealy) → ((s c : ℕ) → a .next s c ≡ b .next s c) → ((s c : ℕ) → a .answer s c ≡ b .answer s c)
@@ -59,6 +64,14 @@ unfolding answers
 answers-none M s = refl
 
 -- ---- runs
+pub run-none : (M : Mealy) (s : ℕ) → run M s [] ≡ s
+unfolding run
+run-none M s = refl
+
+pub run-cons : (M : Mealy) (s c : ℕ) (w : List ℕ) → run M s (c ∷ w) ≡ run M (M .next s c) w
+unfolding run
+run-cons M s c w = refl
+
 pub run-append : (M : Mealy) (s : ℕ) (u v : List ℕ) → run M s (u ++ v) ≡ run M (run M s u) v
 unfolding run
 run-append M s [] v = refl
@@ -86,6 +99,11 @@ state-next M xs p l =
     ∙ ap (run M (M .start)) (take-suc xs p 0 l)
     ∙ run-append M (M .start) (take p xs) (getD xs p 0 ∷ [])
 
+-- the state behind the first part of a sequence is where that part leads
+pub state-split : (M : Mealy) (u v : List ℕ) → stateAt M (u ++ v) (length u) ≡ run M (M .start) u
+unfolding stateAt
+state-split M u v = ap (run M (M .start)) (take-append-seam u v)
+
 -- the state m commands after p is where these lead from p's state
 state-along : (M : Mealy) (xs : List ℕ) (p m : ℕ) → stateAt M xs (p + m) ≡ run M (stateAt M xs p) (take m (drop p xs))
 unfolding stateAt
@@ -96,6 +114,19 @@ pub states-agree : (M : Mealy) (xs : List ℕ) (p q m : ℕ) → stateAt M xs p 
     → stateAt M xs (p + m) ≡ stateAt M xs (q + m)
 states-agree M xs p q m e same = state-along M xs p m ∙ ap₂ (run M) e same ∙ sym (state-along M xs q m)
 
+-- ---- commands below k: of two strings, of the first commands of one, and of the later ones
+pub low-append : (k : ℕ) (u v : List ℕ) → ((i : ℕ) → i < length u → getD u i 0 < k) → ((i : ℕ) → i < length v → getD v i 0 < k)
+    → (i : ℕ) → i < length (u ++ v) → getD (u ++ v) i 0 < k
+low-append k [] v p q i l = q i l
+low-append k (c ∷ u) v p q zero l = p 0 (omega arith)
+low-append k (c ∷ u) v p q (suc i) l = low-append k u v (λ j m. p (suc j) (omega arith)) q i (omega arith)
+
+pub low-take : (k n : ℕ) (u : List ℕ) → ((i : ℕ) → i < length u → getD u i 0 < k) → (i : ℕ) → i < length (take n u) → getD (take n u) i 0 < k
+low-take k n u h i l = let m = simp length-take at l in rw (getD-take n u i 0 (omega arith)) (h i (omega arith))
+
+pub low-drop : (k n : ℕ) (u : List ℕ) → ((i : ℕ) → i < length u → getD u i 0 < k) → (i : ℕ) → i < length (drop n u) → getD (drop n u) i 0 < k
+low-drop k n u h i l = let m = simp length-drop at l in rw (getD-drop n u i 0) (h (n + i) (omega arith))
+
 -- a proper machine stays among its states
 pub run-stays : (M : Mealy) → Proper M → (s : ℕ) (w : List ℕ) → s < M .n → ((i : ℕ) → i < length w → getD w i 0 < M .k) → run M s w < M .n
 unfolding run
@@ -105,6 +136,4 @@ run-stays M h s (c ∷ w) sl low = run-stays M h (M .next s c) w (h .stays s c s
 -- so every place of a sequence has one of its states
 pub state-stays : (M : Mealy) → Proper M → (xs : List ℕ) → ((i : ℕ) → i < length xs → getD xs i 0 < M .k) → (p : ℕ) → stateAt M xs p < M .n
 unfolding stateAt
-state-stays M h xs low p =
-    run-stays M h (M .start) (take p xs) (h .starts)
-    (λ i l. let k = simp length-take at l in rw (getD-take p xs i 0 (omega arith)) (low i (omega arith)))
+state-stays M h xs low p = run-stays M h (M .start) (take p xs) (h .starts) (low-take (M .k) p xs low)

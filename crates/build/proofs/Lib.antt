@@ -1,0 +1,9 @@
+mod Answering
+mod Connecting
+mod Descending
+mod Writes
+mod Parts
+mod Rounds
+mod Searching
+mod Table
+mod WordEnd

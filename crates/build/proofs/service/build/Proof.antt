@@ -1,0 +1,122 @@
+-- `build::service::build` meets its contract: each refusal with nothing written, and the sequence where nothing is refused.
+-- Assumes nothing.
+use mathlib.Core.Path.{refl, sym}
+use lib.Seq.{length-take-le}
+use denote.Ref.{now}
+use Rattle.sheet.specs.Reader.Laws.{handed-content}
+use Rattle.build.proofs.Answering.{front-none, early-refused, proper, eight-refused, table-ready, nine-refused, built}
+use borrow.Author.Needs.{needs}
+use Rattle.build.proofs.service.build.Statement.{statement}
+use Rattle.build.proofs.service.build.Tie as tie
+
+load-sheet-requires : tie.Need-load-sheet-requires
+load-sheet-requires c κs = search needs
+
+enum-known-earlier : tie.Need-enum-known-earlier
+enum-known-earlier c = search needs
+
+returns : tie.Need-returns
+returns c =
+    let start = c .before .before .before .before .before .before in
+    early-refused (now (start .args .sheet)) (now (start .args .buffer)) (c .before .before .before .load-sheet .result) (c .before .before .before .load-sheet .ensures) (c .before .earlier .given .1)
+
+enum-told : tie.Need-enum-told
+enum-told c = search needs
+
+read-requires : tie.Need-read-requires
+read-requires c κs = search needs
+
+slice-aggregate-connect : tie.Need-slice-aggregate-connect
+slice-aggregate-connect c = search needs
+
+connect-requires : tie.Need-connect-requires
+connect-requires c κs =
+    let start = c .before .before .before .before .before .before .before .before in
+    (proper (now (start .args .sheet)) (now (start .args .buffer)) (c .before .before .before .before .before .load-sheet .result) (c .before .before .before .before .before .load-sheet .ensures) (c .before .before .before .enum-told .given .1) (now (c .before .read .result)) (handed-content _ (start .args .sheet) (c .before .read .result) (c .before .read .ensures)), refl)
+
+enum-known-eight : tie.Need-enum-known-eight
+enum-known-eight c = search needs
+
+returns-2 : tie.Need-returns-2
+returns-2 c =
+    let start = c .before .before .before .before .before .before .before .before .before .before .before .before .before in
+    eight-refused (now (start .args .sheet)) (now (start .args .buffer)) (c .before .before .before .before .before .before .before .before .before .before .load-sheet .result) (c .before .before .before .before .before .before .before .before .before .before .load-sheet .ensures) (c .before .before .before .before .before .before .before .before .enum-told .given .1) (now (c .before .before .before .before .before .before .read .result)) (handed-content _ (start .args .sheet) (c .before .before .before .before .before .before .read .result) (c .before .before .before .before .before .before .read .ensures)) (c .before .before .before .before .connect .ensures .0) (c .before .eight .given .1)
+
+enum-told-2 : tie.Need-enum-told-2
+enum-told-2 c = search needs
+
+slice-aggregate-write-sequence : tie.Need-slice-aggregate-write-sequence
+slice-aggregate-write-sequence c = search needs
+
+slice-relend-prefix-write-sequence : tie.Need-slice-relend-prefix-write-sequence
+slice-relend-prefix-write-sequence c = search needs
+
+slice-aggregate-write-sequence-2 : tie.Need-slice-aggregate-write-sequence-2
+slice-aggregate-write-sequence-2 c =
+    sym (length-take-le _ (now (c .before .before .before .before .before .before .before .before .before .before .before .before .before .before .args .buffer)) (search needs))
+
+write-sequence-requires : tie.Need-write-sequence-requires
+write-sequence-requires c κs =
+    let start = c .before .before .before .before .before .before .before .before .before .before .before .before .before .before in
+    table-ready (now (start .args .sheet)) (now (start .args .buffer)) (c .before .before .before .before .before .before .before .before .before .before .before .load-sheet .result) (c .before .before .before .before .before .before .before .before .before .before .before .load-sheet .ensures) (c .before .before .before .before .before .before .before .before .before .enum-told .given .1) (now (c .before .before .before .before .before .before .before .read .result)) (handed-content _ (start .args .sheet) (c .before .before .before .before .before .before .before .read .result) (c .before .before .before .before .before .before .before .read .ensures)) (c .before .before .before .before .before .connect .ensures .0) (c .before .before .enum-told2 .given .1) _ (c .before .before .before .before .before .connect .ensures .1 (c .before .before .enum-told2 .given .1))
+
+refuse-requires : tie.Need-refuse-requires
+refuse-requires c κs = search needs
+
+enum-known-nine : tie.Need-enum-known-nine
+enum-known-nine c = search needs
+
+same-length : tie.Need-same-length
+same-length c = search needs
+
+returns-3 : tie.Need-returns-3
+returns-3 c =
+    let start = c .before .before .before .before .before .before .before .before .before .before .before .before .before .before .before .before .before .before .before .before .before in
+    nine-refused (now (start .args .sheet)) (now (start .args .buffer)) (c .before .before .before .before .before .before .before .before .before .before .before .before .before .before .before .before .before .before .load-sheet .result) (c .before .before .before .before .before .before .before .before .before .before .before .before .before .before .before .before .before .before .load-sheet .ensures) (c .before .before .before .before .before .before .before .before .before .before .before .before .before .before .before .before .enum-told .given .1) (now (c .before .before .before .before .before .before .before .before .before .before .before .before .before .before .read .result)) (handed-content _ (start .args .sheet) (c .before .before .before .before .before .before .before .before .before .before .before .before .before .before .read .result) (c .before .before .before .before .before .before .before .before .before .before .before .before .before .before .read .ensures)) (c .before .before .before .before .before .before .before .before .before .before .before .before .connect .ensures .0) (c .before .before .before .before .before .before .before .before .before .enum-told2 .given .1) (c .before .before .before .before .before .before .write-sequence .ensures .ends) (front-none (c .before .before .before .before .before .before .write-sequence .last .1 .1 .1 .0) (now (start .args .buffer)) (c .before .before .before .before .before .before .write-sequence .kept .1 .1 .1 .0)) (c .before .before .before .refuse .ensures) (c .before .nine .given .1)
+
+enum-told-3 : tie.Need-enum-told-3
+enum-told-3 c = search needs
+
+slice-aggregate-write-sequence-3 : tie.Need-slice-aggregate-write-sequence-3
+slice-aggregate-write-sequence-3 c = search needs
+
+write-sequence-requires-2 : tie.Need-write-sequence-requires-2
+write-sequence-requires-2 c κs =
+    let start = c .before .before .before .before .before .before .before .before .before .before .before .before .before .before .before .before .before .before .before .before .before .before in
+    table-ready (now (start .args .sheet)) (now (start .args .buffer)) (c .before .before .before .before .before .before .before .before .before .before .before .before .before .before .before .before .before .before .before .load-sheet .result) (c .before .before .before .before .before .before .before .before .before .before .before .before .before .before .before .before .before .before .before .load-sheet .ensures) (c .before .before .before .before .before .before .before .before .before .before .before .before .before .before .before .before .before .enum-told .given .1) (now (c .before .before .before .before .before .before .before .before .before .before .before .before .before .before .before .read .result)) (handed-content _ (start .args .sheet) (c .before .before .before .before .before .before .before .before .before .before .before .before .before .before .before .read .result) (c .before .before .before .before .before .before .before .before .before .before .before .before .before .before .before .read .ensures)) (c .before .before .before .before .before .before .before .before .before .before .before .before .before .connect .ensures .0) (c .before .before .before .before .before .before .before .before .before .before .enum-told2 .given .1) _ (c .before .before .before .before .before .before .before .before .before .before .before .before .before .connect .ensures .1 (c .before .before .before .before .before .before .before .before .before .before .enum-told2 .given .1))
+
+same-length-2 : tie.Need-same-length-2
+same-length-2 c = search needs
+
+returns-4 : tie.Need-returns-4
+returns-4 c =
+    let start = c .before .before .before .before .before .before .before .before .before .before .before .before .before .before .before .before .before .before .before .before .before .before .before .before .before in
+    built (now (start .args .sheet)) (now (start .args .buffer)) (c .before .before .before .before .before .before .before .before .before .before .before .before .before .before .before .before .before .before .before .before .before .before .load-sheet .result) (c .before .before .before .before .before .before .before .before .before .before .before .before .before .before .before .before .before .before .before .before .before .before .load-sheet .ensures) (c .before .before .before .before .before .before .before .before .before .before .before .before .before .before .before .before .before .before .before .before .enum-told .given .1) (now (c .before .before .before .before .before .before .before .before .before .before .before .before .before .before .before .before .before .before .read .result)) (handed-content _ (start .args .sheet) (c .before .before .before .before .before .before .before .before .before .before .before .before .before .before .before .before .before .before .read .result) (c .before .before .before .before .before .before .before .before .before .before .before .before .before .before .before .before .before .before .read .ensures)) (c .before .before .before .before .before .before .before .before .before .before .before .before .before .before .before .before .connect .ensures .0) (c .before .before .before .before .before .before .before .before .before .before .before .before .before .enum-told2 .given .1) (c .before .before .before .before .before .before .before .before .before .before .write-sequence .ensures .ends) (front-none (c .before .before .before .before .before .before .before .before .before .before .write-sequence .last .1 .1 .1 .0) (now (start .args .buffer)) (c .before .before .before .before .before .before .before .before .before .before .write-sequence .kept .1 .1 .1 .0)) (c .before .before .before .before .before .before .before .refuse .ensures) (c .before .before .before .before .before .enum-told3 .given .1) (c .before .before .write-sequence2 .ensures)
+
+pub build-spec : {M : Type 1} → statement M
+build-spec =
+    tie.close
+    (tie.spec
+    load-sheet-requires
+    enum-known-earlier
+    returns
+    enum-told
+    read-requires
+    slice-aggregate-connect
+    connect-requires
+    enum-known-eight
+    returns-2
+    enum-told-2
+    slice-aggregate-write-sequence
+    slice-relend-prefix-write-sequence
+    slice-aggregate-write-sequence-2
+    write-sequence-requires
+    refuse-requires
+    enum-known-nine
+    same-length
+    returns-3
+    enum-told-3
+    slice-aggregate-write-sequence-3
+    write-sequence-requires-2
+    same-length-2
+    returns-4)

@@ -1,0 +1,243 @@
+-- The laws of the service: its answer and the lent buffer by the first cause; it succeeds exactly on what is buildable; and what an answer of
+-- built shows of the sequence.
+use Prim.Native.Nat.{ℕ, _+_, _-_, _≤_, _<_}
+use mathlib.Core.Path.{_≡_, refl, sym, ap, _∙_}
+use mathlib.Core.Bool.{true}
+use mathlib.Core.List.{List, [], _∷_, _++_}
+use native.Mathlib.Omega.{arith}
+use borrow.Author.Tests.{ltb-true, ltb-false, le-ltb}
+use lib.Dec.{ltb}
+use lib.ListN.{length, take, drop}
+use lib.Seq.{take-append-seam, drop-append-seam}
+use Rattle.sheet.specs.declared.check.Check.{Check}
+use Rattle.sheet.specs.declared.check.Check.the-variants.{Clear, Refused}
+use Rattle.sheet.specs.Check.{_else_, firstCause}
+use Rattle.sheet.specs.Check.Laws.{absent, clear-absent, present-test, both-clear, else-clear, else-refused, cause-cons, cause-one, cause-append}
+use Rattle.sheet.specs.Reader.{the, content}
+use Rattle.machine.specs.Limits.{mostWord, mostSequence}
+use Rattle.machine.specs.Machine.{Mealy, run, Proper, Commands}
+use Rattle.machine.specs.Causes.{cause6, machineIn, wordCauses, loadCauses}
+use Rattle.machine.specs.Causes.Laws.{clear-commands}
+use Rattle.machine.specs.Causes.Separation.{separates-clear}
+use Rattle.machine.specs.Causes.Lists.{word-causes-are, load-causes-are, machine-proper, clear-table, word-distinguishes}
+use Rattle.certify.specs.declared.answer.Answer.the-variants.{Certified as CertifiedAnswer}
+use Rattle.certify.specs.Recognition.{Certified}
+use Rattle.certify.specs.Marks.{count, marks}
+use Rattle.certify.specs.Certification.{certifyNeeds, cause9, certifyCauses, outcome, certification}
+use Rattle.certify.specs.Certification.Laws.{cause9-is, certified-clear, outcome-clear, certification-clear}
+use Rattle.build.specs.declared.service.Answer.the-variants.{Built, Refused as RefusedAnswer}
+use Rattle.build.specs.Sequence.{following, sequence, lengthBound}
+use Rattle.build.specs.Sequence.Laws.{Blocks, sequence-leads}
+use Rattle.build.specs.Sequence.Certified.{sequence-some, sequence-certified}
+use Rattle.build.specs.Sequence.Length.{sequence-length, sequence-low, longest-below}
+use Rattle.build.specs.Building.{buildNeeds, cause8, buildCauses, builtUnless, building, bufferAfter, Buildable}
+use Rattle.build.specs.Building.Laws.{clear-blocks, clear-connected, connected-clear, NotConnected, refused-unconnected}
+
+-- ---- the causes in order
+pub build-causes-are : (room : ℕ) (s : List ℕ) → firstCause (buildCauses room s)
+    ≡ (firstCause (loadCauses buildNeeds s) else (cause8 (machineIn s) (content 2 s) else cause9 room (length (sequence (machineIn s) (content 2 s)))))
+unfolding buildCauses
+build-causes-are room s =
+    let eight = cause8 (machineIn s) (content 2 s) in
+    let nine = cause9 room (length (sequence (machineIn s) (content 2 s))) in
+    cause-append (loadCauses buildNeeds s) (eight ∷ nine ∷ [])
+    ∙ ap (λ (c : Check). firstCause (loadCauses buildNeeds s) else c) (cause-cons eight (nine ∷ []) ∙ ap (λ (c : Check). eight else c) (cause-one nine))
+
+module _ (room : ℕ) (s : List ℕ) where
+  -- the first cause is one of 1 to 6
+  pub refused-early : {a b : ℕ} → firstCause (loadCauses buildNeeds s) ≡ Refused a b → firstCause (buildCauses room s) ≡ Refused a b
+  refused-early {a} {b} e = build-causes-are room s ∙ (rw e (else-refused a b _))
+
+  -- where these are clear, it is cause 8 or, behind it, 9
+  pub refused-eight : firstCause (loadCauses buildNeeds s) ≡ Clear → {a b : ℕ} → cause8 (machineIn s) (content 2 s) ≡ Refused a b → firstCause (buildCauses room s) ≡ Refused a b
+  refused-eight e {a} {b} f = build-causes-are room s ∙ (rw (e, f) (else-clear _ ∙ else-refused a b _))
+
+  pub room-cause : firstCause (loadCauses buildNeeds s) ≡ Clear → cause8 (machineIn s) (content 2 s) ≡ Clear
+      → firstCause (buildCauses room s) ≡ cause9 room (length (sequence (machineIn s) (content 2 s)))
+  room-cause e f = build-causes-are room s ∙ (rw (e, f) (else-clear _ ∙ else-clear _))
+
+  -- ---- where all are clear
+  module _ (e : firstCause (buildCauses room s) ≡ Clear) where
+    parts-clear : (firstCause (loadCauses buildNeeds s) ≡ Clear) × ((cause8 (machineIn s) (content 2 s) else cause9 room (length (sequence (machineIn s) (content 2 s)))) ≡ Clear)
+    parts-clear = both-clear _ _ (sym (build-causes-are room s) ∙ e)
+
+    pub load-clear : firstCause (loadCauses buildNeeds s) ≡ Clear
+    load-clear = parts-clear .0
+
+    pub eight-clear : cause8 (machineIn s) (content 2 s) ≡ Clear
+    eight-clear = both-clear _ _ (parts-clear .1) .0
+
+    pub room-enough : length (sequence (machineIn s) (content 2 s)) ≤ room
+    room-enough =
+        let n = length (sequence (machineIn s) (content 2 s)) in
+        ltb-false room n (clear-absent 9 n (ltb room n) (cause9-is room n ∙ both-clear _ _ (parts-clear .1) .1))
+
+  -- ---- the answer and the buffer
+  pub building-refused : {a b : ℕ} → firstCause (buildCauses room s) ≡ Refused a b → building room s ≡ RefusedAnswer a b
+  unfolding building
+  building-refused e = rw e
+
+  pub building-clear : firstCause (buildCauses room s) ≡ Clear → building room s ≡ Built (length (sequence (machineIn s) (content 2 s)))
+  unfolding building
+  building-clear e = rw e
+
+  built-by : (c : Check) (m : ℕ) {n : ℕ} → builtUnless c m ≡ Built n → (c ≡ Clear) × (n ≡ m)
+  built-by Clear m e = (refl, cc)
+  built-by (Refused a b) m e = let z : _≡_ {A = ℕ} 0 1 = cc in absurd (omega arith)
+
+  refused-by : (c : Check) (m : ℕ) {a b : ℕ} → builtUnless c m ≡ RefusedAnswer a b → c ≡ Refused a b
+  refused-by Clear m e = let z : _≡_ {A = ℕ} 0 1 = cc in absurd (omega arith)
+  refused-by (Refused a b) m e = cc
+
+  -- an answer of built: nothing is refused, and the number is the sequence's length
+  pub answer-built : {n : ℕ} → building room s ≡ Built n → (firstCause (buildCauses room s) ≡ Clear) × (n ≡ length (sequence (machineIn s) (content 2 s)))
+  unfolding building
+  answer-built {n} e = built-by (firstCause (buildCauses room s)) (length (sequence (machineIn s) (content 2 s))) e
+
+  -- an answer of refused: that is the first cause
+  pub answer-refused : {a b : ℕ} → building room s ≡ RefusedAnswer a b → firstCause (buildCauses room s) ≡ Refused a b
+  unfolding building
+  answer-refused {a} {b} e = refused-by (firstCause (buildCauses room s)) (length (sequence (machineIn s) (content 2 s))) e
+
+module _ (s buffer : List ℕ) where
+  pub buffer-refused : {a b : ℕ} → firstCause (buildCauses (length buffer) s) ≡ Refused a b → bufferAfter s buffer ≡ buffer
+  unfolding bufferAfter
+  buffer-refused e = rw e
+
+  pub buffer-clear : firstCause (buildCauses (length buffer) s) ≡ Clear
+      → bufferAfter s buffer ≡ sequence (machineIn s) (content 2 s) ++ drop (length (sequence (machineIn s) (content 2 s))) buffer
+  unfolding bufferAfter
+  buffer-clear e = rw e
+
+-- ---- building succeeds exactly where the sheet is well formed, the word separates, the table is strongly connected, and there is room
+module _ (room : ℕ) (s : List ℕ) where
+  pub clear-buildable : firstCause (buildCauses room s) ≡ Clear → Buildable room s
+  clear-buildable e =
+      let load = load-clear room s e in
+      let table = clear-table buildNeeds s load in
+      let word : firstCause (wordCauses true s) ≡ Clear = both-clear _ _ (sym (load-causes-are buildNeeds s) ∙ load) .1 in
+      let d = word-distinguishes buildNeeds s refl load in
+      record {
+        machine = table;
+        word = both-clear _ _ (sym (word-causes-are s) ∙ word) .0;
+        separates = d .separates;
+        connected = clear-connected (machineIn s) (content 2 s) (machine-proper buildNeeds s table) (d .commands) (eight-clear room s e);
+        fits = room-enough room s e;
+      }
+
+  pub buildable-clear : Buildable room s → firstCause (buildCauses room s) ≡ Clear
+  buildable-clear h =
+      let six : cause6 (machineIn s) (content 2 s) ≡ Clear = separates-clear (machineIn s) (content 2 s) (h .separates) in
+      let word : firstCause (wordCauses true s) ≡ Clear = word-causes-are s ∙ (rw (h .word, six) (else-clear Clear)) in
+      let load : firstCause (loadCauses buildNeeds s) ≡ Clear = load-causes-are buildNeeds s ∙ (rw (h .machine, word) (else-clear Clear)) in
+      let commands : Commands mostWord (machineIn s .k) (content 2 s) = clear-commands 5 mostWord (machineIn s .k) (the 2 s) (content 2 s) (h .word) in
+      let eight = connected-clear (machineIn s) (content 2 s) (machine-proper buildNeeds s (h .machine)) commands (h .connected) in
+      room-cause room s load eight ∙ sym (cause9-is room (length (sequence (machineIn s) (content 2 s)))) ∙ absent 9 _ (le-ltb _ _ (h .fits))
+
+  pub built-buildable : {n : ℕ} → building room s ≡ Built n → Buildable room s
+  built-buildable e = clear-buildable (answer-built room s e .0)
+
+  pub buildable-built : Buildable room s → building room s ≡ Built (length (sequence (machineIn s) (content 2 s)))
+  buildable-built h = building-clear room s (buildable-clear h)
+
+-- ---- a refusal
+data Which (c d e : Check) (a b : ℕ) : Type 0 where
+  one : c ≡ Refused a b → Which c d e a b
+  two : c ≡ Clear → d ≡ Refused a b → Which c d e a b
+  three : c ≡ Clear → d ≡ Clear → e ≡ Refused a b → Which c d e a b
+
+which : (c d e : Check) {a b : ℕ} → (c else (d else e)) ≡ Refused a b → Which c d e a b
+which Clear Clear e h = three refl refl (sym (else-clear (Clear else e) ∙ else-clear e) ∙ h)
+which Clear (Refused n p) e h = two refl (sym (else-clear (Refused n p else e) ∙ else-refused n p e) ∙ h)
+which (Refused n p) d e h = one (sym (else-refused n p (d else e)) ∙ h)
+
+-- why building refuses with number a and place b: one of causes 1 to 6; 8, at the least s from which no path of any length leads on; or 9, with
+-- the built length, which is above the room
+pub data RefusedFor (room : ℕ) (s : List ℕ) (a b : ℕ) : Type 0 where
+  early : firstCause (loadCauses buildNeeds s) ≡ Refused a b → RefusedFor room s a b
+  unconnected : a ≡ 8 → NotConnected (machineIn s) (content 2 s) b → RefusedFor room s a b
+  narrow : a ≡ 9 → b ≡ length (sequence (machineIn s) (content 2 s)) → room < b → RefusedFor room s a b
+
+module _ (room : ℕ) (s : List ℕ) where
+  narrow-by : {a b : ℕ} → cause9 room (length (sequence (machineIn s) (content 2 s))) ≡ Refused a b → RefusedFor room s a b
+  narrow-by {a} {b} e =
+      let n = length (sequence (machineIn s) (content 2 s)) in
+      let t = present-test 9 n (ltb room n) (cause9-is room n ∙ e) in
+      let above : room < n = ltb-true room n (t .0) in
+      narrow (t .1 .0) (t .1 .1) (omega (arith, t .1 .1))
+
+  why : {a b : ℕ} → Which (firstCause (loadCauses buildNeeds s)) (cause8 (machineIn s) (content 2 s)) (cause9 room (length (sequence (machineIn s) (content 2 s)))) a b
+      → RefusedFor room s a b
+  why (one e) = early e
+  why (two l e) =
+      let proper = machine-proper buildNeeds s (clear-table buildNeeds s l) in
+      let r = refused-unconnected (machineIn s) (content 2 s) proper (word-distinguishes buildNeeds s refl l .commands) e in
+      unconnected (r .0) (r .1)
+  why (three l c e) = narrow-by e
+
+  pub refused-shows : {a b : ℕ} → building room s ≡ RefusedAnswer a b → RefusedFor room s a b
+  refused-shows e = why (which _ _ _ (sym (build-causes-are room s) ∙ answer-refused room s e))
+
+-- it writes nothing
+pub refused-buffer : (s buffer : List ℕ) {a b : ℕ} → building (length buffer) s ≡ RefusedAnswer a b → bufferAfter s buffer ≡ buffer
+refused-buffer s buffer e = buffer-refused s buffer (answer-refused (length buffer) s e)
+
+-- ---- what is built
+-- a sequence of n commands of a machine M and a word w: it is certified, by certification's own definition and so by what it computes; its
+-- commands are the machine's, no more than a sequence may have; n is within the formula; and where it ends
+pub record BuiltSequence (M : Mealy) (w xs : List ℕ) (n : ℕ) : Type 0 where
+  pub long : n ≡ length xs
+  pub commands : Commands mostSequence (M .k) xs
+  pub bounded : n ≤ lengthBound M w
+  pub certified : Certified M w xs
+  pub outcome : outcome M w xs ≡ CertifiedAnswer (count (marks M w xs))
+  pub ends : run M (M .start) xs ≡ following (M .n) (M .next (M .n - 1) (M .k - 1))
+
+pub sequence-built : (M : Mealy) (w : List ℕ) → Proper M → Commands mostWord (M .k) w → cause8 M w ≡ Clear → BuiltSequence M w (sequence M w) (length (sequence M w))
+sequence-built M w proper commands clear =
+    let blocks : Blocks M w = clear-blocks M w proper commands clear in
+    let short = sequence-length M w blocks in
+    let certified = sequence-certified M w blocks in
+    record {
+      long = refl;
+      commands = record { some = sequence-some M w blocks; few = omega (arith, longest-below M w proper (commands .few)); low = sequence-low M w blocks };
+      bounded = short;
+      certified = certified;
+      outcome = outcome-clear M w (sequence M w) (certified-clear M w (sequence M w) certified);
+      ends = sequence-leads M w blocks;
+    }
+
+-- in a room of 20,355 bytes cause 9 is never present
+pub always-fits : (room : ℕ) (s : List ℕ) → mostSequence ≤ room → firstCause (loadCauses buildNeeds s) ≡ Clear → cause8 (machineIn s) (content 2 s) ≡ Clear
+    → firstCause (buildCauses room s) ≡ Clear
+always-fits room s l load eight =
+    let proper = machine-proper buildNeeds s (clear-table buildNeeds s load) in
+    let xs = sequence-built (machineIn s) (content 2 s) proper (word-distinguishes buildNeeds s refl load .commands) eight in
+    let n = length (sequence (machineIn s) (content 2 s)) in
+    room-cause room s load eight ∙ sym (cause9-is room n) ∙ absent 9 n (le-ltb room n (omega (arith, xs .commands .few)))
+
+-- an answer of built shows all that of the sequence
+pub built-shows : (room : ℕ) (s : List ℕ) {n : ℕ} → building room s ≡ Built n → BuiltSequence (machineIn s) (content 2 s) (sequence (machineIn s) (content 2 s)) n
+built-shows room s e =
+    let a = answer-built room s e in
+    let load = load-clear room s (a .0) in
+    let d = word-distinguishes buildNeeds s refl load in
+    rw (a .1) (sequence-built (machineIn s) (content 2 s) (machine-proper buildNeeds s (clear-table buildNeeds s load)) (d .commands) (eight-clear room s (a .0)))
+
+-- and of the buffer: its first bytes are the sequence, the later ones as they were
+pub built-buffer : (s buffer : List ℕ) {n : ℕ} → building (length buffer) s ≡ Built n
+    → (take n (bufferAfter s buffer) ≡ sequence (machineIn s) (content 2 s)) × (drop n (bufferAfter s buffer) ≡ drop n buffer)
+built-buffer s buffer e =
+    let a = answer-built (length buffer) s e in
+    let after = buffer-clear s buffer (a .0) in
+    let xs = sequence (machineIn s) (content 2 s) in
+    rw (a .1, after) (take-append-seam xs (drop (length xs) buffer), drop-append-seam xs (drop (length xs) buffer))
+
+-- a sheet with the same machine and word, and what is built as its sequence, is answered certified wherever certifying refuses nothing
+pub built-certification : (room : ℕ) (s : List ℕ) {n : ℕ} → building room s ≡ Built n → (marksRoom : ℕ) (with-sequence : List ℕ)
+    → machineIn with-sequence ≡ machineIn s → content 2 with-sequence ≡ content 2 s → content 3 with-sequence ≡ sequence (machineIn s) (content 2 s)
+    → firstCause (certifyCauses certifyNeeds marksRoom with-sequence) ≡ Clear
+    → certification marksRoom with-sequence ≡ CertifiedAnswer (count (marks (machineIn s) (content 2 s) (sequence (machineIn s) (content 2 s))))
+built-certification room s e marksRoom with-sequence me we xe clear =
+    let shows = built-shows room s e in
+    certification-clear marksRoom with-sequence clear ∙ (rw (me, we, xe) (shows .outcome))

@@ -1,0 +1,5 @@
+pub mod Transfer
+pub mod Sequence
+pub mod Building
+pub mod Distances
+pub mod Writing

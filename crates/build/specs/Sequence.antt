@@ -1,0 +1,88 @@
+-- The prescribed sequence (document 01, "Building"), of a machine M and a word w: the field's checking sequence. Sequence.Cycle has the laws
+-- of the states counted round, Sequence.Laws where each part leads; Sequence.Certified shows that the sequence is certified, Sequence.Length
+-- how long it is at most. In the laws T(s) is called a block.
+use Prim.Native.Nat.{ℕ, zero, suc, _+_, _-_, _*_}
+use mathlib.Core.Bool.{Bool, true, false}
+use mathlib.Core.List.{List, [], _∷_, _++_}
+use mathlib.Core.Option.{Option, none, some}
+use lib.Dec.{eqb}
+use lib.ListN.{length}
+use Rattle.machine.specs.Machine.{Mealy, run}
+use Rattle.build.specs.Transfer.{transfer}
+pub mod Cycle
+pub mod Laws
+pub mod Certified
+pub mod Length
+
+-- 0, or one more
+abbrev pub nextOr : Bool → ℕ → ℕ
+nextOr true s = 0
+nextOr false s = s + 1
+
+-- "s+1 (0 after n-1)", of a number of states n
+unfoldable pub following : ℕ → ℕ → ℕ
+following n s = nextOr (eqb (s + 1) n) s
+
+-- "the transfer B(s) .. from where the word takes s to s+1 (0 after n-1)"
+abbrev pub B : Mealy → List ℕ → ℕ → Option (List ℕ)
+B M w s = transfer M (run M s w) (following (M .n) s)
+
+-- a string; the empty one where there is none: then cause 8 is present and nothing is built
+abbrev pub orEmpty : Option (List ℕ) → List ℕ
+orEmpty none = []
+orEmpty (some t) = t
+
+-- "T(s) is the word followed by B(s)": the field's T-sequence
+unfoldable pub T : Mealy → List ℕ → ℕ → List ℕ
+T M w s = w ++ orEmpty (B M w s)
+
+-- the i-th state after the start, counted round; "0 is the start", so it is state i for each i below n: nthState-is, in Sequence.Cycle
+unfoldable pub nthState : Mealy → ℕ → ℕ
+nthState M zero = M .start
+nthState M (suc i) = following (M .n) (nthState M i)
+
+-- the first i of T(0), T(1), ..
+unfoldable pub round : Mealy → List ℕ → ℕ → List ℕ
+round M w zero = []
+round M w (suc i) = round M w i ++ T M w (nthState M i)
+
+-- "T(0), T(1), .., T(n-1), T(0)": the field's α-sequence
+unfoldable pub opening : Mealy → List ℕ → List ℕ
+opening M w = round M w (M .n) ++ T M w (M .start)
+
+-- commands, unless a state is reached already
+abbrev pub unless : Bool → List ℕ → List ℕ
+unless true xs = []
+unless false xs = xs
+
+-- "T of the present state, again and again, until state s is reached (none if already there)", at most i times. n times are enough
+-- (approach-reaches, in Sequence.Laws), and without the bound it reads: approach-here, approach-more
+unfoldable pub approach : Mealy → List ℕ → ℕ → ℕ → ℕ → List ℕ
+approach M w zero present s = []
+approach M w (suc i) present s = unless (eqb present s) (T M w present ++ approach M w i (run M present (T M w present)) s)
+
+-- an entry's test: the approach, "the command, then T of the state it leads to". The command with T is the field's transition test
+unfoldable pub test : Mealy → List ℕ → ℕ → ℕ → ℕ → List ℕ
+test M w present s c = approach M w (M .n) present s ++ (c ∷ T M w (M .next s c))
+
+-- "commands rising inside a state": the tests of a state's first entries, from the present state on
+unfoldable pub stateTests : Mealy → List ℕ → ℕ → ℕ → ℕ → List ℕ
+stateTests M w present s zero = []
+stateTests M w present s (suc c) = let xs = stateTests M w present s c in xs ++ test M w (run M present xs) s c
+
+-- "for each entry, states rising": the tests of the first states' entries
+unfoldable pub tests : Mealy → List ℕ → ℕ → ℕ → List ℕ
+tests M w present zero = []
+tests M w present (suc s) = let xs = tests M w present s in xs ++ stateTests M w (run M present xs) s (M .k)
+
+-- the sequence
+unfoldable pub sequence : Mealy → List ℕ → List ℕ
+sequence M w = let xs = opening M w in xs ++ tests M w (run M (M .start) xs) (M .n)
+
+-- "c = L+n-1", which no T(s) is longer than
+abbrev pub blockBound : Mealy → List ℕ → ℕ
+blockBound M w = length w + M .n - 1
+
+-- "the length is at most (n+1)c + nk(nc+1)": sequence-length, in Sequence.Length
+unfoldable pub lengthBound : Mealy → List ℕ → ℕ
+lengthBound M w = (M .n + 1) * blockBound M w + M .n * M .k * (M .n * blockBound M w + 1)

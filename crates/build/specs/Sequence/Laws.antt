@@ -1,0 +1,203 @@
+-- The laws of the prescribed sequence: where each part of it leads.
+use Prim.Native.Nat.{ℕ, zero, suc, _+_, _-_, _≤_, _<_}
+use mathlib.Core.Path.{_≡_, refl, sym, ap, _∙_}
+use mathlib.Core.Bool.{Bool, true, false}
+use mathlib.Core.List.{List, [], _∷_, _++_}
+use native.Mathlib.Omega.{arith}
+use borrow.Author.Tests.{eq-eqb, ne-eqb, eqb-true, eqb-false}
+use lib.Dec.{eqb}
+use lib.ListN.{length, getD}
+use Rattle.machine.specs.Machine.{Mealy, run, Proper}
+use Rattle.machine.specs.Machine.Laws.{run-none, run-append, run-cons}
+use Rattle.build.specs.Sequence.{following, B, orEmpty, T, nthState, round, opening, approach, test, stateTests, tests, sequence, blockBound}
+use Rattle.build.specs.Sequence.Cycle.{following-below, gap, gap-below, gap-none, gap-step, nthState-below, nthState-home}
+
+-- what the blocks T(s) have where every transfer is there: each leads to the state after its own, begins with the word, is of the machine's
+-- commands and at most c long
+pub record Blocks (M : Mealy) (w : List ℕ) : Type 0 where
+  pub proper : Proper M
+  pub some : 1 ≤ length w
+  pub leads : (s : ℕ) → s < M .n → run M s (T M w s) ≡ following (M .n) s
+  pub begins : (s : ℕ) → s < M .n → (t : List ℕ) × (T M w s ≡ w ++ t)
+  pub low : (s : ℕ) → s < M .n → (i : ℕ) → i < length (T M w s) → getD (T M w s) i 0 < M .k
+  pub short : (s : ℕ) → s < M .n → length (T M w s) ≤ blockBound M w
+
+-- ---- one more of each part
+module _ (M : Mealy) (w : List ℕ) where
+  pub T-is : (s : ℕ) → T M w s ≡ w ++ orEmpty (B M w s)
+  unfolding T
+  T-is s = refl
+
+  pub round-none : round M w 0 ≡ []
+  unfolding round
+  round-none = refl
+
+  pub round-more : (i : ℕ) → round M w (suc i) ≡ round M w i ++ T M w (nthState M i)
+  unfolding round
+  round-more i = refl
+
+  pub state-tests-none : (p s : ℕ) → stateTests M w p s 0 ≡ []
+  unfolding stateTests
+  state-tests-none p s = refl
+
+  pub state-tests-more : (p s c : ℕ) → stateTests M w p s (suc c) ≡ stateTests M w p s c ++ test M w (run M p (stateTests M w p s c)) s c
+  unfolding stateTests
+  state-tests-more p s c = refl
+
+  pub tests-none : (p : ℕ) → tests M w p 0 ≡ []
+  unfolding tests
+  tests-none p = refl
+
+  pub tests-more : (p s : ℕ) → tests M w p (suc s) ≡ tests M w p s ++ stateTests M w (run M p (tests M w p s)) s (M .k)
+  unfolding tests
+  tests-more p s = refl
+
+  pub test-is : (p s c : ℕ) → test M w p s c ≡ approach M w (M .n) p s ++ (c ∷ T M w (M .next s c))
+  unfolding test
+  test-is p s c = refl
+
+  pub sequence-is : sequence M w ≡ opening M w ++ tests M w (run M (M .start) (opening M w)) (M .n)
+  unfolding sequence
+  sequence-is = refl
+
+  -- ---- the approach
+  pub approach-none : (p s : ℕ) → approach M w 0 p s ≡ []
+  unfolding approach
+  approach-none p s = refl
+
+  -- none where the state is reached already
+  pub approach-here : (i s : ℕ) → approach M w i s s ≡ []
+  unfolding approach
+  approach-here zero s = refl
+  approach-here (suc i) s = rw (eq-eqb s s refl)
+
+  -- else T of the present state, and on from where it leads
+  pub approach-on : (i p s : ℕ) → (p ≡ s → ⊥) → approach M w (suc i) p s ≡ T M w p ++ approach M w i (run M p (T M w p)) s
+  unfolding approach
+  approach-on i p s ne = rw (ne-eqb p s ne)
+
+module _ (M : Mealy) (w : List ℕ) (h : Blocks M w) where
+  -- T of a state p other than s, then the approach from the state after p
+  pub approach-step : (i p s : ℕ) → p < M .n → (p ≡ s → ⊥) → approach M w (suc i) p s ≡ T M w p ++ approach M w i (following (M .n) p) s
+  approach-step i p s pl ne = approach-on M w i p s ne ∙ ap (λ (x : ℕ). T M w p ++ approach M w i x s) (h .leads p pl)
+
+  -- any number of times that is not below the gap is enough
+  same-at : (i j s : ℕ) → approach M w i s s ≡ approach M w j s s
+  same-at i j s = approach-here M w i s ∙ sym (approach-here M w j s)
+
+  same-by : (i j p s : ℕ) → p < M .n → (b : Bool) → eqb p s ≡ b
+      → ((p ≡ s → ⊥) → approach M w i (following (M .n) p) s ≡ approach M w j (following (M .n) p) s) → approach M w (suc i) p s ≡ approach M w (suc j) p s
+  same-by i j p s pl true e on = rw (eqb-true p s e) (same-at (suc i) (suc j) s)
+  same-by i j p s pl false e on =
+      let ne = eqb-false p s e in
+      approach-step i p s pl ne ∙ ap (λ (xs : List ℕ). T M w p ++ xs) (on ne) ∙ sym (approach-step j p s pl ne)
+
+  approach-same : (i j p s : ℕ) → p < M .n → s < M .n → gap (M .n) p s ≤ i → gap (M .n) p s ≤ j → approach M w i p s ≡ approach M w j p s
+  approach-same zero j p s pl sl li lj = rw (gap-none (M .n) p s pl (omega arith)) (same-at zero j s)
+  approach-same (suc i) zero p s pl sl li lj = rw (gap-none (M .n) p s pl (omega arith)) (same-at (suc i) zero s)
+  approach-same (suc i) (suc j) p s pl sl li lj =
+      same-by i j p s pl (eqb p s) refl
+      (λ ne. let st = gap-step (M .n) p s pl sl ne in
+      approach-same i j (following (M .n) p) s (following-below (M .n) p pl) sl (omega arith) (omega arith))
+
+  -- the same, for the n times of the definition
+  pub approach-more : (p s : ℕ) → p < M .n → s < M .n → (p ≡ s → ⊥) → approach M w (M .n) p s ≡ T M w p ++ approach M w (M .n) (following (M .n) p) s
+  approach-more p s pl sl ne =
+      let g = gap-below (M .n) p s pl sl in
+      let st = gap-step (M .n) p s pl sl ne in
+      approach-same (M .n) (suc (M .n)) p s pl sl (omega arith) (omega arith) ∙ approach-step (M .n) p s pl ne
+
+  -- it reaches s
+  reached-at : (i s : ℕ) → run M s (approach M w i s s) ≡ s
+  reached-at i s = ap (run M s) (approach-here M w i s) ∙ run-none M s
+
+  reached-by : (i p s : ℕ) → p < M .n → (b : Bool) → eqb p s ≡ b
+      → ((p ≡ s → ⊥) → run M (following (M .n) p) (approach M w i (following (M .n) p) s) ≡ s) → run M p (approach M w (suc i) p s) ≡ s
+  reached-by i p s pl true e on = rw (eqb-true p s e) (reached-at (suc i) s)
+  reached-by i p s pl false e on =
+      let ne = eqb-false p s e in
+      let rest = approach M w i (following (M .n) p) s in
+      ap (run M p) (approach-step i p s pl ne)
+      ∙ run-append M p (T M w p) rest
+      ∙ ap (λ (x : ℕ). run M x rest) (h .leads p pl)
+      ∙ on ne
+
+  reaches : (i p s : ℕ) → p < M .n → s < M .n → gap (M .n) p s ≤ i → run M p (approach M w i p s) ≡ s
+  reaches zero p s pl sl l = rw (gap-none (M .n) p s pl (omega arith)) (reached-at zero s)
+  reaches (suc i) p s pl sl l =
+      reached-by i p s pl (eqb p s) refl
+      (λ ne. let st = gap-step (M .n) p s pl sl ne in reaches i (following (M .n) p) s (following-below (M .n) p pl) sl (omega arith))
+
+  pub approach-reaches : (p s : ℕ) → p < M .n → s < M .n → run M p (approach M w (M .n) p s) ≡ s
+  approach-reaches p s pl sl = let g = gap-below (M .n) p s pl sl in reaches (M .n) p s pl sl (omega arith)
+
+  -- ---- the opening
+  pub round-leads : (i : ℕ) → run M (M .start) (round M w i) ≡ nthState M i
+  unfolding round nthState
+  round-leads zero = run-none M (M .start)
+  round-leads (suc i) =
+      run-append M (M .start) (round M w i) (T M w (nthState M i))
+      ∙ ap (λ (x : ℕ). run M x (T M w (nthState M i))) (round-leads i)
+      ∙ h .leads (nthState M i) (nthState-below M (h .proper) i)
+
+  pub opening-is : opening M w ≡ round M w (suc (M .n))
+  unfolding opening round
+  opening-is = ap (λ (x : ℕ). round M w (M .n) ++ T M w x) (sym (nthState-home M (h .proper)))
+
+  pub opening-leads : run M (M .start) (opening M w) ≡ following (M .n) (M .start)
+  unfolding nthState
+  opening-leads = ap (run M (M .start)) opening-is ∙ round-leads (suc (M .n)) ∙ ap (following (M .n)) (nthState-home M (h .proper))
+
+  -- ---- the tests
+  -- a test leads to the state after the one that the entry leads to
+  pub test-leads : (p s c : ℕ) → p < M .n → s < M .n → c < M .k → run M p (test M w p s c) ≡ following (M .n) (M .next s c)
+  unfolding test
+  test-leads p s c pl sl cl =
+      run-append M p (approach M w (M .n) p s) (c ∷ T M w (M .next s c))
+      ∙ ap (λ (x : ℕ). run M x (c ∷ T M w (M .next s c))) (approach-reaches p s pl sl)
+      ∙ run-cons M s c (T M w (M .next s c))
+      ∙ h .leads (M .next s c) (h .proper .stays s c sl cl)
+
+  pub test-stays : (p s c : ℕ) → p < M .n → s < M .n → c < M .k → run M p (test M w p s c) < M .n
+  test-stays p s c pl sl cl = rw (test-leads p s c pl sl cl) (following-below (M .n) (M .next s c) (h .proper .stays s c sl cl))
+
+  -- the tests of the first s + 1 states lead to the state after the one that the last entry leads to
+  last-test : (p s c : ℕ) → p < M .n → s < M .n → c < M .k → (q : ℕ) → run M p (stateTests M w p s c) ≡ q → q < M .n
+      → run M p (stateTests M w p s (suc c)) ≡ following (M .n) (M .next s c)
+  last-test p s c pl sl cl q e ql =
+      let xs = stateTests M w p s c in
+      ap (run M p) (state-tests-more M w p s c)
+      ∙ run-append M p xs (test M w (run M p xs) s c)
+      ∙ ap (λ (x : ℕ). run M x (test M w x s c)) e
+      ∙ test-leads q s c ql sl cl
+
+  pub state-tests-stay : (p s c : ℕ) → p < M .n → s < M .n → c ≤ M .k → run M p (stateTests M w p s c) < M .n
+  state-tests-stay p s zero pl sl cl = rw (state-tests-none M w p s, run-none) pl
+  state-tests-stay p s (suc c) pl sl cl =
+      rw (last-test p s c pl sl cl _ refl (state-tests-stay p s c pl sl (omega arith))) (following-below (M .n) (M .next s c) (h .proper .stays s c sl cl))
+
+  state-tests-lead : (p s c : ℕ) → p < M .n → s < M .n → c < M .k → run M p (stateTests M w p s (suc c)) ≡ following (M .n) (M .next s c)
+  state-tests-lead p s c pl sl cl = last-test p s c pl sl cl _ refl (state-tests-stay p s c pl sl (omega arith))
+
+  pub tests-stay : (p s : ℕ) → p < M .n → s ≤ M .n → run M p (tests M w p s) < M .n
+  tests-stay p zero pl sl = rw (tests-none M w p, run-none) pl
+  tests-stay p (suc s) pl sl =
+      rw (tests-more M w p s, run-append) (state-tests-stay (run M p (tests M w p s)) s (M .k) (tests-stay p s pl (omega arith)) sl (omega arith))
+
+  -- the sequence ends in the state after the one that the last entry leads to
+  ends-by : (p s c : ℕ) → p < M .n → M .n ≡ suc s → M .k ≡ suc c → run M p (tests M w p (M .n)) ≡ following (M .n) (M .next s c)
+  ends-by p s c pl ne ke =
+      let q = run M p (tests M w p s) in
+      ap (λ (x : ℕ). run M p (tests M w p x)) ne
+      ∙ ap (run M p) (tests-more M w p s)
+      ∙ run-append M p (tests M w p s) (stateTests M w q s (M .k))
+      ∙ ap (λ (x : ℕ). run M q (stateTests M w q s x)) ke
+      ∙ state-tests-lead q s c (tests-stay p s pl (omega arith)) (omega arith) (omega arith)
+
+  pub sequence-leads : run M (M .start) (sequence M w) ≡ following (M .n) (M .next (M .n - 1) (M .k - 1))
+  sequence-leads =
+      let p = run M (M .start) (opening M w) in
+      let pl : p < M .n = rw opening-leads (following-below (M .n) (M .start) (h .proper .starts)) in
+      ap (run M (M .start)) (sequence-is M w)
+      ∙ run-append M (M .start) (opening M w) (tests M w p (M .n))
+      ∙ ends-by p (M .n - 1) (M .k - 1) pl (omega (arith, h .proper .some-states)) (omega (arith, h .proper .some-commands))

@@ -1,0 +1,157 @@
+-- The commands of the prescribed sequence are the machine's, and its length is within document 01's formula, so never above the limit of a
+-- sequence. M is the machine, w the word.
+use Prim.Native.Nat.{ℕ, zero, suc, _+_, _-_, _*_, _≤_, _<_}
+use mathlib.Core.Path.{_≡_, refl}
+use mathlib.Core.Bool.{Bool, true, false}
+use mathlib.Core.List.{List, [], _∷_, _++_}
+use native.Mathlib.Omega.{arith}
+use native.Mathlib.Numerals.{add-one}
+use native.Mathlib.Nat.{mul-le-mul, mul-le-mul-right, suc-mul, zero-mul, mul-assoc}
+use borrow.Author.Tests.{eqb-true, eqb-false}
+use lib.Dec.{eqb}
+use lib.ListN.{length, getD, length-append}
+use Rattle.machine.specs.Limits.{mostStates, mostCommands, mostEntries, mostWord, mostSequence}
+use Rattle.machine.specs.Machine.{Mealy, run, Proper}
+use Rattle.machine.specs.Machine.Laws.{run-none, run-append, low-append}
+use Rattle.build.specs.Sequence.{following, T, nthState, round, opening, approach, test, stateTests, tests, sequence, blockBound, lengthBound}
+use Rattle.build.specs.Sequence.Cycle.{following-below, gap, gap-below, gap-step, nthState-below}
+use Rattle.build.specs.Sequence.Laws.{Blocks, test-is, approach-none, approach-here, approach-step, opening-is, opening-leads, round-none, round-more, test-stays, state-tests-none, state-tests-more, tests-none, tests-more, sequence-is}
+
+-- ---- lists of commands below k and of at most m commands
+record Short (k m : ℕ) (xs : List ℕ) : Type 0 where
+  low : (i : ℕ) → i < length xs → getD xs i 0 < k
+  few : length xs ≤ m
+
+short-append : {k m n : ℕ} (xs ys : List ℕ) → Short k m xs → Short k n ys → Short k (m + n) (xs ++ ys)
+short-append {k} xs ys a b = record { low = low-append k xs ys (a .low) (b .low); few = omega (arith, a .few, b .few, length-append xs ys) }
+
+short-none : (k : ℕ) {xs : List ℕ} → xs ≡ [] → Short k 0 xs
+short-none k e = rw e (record { low = λ i l. let z : ⊥ = omega arith in absurd z; few = omega arith })
+
+short-one : (k c : ℕ) → c < k → Short k 1 (c ∷ [])
+short-one k c l = record { low = λ i m. let z : i ≡ 0 = omega arith in rw z l; few = omega arith }
+
+short-within : {k m n : ℕ} {xs : List ℕ} → m ≤ n → Short k m xs → Short k n xs
+short-within l a = record { low = a .low; few = omega (arith, a .few) }
+
+-- ---- the parts
+module _ (M : Mealy) (w : List ℕ) (h : Blocks M w) where
+  block : ℕ
+  block = blockBound M w
+
+  block-short : (s : ℕ) → s < M .n → Short (M .k) block (T M w s)
+  unfolding block
+  block-short s sl = record { low = h .low s sl; few = h .short s sl }
+
+  round-short : (i : ℕ) → Short (M .k) (i * block) (round M w i)
+  round-short zero = rw zero-mul (short-none (M .k) (round-none M w))
+  round-short (suc i) = rw (suc-mul, round-more M w i) (short-append (round M w i) (T M w (nthState M i)) (round-short i) (block-short (nthState M i) (nthState-below M (h .proper) i)))
+
+  opening-short : Short (M .k) ((M .n + 1) * block) (opening M w)
+  opening-short = rw (opening-is M w h, add-one) (round-short (suc (M .n)))
+
+  -- at most one block for each state of the gap
+  approach-by : (i p s : ℕ) → p < M .n → (b : Bool) → eqb p s ≡ b → {g : ℕ} → ((p ≡ s → ⊥) → (d : ℕ) × (g ≡ suc d) × Short (M .k) (d * block) (approach M w i (following (M .n) p) s))
+      → Short (M .k) (g * block) (approach M w (suc i) p s)
+  approach-by i p s pl true e on = rw (eqb-true p s e) (short-within (omega arith) (short-none (M .k) (approach-here M w (suc i) s)))
+  approach-by i p s pl false e on =
+      let ne = eqb-false p s e in
+      let o = on ne in
+      rw (o .1, suc-mul, approach-step M w h i p s pl ne) (short-within (omega arith) (short-append (T M w p) (approach M w i (following (M .n) p) s) (block-short p pl) (o .2)))
+
+  approach-short : (i p s : ℕ) → p < M .n → s < M .n → Short (M .k) (gap (M .n) p s * block) (approach M w i p s)
+  approach-short zero p s pl sl = short-within (omega arith) (short-none (M .k) (approach-none M w p s))
+  approach-short (suc i) p s pl sl =
+      approach-by i p s pl (eqb p s) refl
+      (λ ne. let st = gap-step (M .n) p s pl sl ne in
+      (gap (M .n) (following (M .n) p) s, omega arith, approach-short i (following (M .n) p) s (following-below (M .n) p pl) sl))
+
+  -- the length of a test at most
+  testLength : ℕ
+  testLength = M .n * block + 1
+
+  test-short : (p s c : ℕ) → p < M .n → s < M .n → c < M .k → Short (M .k) testLength (test M w p s c)
+  unfolding testLength
+  test-short p s c pl sl cl =
+      let g = gap-below (M .n) p s pl sl in
+      let rest = short-append (c ∷ []) (T M w (M .next s c)) (short-one (M .k) c cl) (block-short (M .next s c) (h .proper .stays s c sl cl)) in
+      rw (test-is M w p s c)
+      (short-within (omega (arith, suc-mul (gap (M .n) p s) block, mul-le-mul-right {m = suc (gap (M .n) p s)} {n = M .n} block g))
+      (short-append (approach M w (M .n) p s) (c ∷ T M w (M .next s c)) (approach-short (M .n) p s pl sl) rest))
+
+  -- a part from a state p, and where it leads
+  record Part (p m : ℕ) (xs : List ℕ) : Type 0 where
+    short : Short (M .k) m xs
+    stays : run M p xs < M .n
+
+  part-append : {p m n : ℕ} (xs ys : List ℕ) → Part p m xs → Part (run M p xs) n ys → Part p (m + n) (xs ++ ys)
+  part-append {p} xs ys a b = record { short = short-append xs ys (a .short) (b .short); stays = rw (run-append M p xs ys) (b .stays) }
+
+  part-none : (p : ℕ) {xs : List ℕ} → p < M .n → xs ≡ [] → Part p 0 xs
+  part-none p pl e = record { short = short-none (M .k) e; stays = rw (e, run-none) pl }
+
+  state-tests-part : (p s c : ℕ) → p < M .n → s < M .n → c ≤ M .k → Part p (c * testLength) (stateTests M w p s c)
+  state-tests-part p s zero pl sl cl = rw zero-mul (part-none p pl (state-tests-none M w p s))
+  state-tests-part p s (suc c) pl sl cl =
+      let o = state-tests-part p s c pl sl (omega arith) in
+      let q = run M p (stateTests M w p s c) in
+      rw (suc-mul, state-tests-more M w p s c)
+      (part-append (stateTests M w p s c) (test M w q s c) o (record { short = test-short q s c (o .stays) sl cl; stays = test-stays M w h q s c (o .stays) sl cl }))
+
+  tests-part : (p s : ℕ) → p < M .n → s ≤ M .n → Part p (s * (M .k * testLength)) (tests M w p s)
+  tests-part p zero pl sl = rw zero-mul (part-none p pl (tests-none M w p))
+  tests-part p (suc s) pl sl =
+      let o = tests-part p s pl (omega arith) in
+      let q = run M p (tests M w p s) in
+      rw (suc-mul, tests-more M w p s)
+      (part-append (tests M w p s) (stateTests M w q s (M .k)) o (state-tests-part q s (M .k) (o .stays) sl (omega arith)))
+
+  -- ---- the lengths of the parts
+  pub approach-length : (i p s : ℕ) → p < M .n → s < M .n → length (approach M w i p s) ≤ gap (M .n) p s * blockBound M w
+  unfolding block
+  approach-length i p s pl sl = approach-short i p s pl sl .few
+
+  pub approach-low : (i p s : ℕ) → p < M .n → s < M .n → (j : ℕ) → j < length (approach M w i p s) → getD (approach M w i p s) j 0 < M .k
+  approach-low i p s pl sl = approach-short i p s pl sl .low
+
+  pub test-length : (p s c : ℕ) → p < M .n → s < M .n → c < M .k → length (test M w p s c) ≤ M .n * blockBound M w + 1
+  unfolding block testLength
+  test-length p s c pl sl cl = test-short p s c pl sl cl .few
+
+  pub state-tests-length : (p s c : ℕ) → p < M .n → s < M .n → c ≤ M .k → length (stateTests M w p s c) ≤ c * (M .n * blockBound M w + 1)
+  unfolding block testLength
+  state-tests-length p s c pl sl cl = state-tests-part p s c pl sl cl .short .few
+
+  pub opening-length : length (opening M w) ≤ (M .n + 1) * blockBound M w
+  unfolding block
+  opening-length = opening-short .few
+
+  -- ---- the whole
+  sequence-short : Short (M .k) (lengthBound M w) (sequence M w)
+  unfolding lengthBound block testLength
+  sequence-short =
+      let p = run M (M .start) (opening M w) in
+      let pl : p < M .n = rw (opening-leads M w h) (following-below (M .n) (M .start) (h .proper .starts)) in
+      rw (sequence-is M w, mul-assoc) (short-append (opening M w) (tests M w p (M .n)) opening-short (tests-part p (M .n) pl (omega arith) .short))
+
+  -- "the length is at most (n+1)c + nk(nc+1)"
+  pub sequence-length : length (sequence M w) ≤ lengthBound M w
+  sequence-length = sequence-short .few
+
+  -- every command is below k
+  pub sequence-low : (i : ℕ) → i < length (sequence M w) → getD (sequence M w) i 0 < M .k
+  sequence-low = sequence-short .low
+
+-- "so never above 20,355"
+pub longest-below : (M : Mealy) (w : List ℕ) → Proper M → length w ≤ mostWord → lengthBound M w ≤ mostSequence
+unfolding lengthBound
+longest-below M w proper few =
+    let c : ℕ = blockBound M w in
+    let most : ℕ = mostWord + mostStates - 1 in
+    let cl : c ≤ most = omega (arith, proper .few-states) in
+    let opens : (M .n + 1) * c ≤ (mostStates + 1) * most = mul-le-mul {n₁ = M .n + 1} {m₁ = c} {n₂ = mostStates + 1} {m₂ = most} (omega (arith, proper .few-states)) cl in
+    let blocks : M .n * c ≤ mostStates * most = mul-le-mul {n₁ = M .n} {m₁ = c} {n₂ = mostStates} {m₂ = most} (proper .few-states) cl in
+    let entries : M .n * M .k ≤ mostEntries = mul-le-mul {n₁ = M .n} {m₁ = M .k} {n₂ = mostStates} {m₂ = mostCommands} (proper .few-states) (proper .few-commands) in
+    let tested : M .n * M .k * (M .n * c + 1) ≤ mostEntries * (mostStates * most + 1) =
+    mul-le-mul {n₁ = M .n * M .k} {m₁ = M .n * c + 1} {n₂ = mostEntries} {m₂ = mostStates * most + 1} entries (omega arith) in
+    omega arith

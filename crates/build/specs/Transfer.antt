@@ -1,0 +1,68 @@
+-- Transfers (document 01, "Building"): the shortest command string from a state to a state, first in byte order among those, or none.
+-- `IsTransfer` says it and `transfer` computes it; Transfer.Laws shows that both agree for the states of a machine within its limits, by the
+-- laws of Transfer.Paths.
+use Prim.Native.Nat.{ℕ, zero, suc, _≤_, _<_}
+use mathlib.Core.Path.{_≡_}
+use mathlib.Core.Bool.{Bool, true, false, _&&_}
+use mathlib.Core.List.{List, [], _∷_}
+use mathlib.Core.Option.{Option, none, some}
+use lib.Dec.{ltb, eqb}
+use lib.ListN.{length, getD, take}
+use Rattle.machine.specs.Machine.{Mealy, run}
+use Rattle.build.specs.declared.paths.Path.{Path}
+pub mod Laws
+pub mod Paths
+
+-- ---- as document 01 says it
+-- a command string that leads from a to b: the field's transfer sequence, of any length
+pub record Leads (M : Mealy) (a b : ℕ) (u : List ℕ) : Type 0 where
+  pub commands : (i : ℕ) → i < length u → getD u i 0 < M .k
+  pub ends : run M a u ≡ b
+
+-- byte order, of strings of one length: at the first place where they differ, u has the lower command
+pub record Before (u v : List ℕ) : Type 0 where
+  pub place : ℕ
+  pub inside : place < length u
+  pub same : take place u ≡ take place v
+  pub lower : getD u place 0 < getD v place 0
+
+-- "the shortest command string, first in byte order among those"
+pub record IsTransfer (M : Mealy) (a b : ℕ) (t : List ℕ) : Type 0 where
+  pub leads : Leads M a b t
+  pub shortest : (u : List ℕ) → Leads M a b u → length t ≤ length u
+  pub first : (u : List ℕ) → Leads M a b u → length u ≡ length t → Before u t → ⊥
+
+-- ---- computed
+-- a string, where a test holds
+unfoldable pub guard : Bool → Option (List ℕ) → Option (List ℕ)
+guard true o = o
+guard false o = none
+
+-- the first string, or, where there is none, the second
+unfoldable pub orElse : Option (List ℕ) → Option (List ℕ) → Option (List ℕ)
+orElse none o = o
+orElse (some t) o = some t
+
+-- the first of f 0, f 1, .., f (n - 1) that there is
+unfoldable pub firstOf : ℕ → (ℕ → Option (List ℕ)) → Option (List ℕ)
+firstOf zero f = none
+firstOf (suc n) f = orElse (firstOf n f) (f n)
+
+-- a string with a command in front of it
+unfoldable pub prefixed : ℕ → Option (List ℕ) → Option (List ℕ)
+prefixed c none = none
+prefixed c (some t) = some (c ∷ t)
+
+-- firstPath M b m a: the first string in byte order of exactly m commands that leads from a to b along states of the machine
+unfoldable pub firstPath : Mealy → ℕ → ℕ → ℕ → Option (List ℕ)
+firstPath M b zero a = guard (ltb a (M .n) && eqb a b) (some [])
+firstPath M b (suc m) a = guard (ltb a (M .n)) (firstOf (M .k) (λ c. prefixed c (firstPath M b m (M .next a c))))
+
+-- the transfer from a to b: the least length below n that has a string, and the first string of that length. Where a string of any length
+-- leads from a to b, there is one of a length below n: leads-some, in Transfer.Laws
+unfoldable pub transfer : Mealy → ℕ → ℕ → Option (List ℕ)
+transfer M a b = firstOf (M .n) (λ m. firstPath M b m a)
+
+-- what the program's answer says: the first commands of its array, where a path is found
+abbrev pub stringOf : Path → Option (List ℕ)
+stringOf p = guard (p .found) (some (take (p .length) (p .commands)))

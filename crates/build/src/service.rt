@@ -1,0 +1,50 @@
+// The service: builds the checking sequence of a sheet.
+ghost use Rattle.build.specs.Building.{Builds};
+use crate::blocks::ROWS;
+use crate::blocks::connect;
+use crate::writing::write_sequence;
+use machine::load_sheet;
+use sheet::Check;
+use sheet::Needs;
+use sheet::WORD_KIND;
+use sheet::read;
+use sheet::refuse;
+
+// Built with the length of the sequence, or refused with number and place.
+pub enum Answer {
+    Built { length: usize },
+    Refused { number: u8, place: usize },
+}
+
+// Builds the checking sequence of a sheet's machine and word into the lent buffer. A refusal writes
+// nothing; bytes behind the sequence stay as they were.
+pub fn build(sheet: &[u8], buffer: &mut [u8]) -> Answer
+    ensures { λ r. ⌜ Builds (now (sheet .entry)) (now (buffer .entry)) (now (buffer .exit)) r ⌝ }
+{
+    let needs = Needs {
+        word: true,
+        sequence: false,
+        answers: false,
+    };
+    let loaded = load_sheet(sheet, needs);
+    let earlier = loaded.check;
+    if let Check::Refused { number, place } = earlier {
+        return Answer::Refused { number, place };
+    }
+    let m = loaded.machine;
+    let w = read(sheet, WORD_KIND);
+    let mut rows = [0u8; ROWS];
+    let eight = connect(m, w, &mut rows);
+    if let Check::Refused { number, place } = eight {
+        return Answer::Refused { number, place };
+    }
+    // Lent no bytes, it only counts.
+    let lent = 0;
+    let length = write_sequence(m, w, &rows, &mut buffer[..lent]);
+    let nine = refuse(9, length, buffer.len() < length);
+    if let Check::Refused { number, place } = nine {
+        return Answer::Refused { number, place };
+    }
+    write_sequence(m, w, &rows, buffer);
+    Answer::Built { length }
+}
