@@ -4,10 +4,8 @@ use Prim.Native.Nat.{ℕ, _+_, _*_, _≤_, _<_}
 use mathlib.Core.Path.{_≡_, refl, sym, ap, ap₂, subst, _∙_}
 use mathlib.Core.Bool.{Bool, true, false, not}
 use mathlib.Core.List.{List}
-use mathlib.Core.Logic.{⊎-elim}
 use mathlib.Core.Option.{some}
 use native.Mathlib.Omega.{arith}
-use native.Mathlib.Nat.{eq-or-lt-of-le}
 use borrow.Author.Tests.{not-false}
 use lib.ListN.{length, getD, take}
 use lib.Seq.{length-take-le}
@@ -16,6 +14,7 @@ use Rattle.sheet.specs.declared.check.Check.the-variants.{Clear, Refused}
 use Rattle.sheet.specs.Check.{refusal_with_if_, first}
 use Rattle.sheet.specs.Check.Laws.{clear-absent, first-none, first-stops, first-goes-on, first-ends}
 use Rattle.machine.specs.Machine.{Mealy, run, Proper}
+use Rattle.machine.specs.Numbers.{below-more}
 use Rattle.build.specs.declared.paths.Path.{Path}
 use Rattle.build.specs.Transfer.{guard, transfer, stringOf}
 use Rattle.build.specs.Transfer.Laws.{transfer-below}
@@ -70,14 +69,14 @@ module _ (M : Mealy) (w : List ℕ) (s : ℕ) (p : Path) (from to : ℕ) {N : �
       filled-on : {after : List ℕ} → Stored rows after s (p .length) (p .commands) → Filled M w (s + 1) after
       filled-on {after} st = record {
         long = st .long;
-        short = λ i l.
-            ⊎-elim (λ (q : i ≡ s). subst (λ (x : ℕ). getD after (x * rowSize) 0 < rowSize) (sym q) (subst (λ (x : ℕ). x < rowSize) (sym (st .sized)) size-low))
-            (λ (q : i < s). subst (λ (x : ℕ). x < rowSize) (sym (st .sizes i q)) (h .filled .short i q))
-            (eq-or-lt-of-le (omega arith));
-        stored = λ i l.
-            ⊎-elim (λ (q : i ≡ s). subst (λ (x : ℕ). orEmpty (B M w x) ≡ row after x) (sym q) (ap orEmpty B-is ∙ sym (st .stored)))
-            (λ (q : i < s). h .filled .stored i q ∙ sym (st .rows i q (h .filled .short i q)))
-            (eq-or-lt-of-le (omega arith));
+        short =
+            below-more (λ i. getD after (i * rowSize) 0 < rowSize) s
+            (λ i q. subst (λ (x : ℕ). x < rowSize) (sym (st .sizes i q)) (h .filled .short i q))
+            (subst (λ (x : ℕ). x < rowSize) (sym (st .sized)) size-low);
+        stored =
+            below-more (λ i. orEmpty (B M w i) ≡ row after i) s
+            (λ i q. h .filled .stored i q ∙ sym (st .rows i q (h .filled .short i q)))
+            (ap orEmpty B-is ∙ sym (st .stored));
       }
 
       pub connecting-on : s < M .n → {after : List ℕ} → Stored rows after s (p .length) (p .commands) → Connecting M w after (s + 1)

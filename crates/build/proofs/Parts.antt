@@ -146,15 +146,16 @@ pub record Testing (M : Mealy) (w before : List ℕ) (p₀ : Position) (now : Li
   pub room : p .at + (mostStates - s) * mostStateTests ≤ mostSequence
 
 module _ (M : Mealy) (w rows before : List ℕ) (p₀ : Position) (h : Ready M w rows) where
+  blocks-few : M .n * blockBound M w ≤ mostStates * mostBlock
+  blocks-few = mul-le-mul {n₁ = M .n} {m₁ = blockBound M w} {n₂ = mostStates} {m₂ = mostBlock} (h .blocks .proper .few-states) (block-few M w rows h)
+
   -- a test's length, on a machine within the limits
   test-few : (p s c : ℕ) → p < M .n → s < M .n → c < M .k → length (test M w p s c) ≤ mostTest
-  test-few p s c pl sl cl =
-      let few : M .n * blockBound M w ≤ mostStates * mostBlock = mul-le-mul {n₁ = M .n} {m₁ = blockBound M w} {n₂ = mostStates} {m₂ = mostBlock} (h .blocks .proper .few-states) (block-few M w rows h) in
-      omega (arith, test-length M w (h .blocks) p s c pl sl cl)
+  test-few p s c pl sl cl = omega (arith, blocks-few, test-length M w (h .blocks) p s c pl sl cl)
 
   state-few : (p s : ℕ) → p < M .n → s < M .n → length (stateTests M w p s (M .k)) ≤ mostStateTests
   state-few p s pl sl =
-      let few : M .n * blockBound M w ≤ mostStates * mostBlock = mul-le-mul {n₁ = M .n} {m₁ = blockBound M w} {n₂ = mostStates} {m₂ = mostBlock} (h .blocks .proper .few-states) (block-few M w rows h) in
+      let few = blocks-few in
       let all : M .k * (M .n * blockBound M w + 1) ≤ mostCommands * mostTest = mul-le-mul {n₁ = M .k} {m₁ = M .n * blockBound M w + 1} {n₂ = mostCommands} {m₂ = mostTest} (h .blocks .proper .few-commands) (omega arith) in
       omega (arith, state-tests-length M w (h .blocks) p s (M .k) pl sl (omega arith))
 

@@ -8,13 +8,13 @@ use mathlib.Core.Bool.{Bool, true, false}
 use mathlib.Core.Logic.{_⊎_, inl, inr, ⊎-elim}
 use native.Mathlib.Omega.{arith}
 use native.Mathlib.Numerals.{add-one}
-use native.Mathlib.Nat.{eq-or-lt-of-le}
-use lib.Dec.{ltb, eqb}
+use lib.Dec.{ltb}
 use lib.ListN.{length, getD, set, replicate, length-set, length-replicate, getD-replicate}
 use lib.Seq.{getD-set-same, getD-set-other}
-use borrow.Author.Tests.{ltb-true, ltb-false, eqb-true, eqb-false}
+use borrow.Author.Tests.{ltb-true, ltb-false}
 use Rattle.machine.specs.Machine.{Mealy, tabled}
 use Rattle.machine.specs.Machine.Laws.{tabled-states, tabled-commands, tabled-cells}
+use Rattle.machine.specs.Numbers.{equal-or-not, below-more}
 use Rattle.build.specs.Transfer.{firstPath}
 use Rattle.build.specs.Transfer.Paths.{Seen, nothing, string, seen, path-zero, path-here, path-inside, path-outside, some-path, none-path}
 use Rattle.build.specs.Distances.{Widened, Distance, Distances}
@@ -27,13 +27,6 @@ less-or-not a b = go (ltb a b) refl
     go : (t : Bool) → ltb a b ≡ t → (a < b) ⊎ (b ≤ a)
     go true e = inl (ltb-true a b e)
     go false e = inr (ltb-false a b e)
-
-equal-or-not : (a b : ℕ) → (a ≡ b) ⊎ (a ≡ b → ⊥)
-equal-or-not a b = go (eqb a b) refl
-  where
-    go : (t : Bool) → eqb a b ≡ t → (a ≡ b) ⊎ (a ≡ b → ⊥)
-    go true e = inl (eqb-true a b e)
-    go false e = inr (eqb-false a b e)
 
 -- ---- the loop over the states
 -- the first s states are done, the others as before
@@ -74,10 +67,10 @@ module _ {next : List ℕ} {n k : ℕ} {before : List ℕ} {d : ℕ} where
       record {
         few = omega arith;
         long = length-set far s w ∙ h .long;
-        done = λ x xl.
-            ⊎-elim (λ (q : x ≡ s). rw (q, getD-set-same far s w 0 inside) (widened-before l h e))
-            (λ (q : x < s). rw (getD-set-other far s x w 0 (λ y. omega arith)) (h .done x q))
-            (eq-or-lt-of-le {n = x} {m = s} (omega arith));
+        done =
+            below-more (λ x. Widened next k before d x (getD (set far s w) x 0)) s
+            (λ x q. rw (getD-set-other far s x w 0 (λ y. omega arith)) (h .done x q))
+            (rw (getD-set-same far s w 0 inside) (widened-before l h e));
         later = λ x xl. getD-set-other far s x w 0 (λ y. omega arith) ∙ h .later x (omega arith);
       }
 
@@ -107,7 +100,7 @@ module _ (M : Mealy) (b d : ℕ) (few : M .n ≤ 255) (small : d < 254) (next : 
   widened-distance s sl {w} (Widened.still z h e) =
       let lacks = unreached-none M b d (table .at s (omega arith)) z (omega arith) in
       Distance.unreached e
-      (λ m l. ⊎-elim (λ (q : m ≡ d + 1). rw (q, add-one) (still-none s sl lacks h)) (λ (q : m < d + 1). lacks m (omega arith)) (eq-or-lt-of-le l))
+      (λ m l. below-more (λ i. firstPath M b i s ≡ none) (d + 1) (λ i q. lacks i (omega arith)) (rw add-one (still-none s sl lacks h)) m (omega arith))
 
   -- what is no state stays unreached
   outside-distance : (s v : ℕ) → M .n ≤ s → Distance M b d s v → Distance M b (d + 1) s v

@@ -4,10 +4,9 @@ use Prim.Native.Nat.{ℕ, suc, _+_, _*_, _≤_, _<_}
 use mathlib.Core.Path.{_≡_, refl, sym, ap, _∙_}
 use mathlib.Core.List.{List}
 use mathlib.Core.Option.{none, some}
-use mathlib.Core.Logic.{⊎-elim}
 use native.Mathlib.Omega.{arith}
-use native.Mathlib.Nat.{eq-or-lt-of-le}
 use lib.ListN.{getD}
+use Rattle.machine.specs.Numbers.{below-more}
 use Rattle.machine.specs.Machine.{Mealy}
 use Rattle.build.specs.Transfer.{firstPath}
 use Rattle.build.specs.Transfer.Paths.{some-none, path-inside, some-path}
@@ -32,10 +31,9 @@ module _ {next : List ℕ} {k : ℕ} {far : List ℕ} {s d : ℕ} where
   pub passing-on : {c e t : ℕ} → Passing next k far s d c → c < k → e ≡ s * k + c → t ≡ getD next e 0 → (getD far t 0 ≡ d → ⊥) → Passing next k far s d (c + 1)
   passing-on {c} {e} {t} h l ee te o = record {
     few = omega arith;
-    passed = λ x xl.
-        ⊎-elim (λ (q : x ≡ c) (w : getD far (getD next (s * k + x) 0) 0 ≡ d). o (ap (λ (y : ℕ). getD far y 0) (te ∙ ap (λ (y : ℕ). getD next y 0) ee) ∙ rw q at w))
-        (λ (q : x < c). h .passed x q)
-        (eq-or-lt-of-le {n = x} {m = c} (omega arith));
+    passed =
+        below-more (λ x. getD far (getD next (s * k + x) 0) 0 ≡ d → ⊥) c (h .passed)
+        (λ w. o (ap (λ (y : ℕ). getD far y 0) (te ∙ ap (λ (y : ℕ). getD next y 0) ee) ∙ w));
   }
 
   -- the command is found

@@ -1,25 +1,18 @@
 -- The marks during a sweep: between the given ones and their closure, and what marking one more place keeps.
 use Prim.Native.Nat.{ℕ, _≤_, _<_}
 use mathlib.Core.Path.{_≡_, sym, ap, _∙_}
-use mathlib.Core.Bool.{true, false}
 use mathlib.Core.List.{List}
 use mathlib.Core.Logic.{_⊎_, inl, inr, ⊎-elim}
 use native.Mathlib.Omega.{arith}
 use native.Mathlib.Nat.{eq-or-lt-of-le}
-use lib.Dec.{eqb}
 use lib.ListN.{length, getD, set, length-set}
 use lib.Seq.{getD-set-same, getD-set-other}
-use borrow.Author.Tests.{eqb-true, eqb-false}
 use Rattle.machine.specs.Machine.{Mealy}
-use Rattle.certify.specs.Marks.Laws.{true-or-false}
+use Rattle.machine.specs.Numbers.{equal-or-not}
 use Rattle.certify.specs.Folding.{From, Marking, Paired}
 use Rattle.certify.proofs.Paired.{paired-sym, paired-carries}
 
 -- ---- numbers
-pub equal-or-not : (a b : ℕ) → (a ≡ b) ⊎ (a ≡ b → ⊥)
-equal-or-not a b =
-    ⊎-elim (λ (e : eqb a b ≡ true). inl (eqb-true a b e)) (λ (e : eqb a b ≡ false). inr (eqb-false a b e)) (true-or-false (eqb a b))
-
 -- a bit that is not 0 is 1
 pub bit-one : (b : ℕ) → b ≤ 1 → (b ≡ 0 → ⊥) → b ≡ 1
 bit-one b l n = ⊎-elim (λ (e : b ≡ 1). e) (λ (k : b < 1). absurd (n (omega arith))) (eq-or-lt-of-le l)

@@ -3,4 +3,5 @@ pub mod Machine
 pub mod Causes
 pub mod Loading
 pub mod House
+pub mod Numbers
 pub mod Pigeonhole

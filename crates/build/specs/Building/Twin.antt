@@ -1,8 +1,7 @@
 -- The starred cases of building (document 01, "The house unit and the twin"), computed from the definitions, of the bytes of their sheets; the
--- collection of all starred cases takes them from here. That the built sequences are certified, and with which count, is computed in certify's
--- Certification.Twin.
+-- collection of all starred cases takes them from here. What certifying answers to the built sequences comes from certify's Certification.Twin.
 use Prim.Native.Nat.{ℕ}
-use mathlib.Core.Path.{_≡_, refl, ap}
+use mathlib.Core.Path.{_≡_, refl, ap, _∙_}
 use mathlib.Core.List.{List, [], _∷_}
 use lib.ListN.{length}
 use Rattle.sheet.specs.Check.{refusal_with_if_, _else_, firstCause, first}
@@ -11,7 +10,9 @@ use Rattle.sheet.specs.Reader.{sheetCauses, when, needed, refusalOf, the, part,
 use Rattle.machine.specs.Machine.{machineOf, run, answers}
 use Rattle.machine.specs.Causes.{cause3, cause4, commandsCause, cause6, machineIn, machineCauses, wordCauses, loadCauses}
 use Rattle.certify.specs.Marks.Twin.{twin, single}
-use Rattle.certify.specs.Certification.{cause9}
+use Rattle.certify.specs.declared.answer.Answer.the-variants.{Certified}
+use Rattle.certify.specs.Certification.{cause9, outcome}
+use Rattle.certify.specs.Certification.Twin.{twin-built, single-built}
 use Rattle.build.specs.declared.service.Answer.the-variants.{Built, Refused}
 use Rattle.build.specs.Transfer.{guard, orElse, firstOf, prefixed, firstPath, transfer}
 use Rattle.build.specs.Sequence.{following, T, nthState, round, opening, approach, test, stateTests, tests, sequence, lengthBound}
@@ -35,6 +36,14 @@ pub twin-sequence : sequence twin (0 ∷ []) ≡ 0 ∷ 0 ∷ 0 ∷ 0 ∷ 0 ∷ 0
 unfolding sequence tests stateTests test approach opening round nthState T following transfer firstPath prefixed firstOf orElse guard run twin machineOf
 twin-sequence = refl
 
+-- "certified, 13": 13 places are recognised
+pub twin-certified : outcome twin (0 ∷ []) (sequence twin (0 ∷ [])) ≡ Certified 13
+twin-certified = ap (outcome twin (0 ∷ [])) twin-sequence ∙ twin-built
+
+pub twin-machine : machineIn twinSheet ≡ twin
+unfolding twin twinSheet machineOf machineIn content bytes part refusalOf sheetCauses firstCause _else_ refusal_with_if_ parsed parse parseFrom recordAt end kindOf cause1 cause2 causeAt onward find ofKind _or_ offset
+twin-machine = refl
+
 pub twin-building : building 12 twinSheet ≡ Built 12
 unfolding building twinSheet refusal_with_if_ _else_ firstCause first recordAt offset end kindOf cause1 cause2 causeAt onward parseFrom parse parsed ofKind _or_ find sheetCauses when needed refusalOf the part bytes content machineOf run answers cause3 cause4 commandsCause cause6 machineIn machineCauses wordCauses loadCauses cause9 guard orElse firstOf prefixed firstPath transfer following T nthState round opening approach test stateTests tests sequence cause8 buildCauses
 twin-building = refl
@@ -52,6 +61,9 @@ disconnected-building room = refl
 pub single-sequence : (answer : ℕ) → sequence (single answer) (0 ∷ []) ≡ 0 ∷ 0 ∷ 0 ∷ 0 ∷ []
 unfolding sequence tests stateTests test approach opening round nthState T following transfer firstPath prefixed firstOf orElse guard run single machineOf
 single-sequence answer = refl
+
+pub single-certified : (answer : ℕ) → outcome (single answer) (0 ∷ []) (sequence (single answer) (0 ∷ [])) ≡ Certified 5
+single-certified answer = ap (outcome (single answer) (0 ∷ [])) (single-sequence answer) ∙ single-built answer
 
 pub single-building : (answer : ℕ) → building 4 (singleSheet answer) ≡ Built 4
 unfolding building singleSheet refusal_with_if_ _else_ firstCause first recordAt offset end kindOf cause1 cause2 causeAt onward parseFrom parse parsed ofKind _or_ find sheetCauses when needed refusalOf the part bytes content machineOf run answers cause3 cause4 commandsCause cause6 machineIn machineCauses wordCauses loadCauses cause9 guard orElse firstOf prefixed firstPath transfer following T nthState round opening approach test stateTests tests sequence cause8 buildCauses

@@ -6,14 +6,14 @@ use mathlib.Core.Path.{_≡_, refl, sym, ap, ap₂, _∙_}
 use mathlib.Core.Bool.{Bool, true, false}
 use mathlib.Core.List.{List, [], _∷_, _++_, append-assoc, append-nil}
 use native.Mathlib.Omega.{arith}
-use native.Mathlib.Nat.{add-zero, add-suc, not-suc-le-zero, le-of-suc-le-suc, eq-or-lt-of-le}
-use mathlib.Core.Logic.{⊎-elim}
+use native.Mathlib.Nat.{add-zero, add-suc, not-suc-le-zero}
 use borrow.Author.Tests.{eqb-true, eqb-false}
 use lib.Dec.{eqb}
 use lib.ListN.{length, getD, take, drop, length-append}
 use lib.Seq.{take-append-seam, drop-append-seam, getD-append-seam}
 use Rattle.machine.specs.Machine.{Mealy, run, stateAt}
 use Rattle.machine.specs.Machine.Laws.{run-none, run-append, run-cons, state-split}
+use Rattle.machine.specs.Numbers.{below-more}
 use Rattle.certify.specs.Recognition.{Stands, Recognised, Verified, Certified}
 use Rattle.certify.specs.Recognition.Laws.{by-rule1, by-rule2}
 use Rattle.build.specs.Sequence.{following, T, nthState, round, opening, approach, test, stateTests, tests, sequence}
@@ -188,7 +188,7 @@ module _ (M : Mealy) (w : List ℕ) (h : Blocks M w) where
   state-more : (xs ys : List ℕ) (s k : ℕ) → StateTested xs s k → Ended (xs ++ ys) → Tested (xs ++ ys) s k → StateTested (xs ++ ys) s (suc k)
   state-more xs ys s k o e t = record {
     ended = e;
-    tested = λ c l. ⊎-elim (λ (q : c ≡ k). rw q t) (λ (q : c < k). longer-tested xs ys s c (o .tested c q)) (eq-or-lt-of-le (le-of-suc-le-suc l));
+    tested = λ c l. below-more (Tested (xs ++ ys) s) k (λ d q. longer-tested xs ys s d (o .tested d q)) t c (omega arith);
   }
 
   state-step : (xs ys : List ℕ) (p s k : ℕ) → run M (M .start) xs ≡ p → s < M .n → k < M .k → StateTested (xs ++ ys) s k → StateTested (xs ++ (ys ++ test M w (run M p ys) s k)) s (suc k)
@@ -211,7 +211,7 @@ module _ (M : Mealy) (w : List ℕ) (h : Blocks M w) where
   all-more : (xs ys : List ℕ) (n : ℕ) → AllTested xs n → StateTested (xs ++ ys) n (M .k) → AllTested (xs ++ ys) (suc n)
   all-more xs ys n o t = record {
     ended = t .ended;
-    tested = λ s c l cl. ⊎-elim (λ (q : s ≡ n). rw q (t .tested c cl)) (λ (q : s < n). longer-tested xs ys s c (o .tested s c q cl)) (eq-or-lt-of-le (le-of-suc-le-suc l));
+    tested = λ s c l cl. below-more (λ r. (d : ℕ) → d < M .k → Tested (xs ++ ys) r d) n (λ r q d dl. longer-tested xs ys r d (o .tested r d q dl)) (t .tested) s (omega arith) c cl;
   }
 
   all-step : (xs ys : List ℕ) (p n : ℕ) → run M (M .start) xs ≡ p → n < M .n → AllTested (xs ++ ys) n → AllTested (xs ++ (ys ++ stateTests M w (run M p ys) n (M .k))) (suc n)

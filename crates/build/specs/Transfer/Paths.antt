@@ -1,8 +1,6 @@
 -- The laws of `firstOf` and of `firstPath`: what they find, and when there is nothing to be found.
 use Prim.Native.Nat.{ℕ, zero, suc, _≤_, _<_}
-use mathlib.Core.Path.{_≡_, refl, sym, ap, subst, _∙_}
-use mathlib.Core.Logic.{⊎-elim}
-use native.Mathlib.Nat.{eq-or-lt-of-le}
+use mathlib.Core.Path.{_≡_, refl, sym, ap, _∙_}
 use mathlib.Core.Bool.{Bool, true, false, _&&_}
 use mathlib.Core.List.{List, [], _∷_}
 use mathlib.Core.Option.{Option, none, some}
@@ -12,6 +10,7 @@ use lib.ListN.{length, getD}
 use borrow.Author.Tests.{ltb-true, eqb-true, lt-ltb, le-ltb, eq-eqb}
 use Rattle.sheet.specs.Check.Laws.{both-true}
 use Rattle.machine.specs.Machine.{Mealy, Proper}
+use Rattle.machine.specs.Numbers.{below-more}
 use Rattle.machine.specs.Machine.Laws.{run-none, run-cons}
 use Rattle.build.specs.Transfer.{Leads, guard, orElse, firstOf, prefixed, firstPath}
 
@@ -44,13 +43,9 @@ pub data First (n : ℕ) (f : ℕ → Option (List ℕ)) (o : Option (List ℕ))
   nowhere : ((i : ℕ) → i < n → f i ≡ none) → o ≡ none → First n f o
   at : (m : ℕ) (t : List ℕ) → m < n → f m ≡ some t → ((i : ℕ) → i < m → f i ≡ none) → o ≡ some t → First n f o
 
--- what holds below n, and of n, holds below n + 1
-one-more : (P : ℕ → Type 0) (n : ℕ) → ((i : ℕ) → i < n → P i) → P n → (i : ℕ) → i < suc n → P i
-one-more P n h p i l = ⊎-elim (λ (e : i ≡ n). subst P (sym e) p) (λ (k : i < n). h i k) (eq-or-lt-of-le {n = i} {m = n} (omega arith))
-
 first-step : (n : ℕ) (f : ℕ → Option (List ℕ)) (o : Option (List ℕ)) → First n f o → Seen (f n) → First (suc n) f (orElse o (f n))
 unfolding orElse
-first-step n f o (nowhere h e) (nothing p) = nowhere (one-more (λ i. f i ≡ none) n h p) (rw e p)
+first-step n f o (nowhere h e) (nothing p) = nowhere (λ i l. below-more (λ j. f j ≡ none) n h p i (omega arith)) (rw e p)
 first-step n f o (nowhere h e) (string t p) = at n t (omega arith) p h (rw e p)
 first-step n f o (at m t l e h q) s = at m t (omega arith) e h (rw q)
 
