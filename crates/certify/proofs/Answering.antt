@@ -4,19 +4,20 @@ use mathlib.Core.Path.{_≡_, refl, sym, ap, ap₂, _∙_}
 use mathlib.Core.Bool.{true}
 use mathlib.Core.List.{List, _++_}
 use native.Mathlib.Omega.{arith}
-use native.Mathlib.Nat.{mul-le-mul}
 use lib.Dec.{ltb}
 use lib.ListN.{length, getD, drop}
 use Rattle.sheet.specs.declared.check.Check.{Check}
 use Rattle.sheet.specs.declared.check.Check.the-variants.{Clear, Refused}
 use Rattle.sheet.specs.Check.{refusal_with_if_, _else_, firstCause}
 use Rattle.sheet.specs.Check.Laws.{else-refused}
+use Rattle.sheet.specs.declared.reader.Needs.{Needs}
 use Rattle.sheet.specs.Reader.{the, content}
 use Rattle.machine.specs.Limits.{mostSequence, mostEntries}
 use Rattle.machine.specs.declared.loading.Loaded.{Loaded}
-use Rattle.machine.specs.Machine.{Mealy, tabled, meaning, Proper, Commands}
+use Rattle.machine.specs.Machine.{Mealy, tabled, Proper, Commands}
 use Rattle.machine.specs.Machine.Laws.{tabled-states, tabled-commands}
 use Rattle.machine.specs.Causes.{commandsCause, machineIn, held, loadCauses}
+use Rattle.machine.specs.Causes.Laws.{proper-entries}
 use Rattle.machine.specs.Causes.Lists.{held-is, clear-table}
 use Rattle.machine.specs.Loading.{LoadedFrom}
 use Rattle.certify.specs.declared.answer.Answer.{Answer}
@@ -27,22 +28,19 @@ use Rattle.certify.specs.Marks.Laws.{tabulate-length, tabulate-at, tabul
 use Rattle.certify.specs.Marks.Agreement.{stands-true, true-stands, marks-unique, marks-length}
 use Rattle.certify.specs.Certification.{certifyNeeds, cause7, cause9, markBytes, certifyCauses, verified, openCause, answerOf, outcome, Certifies}
 use Rattle.certify.specs.Certification.Laws.{verified-shown, shown-verified, outcome-of, certification-refused, certification-clear, after-refused, after-clear, cause9-is, kept-is, certify-causes-are, load-clear, sequence-commands, room-enough}
+use Rattle.certify.specs.Loading.{SequenceLoaded}
 use Rattle.certify.specs.Certification.Program.{open-known}
 use Rattle.certify.specs.Folding.{MarkedIn}
 use Rattle.certify.specs.Sweep.{entryAt}
 use Rattle.certify.specs.Closing.{Closable, Closed, openBy}
 use Rattle.certify.proofs.Entries.{entry-one}
 
--- a machine's entries are few
-pub few-entries : (M : Mealy) → Proper M → M .n * M .k ≤ mostEntries
-few-entries M h = omega (arith, mul-le-mul (h .few-states) (h .few-commands))
-
--- of the program's table
+-- the entries of the program's table
 pub entries-tabled : (n k start : ℕ) (next answer : List ℕ) → n * k ≡ tabled n k start next answer .n * tabled n k start next answer .k
 entries-tabled n k start next answer = sym (ap₂ _*_ (tabled-states n k start next answer) (tabled-commands n k start next answer))
 
 pub few-tabled : (n k start : ℕ) (next answer : List ℕ) → Proper (tabled n k start next answer) → n * k ≤ mostEntries
-few-tabled n k start next answer h = omega (arith, entries-tabled n k start next answer, few-entries (tabled n k start next answer) h)
+few-tabled n k start next answer h = omega (arith, entries-tabled n k start next answer, proper-entries (tabled n k start next answer) h)
 
 -- ---- rule 1's places as marks
 abbrev pub wordMarks : List ℕ → List ℕ → List ℕ
@@ -109,44 +107,40 @@ module _ (M : Mealy) (w xs : List ℕ) {given ms known : List ℕ} (proper : Pro
       ae ∙ ap₂ answerOf (ce ∙ o) ne ∙ sym (outcome-of M w xs (sym marks-are))
 
 -- ---- the checks
-module _ (room : ℕ) (s : List ℕ) where
+module _ (needs : Needs) (room : ℕ) (s : List ℕ) where
   later : Check → Check
   later seven = seven else cause9 room (markBytes (content 3 s))
 
-  checks-by : (c : Check) → firstCause (loadCauses certifyNeeds s) ≡ c
+  checks-by : (c : Check) → firstCause (loadCauses needs s) ≡ c
       → (c else later (cause7 (held s .k) (the 3 s) (content 3 s))) ≡ (c else later (cause7 (machineIn s .k) (the 3 s) (content 3 s)))
   checks-by Clear e =
-      ap (λ (M : Mealy). Clear else later (cause7 (M .k) (the 3 s) (content 3 s))) (held-is certifyNeeds s (clear-table certifyNeeds s e))
+      ap (λ (M : Mealy). Clear else later (cause7 (M .k) (the 3 s) (content 3 s))) (held-is needs s (clear-table needs s e))
   checks-by (Refused n p) e = else-refused n p _ ∙ sym (else-refused n p _)
 
-  pub checks-are : {k : ℕ} {xs : List ℕ} {earlier seven nine inner c : Check} → earlier ≡ firstCause (loadCauses certifyNeeds s) → k ≡ held s .k → xs ≡ content 3 s
+  checks-are : {k : ℕ} {xs : List ℕ} {earlier seven nine inner c : Check} → earlier ≡ firstCause (loadCauses needs s) → k ≡ held s .k → xs ≡ content 3 s
       → seven ≡ commandsCause 7 mostSequence k (the 3 s) (content 3 s) → nine ≡ (refusal 9 with length xs + 1 if ltb room (length xs + 1))
-      → inner ≡ (seven else nine) → c ≡ (earlier else inner) → c ≡ firstCause (certifyCauses certifyNeeds room s)
+      → inner ≡ (seven else nine) → c ≡ (earlier else inner) → c ≡ firstCause (certifyCauses needs room s)
   unfolding later
   checks-are {k} {xs} ee ke xe se ne ie ce =
       let nine-is = ne ∙ cause9-is room (length xs + 1) ∙ ap (λ (x : List ℕ). cause9 room (length x + 1)) xe in
       let seven-is = se ∙ ap (λ (x : ℕ). commandsCause 7 mostSequence x (the 3 s) (content 3 s)) ke in
-      ce ∙ ap₂ _else_ ee (ie ∙ ap₂ _else_ seven-is nine-is) ∙ checks-by (firstCause (loadCauses certifyNeeds s)) refl ∙ sym (certify-causes-are certifyNeeds room s)
+      ce ∙ ap₂ _else_ ee (ie ∙ ap₂ _else_ seven-is nine-is) ∙ checks-by (firstCause (loadCauses needs s)) refl ∙ sym (certify-causes-are needs room s)
 
--- what marking the recognised places asks
-pub record Asked (s before xs : List ℕ) (M : Mealy) : Type 0 where
-  pub machine : M ≡ machineIn s
-  pub proper : Proper M
-  pub commands : Commands mostSequence (M .k) xs
-  pub room : length xs + 1 ≤ length before
-
-pub asked : (s before : List ℕ) {l : Loaded} {c : Check} {xs : List ℕ} → LoadedFrom certifyNeeds s l → c ≡ firstCause (certifyCauses certifyNeeds (length before) s) → c ≡ Clear
-    → xs ≡ content 3 s → Asked s before xs (meaning (l .machine))
-asked s before {l} {c} {xs} h ce e xe =
-    let clear = sym ce ∙ e in
-    let loaded = h .check ∙ load-clear certifyNeeds (length before) s clear in
-    let M = h .machine loaded in
-    record {
-      machine = M;
-      proper = rw M (h .proper loaded);
-      commands = rw (M, xe) (sequence-commands certifyNeeds (length before) s clear);
-      room = rw xe (room-enough certifyNeeds (length before) s clear);
-    }
+  pub sequence-loaded : {l : Loaded} {xs : List ℕ} {seven nine inner c : Check} → LoadedFrom needs s l → xs ≡ content 3 s
+      → seven ≡ commandsCause 7 mostSequence (l .machine .k) (the 3 s) (content 3 s) → nine ≡ (refusal 9 with length xs + 1 if ltb room (length xs + 1))
+      → inner ≡ (seven else nine) → c ≡ (l .check else inner) → SequenceLoaded needs room s (record { check = c; machine = l .machine; word = l .word })
+  sequence-loaded {l} {xs} {seven} {nine} {inner} {c} h xe se ne ie ce =
+      let check = checks-are (h .check) (sym (tabled-commands _ _ _ _ _) ∙ ap (λ (M : Mealy). M .k) (h .holds)) xe se ne ie ce in
+      let loaded : c ≡ Clear → l .check ≡ Clear = λ e. h .check ∙ load-clear needs room s (sym check ∙ e) in
+      record {
+        check = check;
+        word = h .word;
+        machine = λ e. h .machine (loaded e);
+        proper = λ e. rw (h .machine (loaded e)) (h .proper (loaded e));
+        commands = λ e. rw (h .machine (loaded e)) (sequence-commands needs room s (sym check ∙ e));
+        fits = λ e. room-enough needs room s (sym check ∙ e);
+        holds = h .holds;
+      }
 
 -- ---- the promise
 pub certifies-refused : (s before : List ℕ) {c : Check} {n p : ℕ} → c ≡ firstCause (certifyCauses certifyNeeds (length before) s) → c ≡ Refused n p

@@ -4,12 +4,11 @@ use mathlib.Core.Path.{_≡_, refl, sym, ap, _∙_}
 use mathlib.Core.Bool.{Bool, false}
 use mathlib.Core.List.{List}
 use native.Mathlib.Omega.{arith}
-use native.Mathlib.Nat.{mul-le-mul-left}
 use lib.ListN.{length, getD}
 use Rattle.machine.specs.Limits.{mostEntries, mostSequence}
 use Rattle.machine.specs.Machine.{Mealy, tabled}
 use Rattle.machine.specs.Machine.Laws.{tabled-commands, tabled-next, state-next, state-stays}
-use Rattle.machine.specs.Causes.Laws.{entry-below}
+use Rattle.machine.specs.Causes.Laws.{proper-entry}
 use Rattle.certify.specs.Folding.{Follows, Rising}
 use Rattle.certify.specs.Sweep.{entryAt, Mergeable, Merged, Learnt, Onward, Sweepable, Swept}
 use Rattle.certify.proofs.Ends.{Fresh, begins, sweeps}
@@ -67,8 +66,7 @@ module _ (M : Mealy) (apply : Bool) (xs given known₀ : List ℕ) where
       pub running-entry : {k e : ℕ} → M .k ≡ k → e ≡ s * k + getD xs t 0 → e < mostEntries
       running-entry {k} {e} ke ee =
           let q : e ≡ s * M .k + getD xs t 0 = rw ke ee in
-          let b = entry-below (M .n) (M .k) s (getD xs t 0) running-state (h .asked .commands .low t tl) in
-          omega (arith, mul-le-mul-left (M .n) (h .asked .proper .few-commands), h .asked .proper .few-states)
+          omega (arith, proper-entry M (h .asked .proper) s (getD xs t 0) running-state (h .asked .commands .low t tl))
 
       entry-here : {k e : ℕ} → M .k ≡ k → e ≡ s * k + getD xs t 0 → entryAt M xs t ≡ e
       entry-here ke ee = rw (← h .head .state, ke) (sym ee)

@@ -1,7 +1,7 @@
 -- Certifying (document 01, "Causes" and "Recognition"): causes 1 to 7 and 9, the open number, which is also judging's cause 11, the answer, and
 -- what is written. Shut are `verified`, `openCause`, `cause11`, `outcome`, `certification` and `marksAfter`: what judging may know of them are the
--- service's contract and the laws in Certification.Laws. Certification.Program has the laws of the program's own functions, and in
--- Certification.Twin the starred sequences are computed.
+-- service's contract and the laws in Certification.Laws and Certification.Places. Certification.Program has the laws of the program's own
+-- functions, and in Certification.Twin the starred sequences are computed.
 use Prim.Native.Nat.{ℕ, _+_, _*_}
 use mathlib.Core.Path.{_≡_}
 use mathlib.Core.Bool.{Bool, true, false, not, _&&_}
@@ -22,6 +22,7 @@ use Rattle.certify.specs.declared.answer.Answer.the-variants.{Certified,
 use Rattle.certify.specs.declared.answer.Values.{Values}
 use Rattle.certify.specs.Marks.{any, marked, count, marks}
 pub mod Laws
+pub mod Places
 pub mod Program
 pub mod Twin
 

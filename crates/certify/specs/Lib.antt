@@ -1,6 +1,7 @@
 pub mod Recognition
 pub mod Marks
 pub mod Certification
+pub mod Loading
 pub mod Folding
 pub mod Propagation
 pub mod Sweep

@@ -2,6 +2,7 @@
 mod answer;
 mod chains;
 mod closure;
+mod loading;
 mod propagation;
 mod service;
 mod sweep;
@@ -11,4 +12,5 @@ mod word;
 pub use answer::Answer;
 pub use answer::Values;
 pub use answer::values_of;
+pub use loading::load_sequence;
 pub use service::certify;

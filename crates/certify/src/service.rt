@@ -2,41 +2,23 @@
 ghost use mathlib.Core.Path.{_≡_};
 ghost use Prim.Native.Nat.{_+_};
 ghost use lib.ListN.{length};
-ghost use Rattle.sheet.specs.Check.{firstCause};
 ghost use Rattle.machine.specs.Limits.{mostSequence};
 ghost use Rattle.machine.specs.Machine.{meaning, Proper, Commands};
-ghost use Rattle.machine.specs.Causes.{held, loadCauses};
 ghost use Rattle.certify.specs.Marks.{marks as marksOf};
-ghost use Rattle.certify.specs.Certification.{certifyNeeds, certifyCauses, outcome, Certifies};
+ghost use Rattle.certify.specs.Certification.{outcome, Certifies};
 use crate::answer::Answer;
 use crate::answer::answer_of;
 use crate::closure::close;
+use crate::loading::load_sequence;
 use crate::tally::count;
 use crate::tally::open_check;
 use crate::word::mark_words;
 use machine::Machine;
-use machine::commands;
-use machine::load_sheet;
 use sheet::Check;
 use sheet::Needs;
 use sheet::SEQUENCE_KIND;
 use sheet::WORD_KIND;
-use sheet::first_of;
 use sheet::read;
-use sheet::refuse;
-
-// Causes 7 and 9 behind the earlier ones, for a machine of k commands and a room for marks.
-fn checks(sheet: &[u8], earlier: Check, k: u8, room: usize) -> Check
-    requires { ⌜ earlier ≡ firstCause (loadCauses certifyNeeds (now sheet)) ⌝ }
-    requires { ⌜ k ≡ held (now sheet) .k ⌝ }
-    ensures { λ c. ⌜ c ≡ firstCause (certifyCauses certifyNeeds room (now (sheet .entry))) ⌝ }
-{
-    let xs = read(sheet, SEQUENCE_KIND);
-    let seven = commands(sheet, SEQUENCE_KIND, 7, Machine::SEQUENCE, k);
-    let bytes = xs.len() + 1;
-    let nine = refuse(9, bytes, room < bytes);
-    first_of(earlier, first_of(seven, nine))
-}
 
 // Marks the recognised places of a sequence, and answers.
 fn recognise(m: Machine, w: &[u8], xs: &[u8], marks: &mut [u8]) -> Answer
@@ -64,10 +46,9 @@ pub fn certify(sheet: &[u8], marks: &mut [u8]) -> Answer
         sequence: true,
         answers: false,
     };
-    let loaded = load_sheet(sheet, needs);
+    let loaded = load_sequence(sheet, needs, marks.len());
     let m = loaded.machine;
-    let earlier = loaded.check;
-    let check = checks(sheet, earlier, m.k, marks.len());
+    let check = loaded.check;
     if let Check::Refused { number, place } = check {
         return Answer::Refused { number, place };
     }

@@ -1,5 +1,5 @@
 -- Causes 3 to 6, and causes 1 to 6 in order (document 01, "Causes, in the order they are checked"). The laws stand in Causes.Laws (3, 4, 5
--- and 7), Causes.Separation (6) and Causes.Lists (the lists).
+-- and 7), Causes.Separation (6), Causes.Lists (the lists) and Causes.Places (how large a place is).
 use Prim.Native.Nat.{ℕ, _+_, _*_}
 use mathlib.Core.Bool.{Bool, true, false, not, _&&_, _||_}
 use mathlib.Core.List.{List, [], _∷_, _++_}
@@ -15,6 +15,7 @@ use Rattle.machine.specs.Limits.{mostStates, mostCommands, mostEntries, 
 use Rattle.machine.specs.Machine.{Mealy, pairAt, machineOf, answers}
 pub mod Laws
 pub mod Lists
+pub mod Places
 pub mod Separation
 
 -- below the least or above the most

@@ -1,4 +1,4 @@
--- The pigeonhole principle, over the numbers of the program's contracts.
+-- The pigeonhole principle, over the numbers of the program's contracts, and that a function that is one to one into no more numbers is onto.
 use Prim.Native.Nat.{ℕ, zero, suc, _≤_, _<_}
 use mathlib.Core.Path.{_≡_, refl, sym, _∙_}
 use mathlib.Core.Bool.{Bool, true, false}
@@ -73,3 +73,39 @@ pigeonhole (suc n) f low = go (seek f (f (suc n)) (suc n)) (λ h. pigeonhole n (
         let r = rest h in
         let jl : r .1 ≤ suc n = omega (arith, r .3) in
         (r .0, r .1, r .2, jl, alike n f low h (r .0) (r .1) (omega (arith, r .2, r .3)) (r .3) (instead (f (suc n)) n (f (r .0))) (instead (f (suc n)) n (f (r .1))) (r .4))
+
+module _ (n m : ℕ) (f : ℕ → ℕ) (few : m ≤ n) (low : (i : ℕ) → i < n → f i < m) (one : (i j : ℕ) → i < n → j < n → f i ≡ f j → i ≡ j) where
+  -- f, with one value more at n
+  data Longer (v i y : ℕ) : Type 0 where
+    last : i ≡ n → y ≡ v → Longer v i y
+    below : i < n → y ≡ f i → Longer v i y
+
+  longer : (v i : ℕ) → i ≤ n → Longer v i (choose (eqb i n) v (f i))
+  longer v i l = go (eqb i n) refl
+    where
+      less : (i ≡ n → ⊥) → i < n
+      less o = omega arith
+
+      go : (t : Bool) → eqb i n ≡ t → Longer v i (choose t v (f i))
+      go true e = last (eqb-true i n e) refl
+      go false e = below (less (eqb-false i n e)) refl
+
+  longer-low : (v i y : ℕ) → v < m → Longer v i y → y < n
+  longer-low v i y l (last e q) = omega arith
+  longer-low v i y l (below k q) = omega (arith, low i k)
+
+  apart : (v i j x y : ℕ) → ((s : ℕ) → s < n → f s ≡ v → ⊥) → i < j → Longer v i x → Longer v j y → x ≡ y → ⊥
+  apart v i j x y h l (last e q) (last e′ q′) s = omega arith
+  apart v i j x y h l (last e q) (below k q′) s = omega arith
+  apart v i j x y h l (below k q) (last e q′) s = h i k (omega arith)
+  apart v i j x y h l (below k q) (below k′ q′) s = let z = one i j k k′ (omega arith) in omega arith
+
+  -- a function that is one to one from the numbers below n to those below m, and m at most n, leaves none out
+  pub onto : (v : ℕ) → v < m → (s : ℕ) × (s < n) × (f s ≡ v)
+  onto v l = go (seek f v n)
+    where
+      go : Sought f v n → (s : ℕ) × (s < n) × (f s ≡ v)
+      go (at s sl e) = (s, sl, e)
+      go (nowhere h) =
+          let t = pigeonhole n (λ i. choose (eqb i n) v (f i)) (λ i il. longer-low v i _ l (longer v i il)) in
+          absurd (apart v (t .0) (t .1) _ _ h (t .2) (longer v (t .0) (omega (arith, t .2, t .3))) (longer v (t .1) (t .3)) (t .4))

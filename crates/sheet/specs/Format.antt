@@ -1,5 +1,5 @@
 -- The byte format of a sheet (document 01, "The sheet"), and causes 1 and 2 at each record.
--- The laws stand in Format.Laws.
+-- The laws stand in Format.Laws; Format.Records has which records come first.
 use Prim.Native.Nat.{ℕ, zero, suc, _+_, _*_, _-_}
 use mathlib.Core.Bool.{Bool, true, false, cond, _||_}
 use mathlib.Core.List.{List, [], _∷_}
@@ -14,6 +14,7 @@ use Rattle.sheet.specs.declared.record.Found.{Found}
 use Rattle.sheet.specs.declared.record.Found.the-variants.{At, Missing}
 use Rattle.sheet.specs.Check.{refusal_with_if_, _else_}
 pub mod Laws
+pub mod Records
 
 -- "The longest sheet has 40,912 bytes."
 abbrev pub longest : ℕ

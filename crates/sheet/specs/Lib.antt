@@ -1,3 +1,5 @@
 pub mod Check
 pub mod Format
 pub mod Reader
+pub mod Pasting
+pub mod Writing

@@ -1,5 +1,5 @@
 -- Checks 1 and 2 of a whole sheet, and what reading it hands back (document 01, "The sheet" and "Causes").
--- The laws stand in Reader.Laws.
+-- The laws stand in Reader.Laws, bounds on places in Reader.Places.
 use Prim.Native.Nat.{ℕ, _+_, _≤_}
 use mathlib.Core.Path.{_≡_}
 use mathlib.Core.Bool.{Bool, true, false}
@@ -17,6 +17,7 @@ use Rattle.sheet.specs.declared.reader.Needs.{Needs}
 use Rattle.sheet.specs.Check.{refusal_with_if_, firstCause}
 use Rattle.sheet.specs.Format.{longest, header, end, parsed, find}
 pub mod Laws
+pub mod Places
 
 -- "The sheet's length is compared first": cause 1 at "40,912 if longer than that"
 abbrev pub tooLong : List ℕ → Check

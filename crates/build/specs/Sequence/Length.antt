@@ -10,9 +10,10 @@ use native.Mathlib.Nat.{mul-le-mul, mul-le-mul-right, suc-mul, zero-mul, mul-ass
 use borrow.Author.Tests.{eqb-true, eqb-false}
 use lib.Dec.{eqb}
 use lib.ListN.{length, getD, length-append}
-use Rattle.machine.specs.Limits.{mostStates, mostCommands, mostEntries, mostWord, mostSequence}
+use Rattle.machine.specs.Limits.{mostStates, mostEntries, mostWord, mostSequence}
 use Rattle.machine.specs.Machine.{Mealy, run, Proper}
 use Rattle.machine.specs.Machine.Laws.{run-none, run-append, low-append}
+use Rattle.machine.specs.Causes.Laws.{proper-entries}
 use Rattle.build.specs.Sequence.{following, T, nthState, round, opening, approach, test, stateTests, tests, sequence, blockBound, lengthBound}
 use Rattle.build.specs.Sequence.Cycle.{following-below, gap, gap-below, gap-step, nthState-below}
 use Rattle.build.specs.Sequence.Laws.{Blocks, test-is, approach-none, approach-here, approach-step, opening-is, opening-leads, round-none, round-more, test-stays, state-tests-none, state-tests-more, tests-none, tests-more, sequence-is}
@@ -151,7 +152,7 @@ longest-below M w proper few =
     let cl : c ≤ most = omega (arith, proper .few-states) in
     let opens : (M .n + 1) * c ≤ (mostStates + 1) * most = mul-le-mul {n₁ = M .n + 1} {m₁ = c} {n₂ = mostStates + 1} {m₂ = most} (omega (arith, proper .few-states)) cl in
     let blocks : M .n * c ≤ mostStates * most = mul-le-mul {n₁ = M .n} {m₁ = c} {n₂ = mostStates} {m₂ = most} (proper .few-states) cl in
-    let entries : M .n * M .k ≤ mostEntries = mul-le-mul {n₁ = M .n} {m₁ = M .k} {n₂ = mostStates} {m₂ = mostCommands} (proper .few-states) (proper .few-commands) in
+    let entries : M .n * M .k ≤ mostEntries = proper-entries M proper in
     let tested : M .n * M .k * (M .n * c + 1) ≤ mostEntries * (mostStates * most + 1) =
     mul-le-mul {n₁ = M .n * M .k} {m₁ = M .n * c + 1} {n₂ = mostEntries} {m₂ = mostStates * most + 1} entries (omega arith) in
     omega arith

@@ -1,6 +1,6 @@
 -- The laws of certifying: what building and judging may know of it.
 use Prim.Native.Nat.{ℕ, _+_, _*_, _≤_, _<_}
-use mathlib.Core.Path.{_≡_, refl, sym, ap, _∙_}
+use mathlib.Core.Path.{_≡_, refl, sym, ap, ap₂, _∙_}
 use mathlib.Core.Bool.{Bool, true, false, true≢false, not}
 use mathlib.Core.List.{List, [], _∷_, _++_}
 use native.Mathlib.Omega.{arith}
@@ -10,13 +10,14 @@ use lib.ListN.{length, getD, drop}
 use Rattle.sheet.specs.declared.check.Check.{Check}
 use Rattle.sheet.specs.declared.check.Check.the-variants.{Clear, Refused}
 use Rattle.sheet.specs.Check.{refusal_with_if_, _else_, firstCause, first}
-use Rattle.sheet.specs.Check.Laws.{cause-cons, cause-one, cause-append, both-true, absent, present, clear-absent, both-clear, else-clear, else-refused, first-clear, first-clear-at, Present, first-present, present-test}
+use Rattle.sheet.specs.Check.Laws.{cause-cons, cause-one, cause-append, both-true, absent, present, clear-absent, both-clear, else-clear, else-refused, first-clear, first-clear-at, first-found, Present, first-present, present-test}
 use Rattle.sheet.specs.declared.reader.Needs.{Needs}
 use Rattle.sheet.specs.Reader.{the, content}
 use Rattle.machine.specs.Limits.{mostSequence}
 use Rattle.machine.specs.Machine.{Mealy, stateAt, Commands}
 use Rattle.machine.specs.Causes.{machineIn, loadCauses}
 use Rattle.machine.specs.Causes.Laws.{entry-below, clear-commands}
+use Rattle.machine.specs.Causes.Lists.{load-without-answers}
 use Rattle.certify.specs.declared.answer.Answer.the-variants.{Certified as CertifiedAnswer, Open, Refused as RefusedAnswer}
 use Rattle.certify.specs.Recognition.{Recognised, Verified, Certified}
 use Rattle.certify.specs.Marks.{marked, count, marks}
@@ -145,6 +146,38 @@ module _ (M : Mealy) (w xs : List ℕ) where
   unfolding cause11 openCause entryCheck rows
   refused-open e = open-by (marked (marks M w xs) 0) refl e
 
+  -- the other direction: an open number is the one that is refused with
+  unmarked : (b : Bool) → marked (marks M w xs) 0 ≡ b → (Recognised M w xs 0 → ⊥) → marked (marks M w xs) 0 ≡ false
+  unmarked true e h = absurd (h (marked-recognised M w xs 0 (marked-true (marks M w xs) 0 e)))
+  unmarked false e h = e
+
+  unverified : (s c : ℕ) (b : Bool) → verified M xs (marks M w xs) s c ≡ b → (Verified M w xs s c → ⊥) → verified M xs (marks M w xs) s c ≡ false
+  unverified s c true e h = absurd (h (verified-true M w xs s c e))
+  unverified s c false e h = e
+
+  verified-clear : (s c : ℕ) → Verified M w xs s c → entryCheck s c ≡ Clear
+  unfolding entryCheck
+  verified-clear s c v = absent 11 _ (ap not (true-verified M w xs s c v))
+
+  entry-refused : (s c : ℕ) → (Verified M w xs s c → ⊥) → entryCheck s c ≡ Refused 11 (1 + (s * M .k + c))
+  unfolding entryCheck
+  entry-refused s c h = present 11 _ (ap not (unverified s c _ refl h))
+
+  rows-refused : (s c : ℕ) → s < M .n → c < M .k → (Verified M w xs s c → ⊥) → ((t d : ℕ) → t < s → d < M .k → Verified M w xs t d)
+      → ((d : ℕ) → d < c → Verified M w xs s d) → rows ≡ Refused 11 (1 + (s * M .k + c))
+  unfolding rows
+  rows-refused s c ls lc h before row =
+      first-found (M .n) s (λ t. first (M .k) (entryCheck t)) ls (first-clear s _ (λ t lt. first-clear (M .k) (entryCheck t) (λ d ld. verified-clear t d (before t d lt ld))))
+      (first-found (M .k) c (entryCheck s) lc (first-clear c (entryCheck s) (λ d ld. verified-clear s d (row d ld))) (entry-refused s c h))
+
+  pub open-refused : {v : ℕ} → OpenNumber M w xs v → cause11 M w xs ≡ Refused 11 v
+  unfolding cause11 openCause entryCheck rows
+  open-refused (start-open h e) =
+      ap (λ (c : Check). c else rows) (present 11 0 (ap not (unmarked _ refl h))) ∙ else-refused 11 0 rows ∙ ap (Refused 11) (sym e)
+  open-refused (entry-open s c ls lc r h before row e) =
+      ap (λ (d : Check). d else rows) (absent 11 0 (ap not (true-marked (marks M w xs) 0 (recognised-marked M w xs 0 r))))
+      ∙ else-clear rows ∙ rows-refused s c ls lc h before row ∙ ap (Refused 11) (sym e)
+
 -- it is at most n·k
 pub open-small : (M : Mealy) (w xs : List ℕ) (v : ℕ) → OpenNumber M w xs v → v ≤ M .n * M .k
 open-small M w xs v (start-open h e) = omega arith
@@ -210,6 +243,15 @@ module _ (needs : Needs) (room : ℕ) (s : List ℕ) (e : firstCause (certifyCau
   pub room-enough : markBytes (content 3 s) ≤ room
   unfolding cause9
   room-enough = ltb-false _ _ (clear-absent 9 _ _ (both-clear _ _ (both-parts .1) .1))
+
+-- a service that does not need the answers refuses no sheet that one that does takes
+pub certify-without-answers : (w q : Bool) (room : ℕ) (s : List ℕ) → firstCause (certifyCauses (record { word = w; sequence = q; answers = true }) room s) ≡ Clear
+    → firstCause (certifyCauses (record { word = w; sequence = q; answers = false }) room s) ≡ Clear
+certify-without-answers w q room s e =
+    let h = both-clear _ _ (sym (certify-causes-are (record { word = w; sequence = q; answers = true }) room s) ∙ e) in
+    certify-causes-are (record { word = w; sequence = q; answers = false }) room s
+    ∙ ap₂ _else_ (load-without-answers w q s (h .0)) (h .1)
+    ∙ else-clear Clear
 
 -- how marks are kept
 pub kept-is : (ms buffer : List ℕ) → ms ++ drop (length ms) buffer ≡ kept ms buffer

@@ -1,22 +1,22 @@
 -- The laws of causes 3, 4, 5 and 7: each as the code looks for it, and what it shows where it is clear.
 use Prim.Native.Nat.{ℕ, _+_, _*_, _<_, _≤_}
-use mathlib.Core.Path.{_≡_, sym, ap, _∙_, fun-ext}
+use mathlib.Core.Path.{_≡_, sym, ap, ap₂, _∙_, fun-ext}
 use mathlib.Core.Bool.{Bool, false, not, _||_}
 use mathlib.Core.List.{List}
 use native.Mathlib.Omega.{arith}
 use native.Mathlib.Nat.{zero-add, one-mul, add-mul, mul-le-mul, mul-le-mul-right}
-use borrow.Author.Tests.{ltb-false, leb-false, eqb-true, not-false}
+use borrow.Author.Tests.{ltb-false, leb-false, eqb-true, not-false, le-ltb, lt-leb}
 use lib.Dec.{leb, ltb, eqb}
 use lib.ListN.{length, getD}
 use Rattle.sheet.specs.declared.check.Check.{Check}
 use Rattle.sheet.specs.declared.check.Check.the-variants.{Clear}
 use Rattle.sheet.specs.declared.record.Record.{Record}
 use Rattle.sheet.specs.Check.{refusal_with_if_, _else_, first}
-use Rattle.sheet.specs.Check.Laws.{neither, clear-absent, both-clear, first-clear-at}
+use Rattle.sheet.specs.Check.Laws.{neither, absent, clear-absent, else-clear, both-clear, first-clear, first-clear-at}
 use Rattle.sheet.specs.Format.{header, offset}
 use Rattle.sheet.specs.Format.Laws.{offset-is}
 use Rattle.machine.specs.Limits.{mostStates, mostCommands, mostEntries}
-use Rattle.machine.specs.Machine.{pairAt, Commands}
+use Rattle.machine.specs.Machine.{Mealy, pairAt, Proper, Commands}
 use Rattle.machine.specs.Causes.{outside, cause3, cause4, commandsCause}
 
 -- cause 3, of the bytes and tests as the code has them
@@ -88,6 +88,13 @@ few-entries p h = mul-le-mul {n₁ = getD p 0 0} {m₁ = getD p 1 0} {n₂ = mos
 pub entry-below : (n k s c : ℕ) → s < n → c < k → s * k + c < n * k
 entry-below n k s c p q = omega (arith, add-mul s 1 k, one-mul k, mul-le-mul-right {m = s + 1} {n = n} k (omega arith))
 
+-- a machine within the limits has few entries
+pub proper-entries : (M : Mealy) → Proper M → M .n * M .k ≤ mostEntries
+proper-entries M h = mul-le-mul {n₁ = M .n} {m₁ = M .k} {n₂ = mostStates} {m₂ = mostCommands} (h .few-states) (h .few-commands)
+
+pub proper-entry : (M : Mealy) → Proper M → (s c : ℕ) → s < M .n → c < M .k → s * M .k + c < mostEntries
+proper-entry M h s c sl cl = omega (arith, entry-below (M .n) (M .k) s c sl cl, proper-entries M h)
+
 pub clear-next : (r : Record) (p : List ℕ) → cause4 r p ≡ Clear → (s c : ℕ) → s < getD p 0 0 → c < getD p 1 0
     → getD p (pairAt (s * getD p 1 0 + c)) 0 < getD p 0 0
 unfolding cause4
@@ -107,3 +114,11 @@ clear-commands number most k r w e =
       few = l .1;
       low = λ i h. leb-false _ _ (clear-absent number (offset r i) _ (first-clear-at (length w) i _ (both .1) h));
     }
+
+-- the other direction
+pub commands-clear : (number most k : ℕ) (r : Record) (w : List ℕ) → Commands most k w → commandsCause number most k r w ≡ Clear
+unfolding commandsCause
+commands-clear number most k r w h =
+    ap₂ _else_ (absent number (r .start) (ap₂ _||_ (le-ltb (length w) 1 (h .some)) (le-ltb most (length w) (h .few))))
+    (first-clear (length w) _ (λ i l. absent number (offset r i) (lt-leb k (getD w i 0) (h .low i l))))
+    ∙ else-clear Clear

@@ -1,7 +1,7 @@
 -- The laws of causes 1 to 6 in order, and what a sheet shows where they are clear.
 use Prim.Native.Nat.{ℕ, _+_, _*_}
-use mathlib.Core.Path.{_≡_, sym, ap, _∙_}
-use mathlib.Core.Bool.{true, false}
+use mathlib.Core.Path.{_≡_, sym, ap, ap₂, _∙_}
+use mathlib.Core.Bool.{Bool, true, false}
 use mathlib.Core.List.{List, [], _∷_, List·Memᴰ}
 use native.Mathlib.Omega.{arith}
 use lib.ListN.{take}
@@ -10,9 +10,9 @@ use Rattle.sheet.specs.declared.check.Check.{Check}
 use Rattle.sheet.specs.declared.check.Check.the-variants.{Clear}
 use Rattle.sheet.specs.declared.reader.Needs.{Needs}
 use Rattle.sheet.specs.Check.{_else_, firstCause}
-use Rattle.sheet.specs.Check.Laws.{both-clear, cause-none, cause-cons, cause-one, cause-append}
+use Rattle.sheet.specs.Check.Laws.{else-clear, both-clear, cause-none, cause-cons, cause-one, cause-append}
 use Rattle.sheet.specs.Reader.{sheetCauses, needed, the, content, Reads}
-use Rattle.sheet.specs.Reader.Laws.{needed-clear, clear-reads}
+use Rattle.sheet.specs.Reader.Laws.{needed-without-answers, needed-clear, clear-reads}
 use Rattle.machine.specs.Limits.{mostEntries, mostWord}
 use Rattle.machine.specs.Machine.{Mealy, machineOf, Proper, Distinguishes}
 use Rattle.machine.specs.Causes.{cause3, cause4, cause5, cause6, machineIn, held, machineCauses, wordCauses, loadCauses}
@@ -88,3 +88,15 @@ word-distinguishes n s t e =
       commands = clear-commands 5 mostWord (machineIn s .k) (the 2 s) (content 2 s) (two .0);
       separates = clear-separates (machineIn s) (content 2 s) (two .1);
     }
+
+-- a service that does not need the answers refuses no sheet that one that does takes
+pub load-without-answers : (w q : Bool) (s : List ℕ) → firstCause (loadCauses (record { word = w; sequence = q; answers = true }) s) ≡ Clear
+    → firstCause (loadCauses (record { word = w; sequence = q; answers = false }) s) ≡ Clear
+load-without-answers w q s e =
+    let n : Needs = record { word = w; sequence = q; answers = true } in
+    let m : Needs = record { word = w; sequence = q; answers = false } in
+    let load = both-clear _ _ (sym (load-causes-are n s) ∙ e) in
+    let table = both-clear _ _ (sym (machine-causes-are n s) ∙ load .0) in
+    let machine : firstCause (machineCauses m s) ≡ Clear =
+    machine-causes-are m s ∙ ap₂ _else_ (needed-without-answers w q s (table .0)) (table .1) ∙ else-clear Clear in
+    load-causes-are m s ∙ ap₂ _else_ machine (load .1) ∙ else-clear Clear

@@ -5,7 +5,7 @@ use mathlib.Core.List.{List, [], _∷_, _++_}
 use native.Mathlib.Omega.{arith}
 use native.Mathlib.Numerals.{add-one}
 use lib.ListN.{length, getD, take, drop, length-take, length-drop}
-use lib.Seq.{take-append-seam, take-suc, take-add, getD-take, getD-drop}
+use lib.Seq.{take-append-seam, take-suc, take-add, take-all, getD-take, getD-drop}
 use Rattle.machine.specs.Machine.{Mealy, tabled, run, answers, stateAt, Proper}
 
 -- two machines are equal where they have the same states, commands, start and entries
@@ -87,6 +87,34 @@ unfolding answers
 answers-length M s [] = refl
 answers-length M s (c ∷ w) = ap suc (answers-length M (M .next s c) w)
 
+-- the first answers, the later ones, and a single one
+pub answers-take : (M : Mealy) (s m : ℕ) (xs : List ℕ) → take m (answers M s xs) ≡ answers M s (take m xs)
+unfolding answers
+answers-take M s zero xs = refl
+answers-take M s (suc m) [] = refl
+answers-take M s (suc m) (c ∷ xs) = ap (λ (l : List ℕ). M .answer s c ∷ l) (answers-take M (M .next s c) m xs)
+
+pub answers-drop : (M : Mealy) (s p : ℕ) (xs : List ℕ) → drop p (answers M s xs) ≡ answers M (run M s (take p xs)) (drop p xs)
+unfolding run answers
+answers-drop M s zero xs = refl
+answers-drop M s (suc p) [] = refl
+answers-drop M s (suc p) (c ∷ xs) = answers-drop M (M .next s c) p xs
+
+answers-get : (M : Mealy) (s p : ℕ) (xs : List ℕ) → p < length xs → getD (answers M s xs) p 0 ≡ M .answer (run M s (take p xs)) (getD xs p 0)
+unfolding run answers
+answers-get M s p [] l = let z : ⊥ = omega arith in absurd z
+answers-get M s zero (c ∷ xs) l = refl
+answers-get M s (suc p) (c ∷ xs) l = answers-get M (M .next s c) p xs (omega arith)
+
+-- so the answers to m commands from place p are those of its state, and the answer at a place is its entry's
+pub answers-part : (M : Mealy) (xs : List ℕ) (p m : ℕ) → take m (drop p (answers M (M .start) xs)) ≡ answers M (stateAt M xs p) (take m (drop p xs))
+unfolding stateAt
+answers-part M xs p m = ap (take m) (answers-drop M (M .start) p xs) ∙ answers-take M (run M (M .start) (take p xs)) m (drop p xs)
+
+pub answer-at : (M : Mealy) (xs : List ℕ) (p : ℕ) → p < length xs → getD (answers M (M .start) xs) p 0 ≡ M .answer (stateAt M xs p) (getD xs p 0)
+unfolding stateAt
+answer-at M xs p l = answers-get M (M .start) p xs l
+
 -- the state of place 0 is the start, and that of each later place is the next state at the command before it
 pub state-start : (M : Mealy) (xs : List ℕ) → stateAt M xs 0 ≡ M .start
 unfolding stateAt run
@@ -103,6 +131,11 @@ state-next M xs p l =
 pub state-split : (M : Mealy) (u v : List ℕ) → stateAt M (u ++ v) (length u) ≡ run M (M .start) u
 unfolding stateAt
 state-split M u v = ap (run M (M .start)) (take-append-seam u v)
+
+-- and the last place has the state where the whole sequence leads
+pub state-end : (M : Mealy) (xs : List ℕ) → stateAt M xs (length xs) ≡ run M (M .start) xs
+unfolding stateAt
+state-end M xs = ap (run M (M .start)) (take-all (length xs) xs (omega arith))
 
 -- the state m commands after p is where these lead from p's state
 state-along : (M : Mealy) (xs : List ℕ) (p m : ℕ) → stateAt M xs (p + m) ≡ run M (stateAt M xs p) (take m (drop p xs))
@@ -127,13 +160,21 @@ low-take k n u h i l = let m = simp length-take at l in rw (getD-take n u i 0 (o
 pub low-drop : (k n : ℕ) (u : List ℕ) → ((i : ℕ) → i < length u → getD u i 0 < k) → (i : ℕ) → i < length (drop n u) → getD (drop n u) i 0 < k
 low-drop k n u h i l = let m = simp length-drop at l in rw (getD-drop n u i 0) (h (n + i) (omega arith))
 
--- a proper machine stays among its states
-pub run-stays : (M : Mealy) → Proper M → (s : ℕ) (w : List ℕ) → s < M .n → ((i : ℕ) → i < length w → getD w i 0 < M .k) → run M s w < M .n
-unfolding run
-run-stays M h s [] sl low = sl
-run-stays M h s (c ∷ w) sl low = run-stays M h (M .next s c) w (h .stays s c sl (low 0 (omega arith))) (λ i l. low (suc i) (omega arith))
+-- ---- a run stays among the states
+module _ (M : Mealy) (closed : (s c : ℕ) → s < M .n → c < M .k → M .next s c < M .n) where
+  run-closed : (s : ℕ) (w : List ℕ) → s < M .n → ((i : ℕ) → i < length w → getD w i 0 < M .k) → run M s w < M .n
+  unfolding run
+  run-closed s [] sl low = sl
+  run-closed s (c ∷ w) sl low = run-closed (M .next s c) w (closed s c sl (low 0 (omega arith))) (λ i l. low (suc i) (omega arith))
 
--- so every place of a sequence has one of its states
+  -- every place of a sequence has one of them
+  pub state-closed : M .start < M .n → (xs : List ℕ) → ((i : ℕ) → i < length xs → getD xs i 0 < M .k) → (p : ℕ) → stateAt M xs p < M .n
+  unfolding stateAt
+  state-closed starts xs low p = run-closed (M .start) (take p xs) starts (low-take (M .k) p xs low)
+
+-- so of a machine within the limits
+pub run-stays : (M : Mealy) → Proper M → (s : ℕ) (w : List ℕ) → s < M .n → ((i : ℕ) → i < length w → getD w i 0 < M .k) → run M s w < M .n
+run-stays M h = run-closed M (h .stays)
+
 pub state-stays : (M : Mealy) → Proper M → (xs : List ℕ) → ((i : ℕ) → i < length xs → getD xs i 0 < M .k) → (p : ℕ) → stateAt M xs p < M .n
-unfolding stateAt
-state-stays M h xs low p = run-stays M h (M .start) (take p xs) (h .starts) (low-take (M .k) p xs low)
+state-stays M h = state-closed M (h .stays) (h .starts)

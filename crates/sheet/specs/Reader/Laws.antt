@@ -63,6 +63,20 @@ checks-are n s =
     both : (ks ls : List ℕ) → firstCause (map (missing s) (ks ++ ls)) ≡ (firstCause (map (missing s) ks) else firstCause (map (missing s) ls))
     both ks ls = ap firstCause (map-append s ks ls) ∙ cause-append (map (missing s) ks) (map (missing s) ls)
 
+-- a service that does not need the answers refuses no sheet that one that does takes
+pub needed-without-answers : (w q : Bool) (s : List ℕ) → firstCause (sheetCauses (needed (record { word = w; sequence = q; answers = true })) s) ≡ Clear
+    → firstCause (sheetCauses (needed (record { word = w; sequence = q; answers = false })) s) ≡ Clear
+needed-without-answers w q s e =
+    let one = both-clear _ _ (sym (checks-are (record { word = w; sequence = q; answers = true }) s) ∙ e) in
+    let two = both-clear _ _ (one .1) in
+    let three = both-clear _ _ (two .1) in
+    checks-are (record { word = w; sequence = q; answers = false }) s
+    ∙ ap₂ _else_ (one .0) (ap₂ _else_ (two .0) (ap₂ _else_ (three .0) not-needed ∙ else-clear Clear) ∙ else-clear Clear)
+    ∙ else-clear Clear
+  where
+    not-needed : whenMissing s 4 false ≡ Clear
+    not-needed = sym (when-missing s 4 false) ∙ absent 2 (length s) refl
+
 -- ---- what holds of a record that is found
 of-kind-at : (k : ℕ) (r r′ : Record) → ofKind k r ≡ At r′ → (r ≡ r′) × (r .kind ≡ k)
 unfolding ofKind

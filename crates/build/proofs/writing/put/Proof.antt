@@ -4,7 +4,8 @@ use Prim.Native.Nat.{_-_}
 use mathlib.Core.Path.{refl}
 use lib.ListN.{length}
 use denote.Ref.{now}
-use Rattle.build.proofs.Writes.{Copying, copying-start, copying-on, copying-end, too-long}
+use Rattle.sheet.specs.Pasting.{Copying, copying-start, copying-on}
+use Rattle.build.proofs.Writes.{copying-end, too-long}
 use borrow.Author.Needs.{needs}
 use Rattle.build.proofs.writing.put.Statement.{statement}
 use Rattle.build.proofs.writing.put.Tie as tie
@@ -24,7 +25,7 @@ returns c =
 
 loop-holds : tie.Need-loop-holds Inv-loop μ-loop
 loop-holds c =
-    copying-start (now (c .before .args .buffer)) (c .before .args .at) (now (c .before .args .xs)) refl (c .if1 .left)
+    copying-start (now (c .before .args .buffer)) (c .before .args .at) (now (c .before .args .xs)) (c .if1 .left)
 
 shared-slice-read-buffer : tie.Need-shared-slice-read-buffer Inv-loop μ-loop
 shared-slice-read-buffer c = search needs

@@ -1,33 +1,26 @@
 -- `certify::service::certify` meets its contract: a refusal, or the outcome and the marks.
 -- Assumes nothing.
 use borrow.Author.Needs.{needs}
-use mathlib.Core.Path.{refl, sym, ap, _∙_}
-use Prim.Native.Nat.{_+_}
+use denote.Ref.{now}
+use mathlib.Core.Path.{refl, sym}
+use Prim.Native.Nat.{_+_, _≤_}
 use lib.ListN.{length}
 use lib.Seq.{length-take-le, length-front}
-use denote.Ref.{now}
 use Rattle.sheet.specs.Reader.Laws.{handed-content}
-use Rattle.machine.specs.Machine.{Mealy}
-use Rattle.machine.specs.Machine.Laws.{tabled-commands}
-use Rattle.certify.proofs.Answering.{asked, certifies-refused, certifies-clear}
+use Rattle.certify.proofs.Answering.{certifies-refused, certifies-clear}
 use Rattle.certify.proofs.service.certify.Statement.{statement}
 use Rattle.certify.proofs.service.certify.Tie as tie
 
-load-sheet-requires : tie.Need-load-sheet-requires
-load-sheet-requires c κs = search needs
-
-checks-requires : tie.Need-checks-requires
-checks-requires c κs =
-    let loaded = c .before .load-sheet .ensures in
-    (loaded .check, sym (tabled-commands _ _ _ _ _) ∙ ap (λ (M : Mealy). M .k) (loaded .holds))
+load-sequence-requires : tie.Need-load-sequence-requires
+load-sequence-requires c κs = search needs
 
 enum-known-check : tie.Need-enum-known-check
 enum-known-check c = search needs
 
 returns : tie.Need-returns
 returns c =
-    let start = c .before .before .before .before .before .before .before .before in
-    certifies-refused (now (start .args .sheet)) (now (start .args .marks)) (c .before .before .before .checks .ensures) (c .before .check .given .1)
+    let start = c .before .before .before .before .before .before .before in
+    certifies-refused (now (start .args .sheet)) (now (start .args .marks)) (c .before .before .before .before .load-sequence .ensures .check) (c .before .check .given .1)
 
 enum-told : tie.Need-enum-told
 enum-told c = search needs
@@ -43,38 +36,47 @@ add-end c = search needs
 
 slice-relend-prefix-recognise : tie.Need-slice-relend-prefix-recognise
 slice-relend-prefix-recognise c =
-    let start = c .before .before .before .before .before .before .before .before .before in
-    let h = asked (now (start .args .sheet)) (now (start .args .marks)) (c .before .before .before .before .before .before .load-sheet .ensures) (c .before .before .before .before .checks .ensures) (c .before .before .enum-told .given .1) (handed-content _ (start .args .sheet) (c .read2 .result) (c .read2 .ensures)) in
+    let start = c .before .before .before .before .before .before .before .before in
+    let h = c .before .before .before .before .before .load-sequence .ensures in
+    let clear = c .before .before .enum-told .given .1 in
+    let xe = handed-content _ (start .args .sheet) (c .read2 .result) (c .read2 .ensures) in
+    let room : length (now (c .read2 .result)) + 1 ≤ length (now (start .args .marks)) = rw xe (h .fits clear) in
     search needs
 
 slice-aggregate-recognise : tie.Need-slice-aggregate-recognise
 slice-aggregate-recognise c =
-    let start = c .before .before .before .before .before .before .before .before .before .before in
-    let h = asked (now (start .args .sheet)) (now (start .args .marks)) (c .before .before .before .before .before .before .before .load-sheet .ensures) (c .before .before .before .before .before .checks .ensures) (c .before .before .before .enum-told .given .1) (handed-content _ (start .args .sheet) (c .before .read2 .result) (c .before .read2 .ensures)) in
-    sym (length-take-le _ (now (start .args .marks)) (h .room))
+    let start = c .before .before .before .before .before .before .before .before .before in
+    let h = c .before .before .before .before .before .before .load-sequence .ensures in
+    let clear = c .before .before .before .enum-told .given .1 in
+    let xe = handed-content _ (start .args .sheet) (c .before .read2 .result) (c .before .read2 .ensures) in
+    sym (length-take-le _ (now (start .args .marks)) (rw xe (h .fits clear)))
 
 recognise-requires : tie.Need-recognise-requires
 recognise-requires c κs =
-    let start = c .before .before .before .before .before .before .before .before .before .before in
-    let h = asked (now (start .args .sheet)) (now (start .args .marks)) (c .before .before .before .before .before .before .before .load-sheet .ensures) (c .before .before .before .before .before .checks .ensures) (c .before .before .before .enum-told .given .1) (handed-content _ (start .args .sheet) (c .before .read2 .result) (c .before .read2 .ensures)) in
-    (h .proper, (h .commands, length-take-le _ _ (h .room)))
+    let start = c .before .before .before .before .before .before .before .before .before in
+    let h = c .before .before .before .before .before .before .load-sequence .ensures in
+    let clear = c .before .before .before .enum-told .given .1 in
+    let xe = handed-content _ (start .args .sheet) (c .before .read2 .result) (c .before .read2 .ensures) in
+    (h .proper clear, (rw xe (h .commands clear), length-take-le _ _ (rw xe (h .fits clear))))
 
 same-length : tie.Need-same-length
-same-length c = length-front (now (c .before .before .before .before .before .before .before .before .before .before .before .before .before .args .marks)) (c .before .before .recognise .last .1 .1 .1 .0) (length (now (c .before .before .before .before .read2 .result)) + 1) (c .before .before .recognise .kept .1 .1 .1 .0)
+same-length c =
+    length-front (now (c .before .before .before .before .before .before .before .before .before .before .before .before .args .marks)) (c .before .before .recognise .last .1 .1 .1 .0) (length (now (c .before .before .before .before .read2 .result)) + 1) (c .before .before .recognise .kept .1 .1 .1 .0)
 
 returns-2 : tie.Need-returns-2
 returns-2 c =
-    let start = c .before .before .before .before .before .before .before .before .before .before .before .before .before in
-    let h = asked (now (start .args .sheet)) (now (start .args .marks)) (c .before .before .before .before .before .before .before .before .before .before .load-sheet .ensures) (c .before .before .before .before .before .before .before .before .checks .ensures) (c .before .before .before .before .before .before .enum-told .given .1) (handed-content _ (start .args .sheet) (c .before .before .before .before .read2 .result) (c .before .before .before .before .read2 .ensures)) in
-    certifies-clear (now (start .args .sheet)) (now (start .args .marks)) (c .before .before .before .before .before .before .before .before .checks .ensures) (c .before .before .before .before .before .before .enum-told .given .1) (h .machine)
-    (handed-content _ (start .args .sheet) (c .before .before .before .before .before .read .result) (c .before .before .before .before .before .read .ensures)) (handed-content _ (start .args .sheet) (c .before .before .before .before .read2 .result) (c .before .before .before .before .read2 .ensures)) (c .before .before .recognise .ensures .0) (c .before .before .recognise .ensures .1) refl
+    let start = c .before .before .before .before .before .before .before .before .before .before .before .before in
+    let h = c .before .before .before .before .before .before .before .before .before .load-sequence .ensures in
+    let clear = c .before .before .before .before .before .before .enum-told .given .1 in
+    let xe = handed-content _ (start .args .sheet) (c .before .before .before .before .read2 .result) (c .before .before .before .before .read2 .ensures) in
+    certifies-clear (now (start .args .sheet)) (now (start .args .marks)) (h .check) clear (h .machine clear)
+    (handed-content _ (start .args .sheet) (c .before .before .before .before .before .read .result) (c .before .before .before .before .before .read .ensures)) xe (c .before .before .recognise .ensures .0) (c .before .before .recognise .ensures .1) refl
 
 pub certify-spec : {M : Type 1} → statement M
 certify-spec =
     tie.close
     (tie.spec
-    load-sheet-requires
-    checks-requires
+    load-sequence-requires
     enum-known-check
     returns
     enum-told

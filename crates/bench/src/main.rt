@@ -1,0 +1,21 @@
+// Reads a sheet from standard input, judges it and prints one line.
+use report::LINE;
+use report::ROOM;
+use report::judge_sheet;
+use streams::Input;
+use streams::read_input;
+use streams::write_output;
+
+fn answer(sheet: &[u8]) {
+    let mut line = [0u8; LINE];
+    let size = judge_sheet(sheet, &mut line);
+    write_output(&line[..size]);
+}
+
+fn main() {
+    let mut sheet = [0u8; ROOM];
+    let input = read_input(&mut sheet);
+    if let Input::Read { size } = input {
+        answer(&sheet[..size]);
+    }
+}

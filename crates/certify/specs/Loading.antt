@@ -1,0 +1,28 @@
+-- What a service that certifies begins with, here and in judging: the first refusal of causes 1 to 7 and 9, or the machine, with a sequence of
+-- its commands and room for the marks.
+use Prim.Native.Nat.{ℕ, _≤_}
+use mathlib.Core.Path.{_≡_}
+use mathlib.Core.List.{List}
+use Rattle.sheet.specs.declared.check.Check.the-variants.{Clear}
+use Rattle.sheet.specs.declared.reader.Needs.{Needs}
+use Rattle.sheet.specs.Check.{firstCause}
+use Rattle.sheet.specs.Reader.{part, content}
+use Rattle.machine.specs.Limits.{mostSequence}
+use Rattle.machine.specs.declared.loading.Loaded.{Loaded}
+use Rattle.machine.specs.Machine.{meaning, Proper, Commands}
+use Rattle.machine.specs.Causes.{machineIn, held}
+use Rattle.certify.specs.Certification.{markBytes, certifyCauses}
+
+-- the kinds n needed, the room for marks, the sheet s, and what loading it answers
+pub record SequenceLoaded (n : Needs) (room : ℕ) (s : List ℕ) (l : Loaded) : Type 0 where
+  -- the first refusal, or Clear
+  pub check : l .check ≡ firstCause (certifyCauses n room s)
+  -- where the word stands
+  pub word : l .word ≡ part 2 s
+  -- where nothing is refused: the machine is the sheet's and within its limits, the sequence is one of its commands, and its marks fit
+  pub machine : l .check ≡ Clear → meaning (l .machine) ≡ machineIn s
+  pub proper : l .check ≡ Clear → Proper (meaning (l .machine))
+  pub commands : l .check ≡ Clear → Commands mostSequence (meaning (l .machine) .k) (content 3 s)
+  pub fits : l .check ≡ Clear → markBytes (content 3 s) ≤ room
+  -- on a refusal document 01 leaves the machine free: it is this one in any case
+  pub holds : meaning (l .machine) ≡ held s

@@ -1,0 +1,79 @@
+-- How the loop of `compare` runs along the answers, and what its three ends show.
+use Prim.Native.Nat.{ℕ, _+_, _*_, _≤_, _<_}
+use mathlib.Core.Path.{_≡_, sym, ap, _∙_}
+use mathlib.Core.List.{List}
+use native.Mathlib.Omega.{arith}
+use lib.ListN.{length, getD}
+use lib.Seq.{ext-getD}
+use Rattle.machine.specs.Limits.{mostEntries, mostSequence}
+use Rattle.machine.specs.Machine.{Mealy, tabled, answers, stateAt, Proper, Commands}
+use Rattle.machine.specs.Machine.Laws.{tabled-commands, tabled-start, tabled-next, tabled-answer, answers-length, answer-at, state-start, state-next, state-stays}
+use Rattle.machine.specs.Causes.Laws.{proper-entry}
+use Rattle.machine.specs.Numbers.{below-more}
+use Rattle.judge.specs.declared.answer.Answer.the-variants.{Pass, Wrong, Unfinished}
+use Rattle.judge.specs.Judging.{verdict}
+use Rattle.judge.specs.Judging.Verdict.{Right, passed, wrong, unfinished, judged-verdict}
+
+-- what the comparison asks of a machine's two columns, a sequence and the answers
+pub record Asked (M : Mealy) (xs ys : List ℕ) : Type 0 where
+  pub proper : Proper M
+  pub commands : Commands mostSequence (M .k) xs
+  pub few : length ys ≤ length xs
+
+-- the answers before i are right, and s is the state there
+pub record Compared (M : Mealy) (xs ys : List ℕ) (i s : ℕ) : Type 0 where
+  pub inside : i ≤ length ys
+  pub state : s ≡ stateAt M xs i
+  pub right : Right M xs ys i
+
+module _ (n k start : ℕ) (next answer xs ys : List ℕ) where
+  abbrev M : Mealy
+  M = tabled n k start next answer
+
+  pub compared-start : {s : ℕ} → s ≡ start → Compared M xs ys 0 s
+  compared-start e = record {
+    inside = omega arith;
+    state = e ∙ sym (tabled-start n k start next answer) ∙ sym (state-start M xs);
+    right = λ i l. absurd (omega arith);
+  }
+
+  module _ (h : Asked M xs ys) {i s : ℕ} (c : Compared M xs ys i s) where
+    module _ (l : i < length ys) {e : ℕ} (at : e ≡ s * k + getD xs i 0) where
+      inside-sequence : i < length xs
+      inside-sequence = omega (arith, h .few)
+
+      pub entry-inside : e < mostEntries
+      entry-inside =
+          let q : e ≡ s * M .k + getD xs i 0 = at ∙ ap (λ (x : ℕ). s * x + getD xs i 0) (sym (tabled-commands n k start next answer)) in
+          let sl : s < M .n = rw (c .state) (state-stays M (h .proper) xs (h .commands .low) i) in
+          omega (arith, proper-entry M (h .proper) s (getD xs i 0) sl (h .commands .low i inside-sequence))
+
+      specified-is : {v : ℕ} → v ≡ getD answer e 0 → v ≡ getD (answers M (M .start) xs) i 0
+      specified-is ve =
+          tabled-answer n k start next answer s (getD xs i 0) ve at ∙ ap (λ (x : ℕ). M .answer x (getD xs i 0)) (c .state) ∙ sym (answer-at M xs i inside-sequence)
+
+      -- an answer that differs
+      pub compared-wrong : {v g : ℕ} → v ≡ getD answer e 0 → g ≡ getD ys i 0 → (v ≡ g → ⊥) → Wrong i v g ≡ verdict M xs ys
+      compared-wrong ve ge d = judged-verdict M xs ys (h .few) (wrong l (c .right) d (specified-is ve) ge)
+
+      -- one that is right
+      pub compared-next : {v g t : ℕ} → v ≡ getD answer e 0 → g ≡ getD ys i 0 → v ≡ g → t ≡ getD next e 0 → Compared M xs ys (i + 1) t
+      compared-next {v} {g} ve ge q te = record {
+        inside = omega arith;
+        state = tabled-next n k start next answer s (getD xs i 0) te at ∙ ap (λ (x : ℕ). M .next x (getD xs i 0)) (c .state) ∙ sym (state-next M xs i inside-sequence);
+        right = below-more (λ j. getD (answers M (M .start) xs) j 0 ≡ getD ys j 0) i (c .right) (sym (specified-is ve) ∙ q ∙ ge);
+      }
+
+    module _ (l : length ys ≤ i) where
+      ended : i ≡ length ys
+      ended = omega (arith, c .inside)
+
+      pub compared-unfinished : i < length xs → Unfinished i ≡ verdict M xs ys
+      compared-unfinished k = judged-verdict M xs ys (h .few) (unfinished {number = i} ended k (c .right))
+
+      pub compared-passed : length xs ≤ i → Pass i s ≡ verdict M xs ys
+      compared-passed k =
+          let all : i ≡ length xs = omega (arith, ended, h .few) in
+          let long : length (answers M (M .start) xs) ≡ i = answers-length M (M .start) xs ∙ sym all in
+          judged-verdict M xs ys (h .few)
+          (passed (sym (ext-getD 0 (answers M (M .start) xs) ys (long ∙ ended) (λ j jl. c .right j (omega (arith, long))))) all (c .state ∙ ap (stateAt M xs) all))

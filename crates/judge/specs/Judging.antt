@@ -1,0 +1,97 @@
+-- Judging (document 01, "Causes" and "Judging"): causes 1 to 7, 9, 10 and 11, the results, what is written, and the identity claim. Certification
+-- is known by its contract and its laws: `cause11` and `marksAfter` are shut. The laws of the verdict stand in Judging.Verdict, those
+-- of a sheet in Judging.Laws, bounds on places in Judging.Places.
+use Prim.Native.Nat.{ℕ, suc}
+use mathlib.Core.Path.{_≡_}
+use mathlib.Core.Bool.{true, false, cond}
+use mathlib.Core.List.{List, [], _∷_, _++_}
+use lib.Dec.{ltb, eqb}
+use lib.ListN.{length, getD}
+use Rattle.sheet.specs.declared.check.Check.{Check}
+use Rattle.sheet.specs.declared.check.Check.the-variants.{Clear, Refused}
+use Rattle.sheet.specs.declared.record.Record.{Record}
+use Rattle.sheet.specs.declared.reader.Needs.{Needs}
+use Rattle.sheet.specs.Check.{refusal_with_if_, firstCause}
+use Rattle.sheet.specs.Reader.{the, content}
+use Rattle.machine.specs.Machine.{Mealy, answers, stateAt}
+use Rattle.machine.specs.Causes.{machineIn}
+use Rattle.certify.specs.declared.answer.Values.{Values}
+use Rattle.certify.specs.Certification.{certifyCauses, cause11, marksAfter}
+use Rattle.judge.specs.declared.answer.Answer.{Answer}
+use Rattle.judge.specs.declared.answer.Answer.the-variants.{Pass, Wrong, Unfinished, Refused as RefusedAnswer}
+use Rattle.judge.specs.Unit.{Unit, ownAnswers, Renaming}
+pub mod Verdict
+pub mod Laws
+pub mod Places
+
+-- ---- causes
+-- "judging all four": the kinds needed
+abbrev pub judgeNeeds : Needs
+judgeNeeds = record { word = true; sequence = true; answers = true }
+
+-- "answers": at the "start of record 4: more than N answers"
+unfoldable pub cause10 : Record → List ℕ → List ℕ → Check
+cause10 r xs ys = refusal 10 with r .start if ltb (length xs) (length ys)
+
+-- causes 1 to 7, 9 and 10; each of them "writes nothing"
+unfoldable pub judgeCauses : ℕ → List ℕ → List Check
+judgeCauses room s = certifyCauses judgeNeeds room s ++ (cause10 (the 4 s) (content 3 s) (content 4 s) ∷ [])
+
+-- ---- the results
+-- how many of the answers from the front are the specified ones: the first place where they differ, or the length of the shorter list
+unfoldable pub agreed : List ℕ → List ℕ → ℕ
+agreed [] ys = 0
+agreed (x ∷ xs) [] = 0
+agreed (x ∷ xs) (y ∷ ys) = elim (eqb x y) [ true ↦ suc (agreed xs ys) | false ↦ 0 ]
+
+-- the result, by that number. "wrong with the first place whose answer differs, the specified answer and the one given"; "unfinished with the
+-- number of answers, all right, fewer than N"; "pass with the end state", "which is the state of place N", here with N before it
+unfoldable pub resultAt : Mealy → List ℕ → List ℕ → ℕ → Answer
+resultAt M xs ys right =
+    cond (ltb right (length ys)) (Wrong right (getD (answers M (M .start) xs) right 0) (getD ys right 0))
+    (cond (ltb right (length xs)) (Unfinished right) (Pass (length xs) (stateAt M xs (length xs))))
+
+-- the result for a machine, a sequence and the answers given to it
+unfoldable pub verdict : Mealy → List ℕ → List ℕ → Answer
+verdict M xs ys = resultAt M xs ys (agreed (answers M (M .start) xs) ys)
+
+-- ---- the service
+-- a refusal with its number and place, or else the answer
+abbrev pub refusedOr : Check → Answer → Answer
+refusedOr Clear a = a
+refusedOr (Refused number place) a = RefusedAnswer number place
+
+-- what judging answers to a sheet and a room for marks: cause 11, "not certified", comes last
+unfoldable pub judgement : ℕ → List ℕ → Answer
+judgement room s =
+    refusedOr (firstCause (judgeCauses room s))
+    (refusedOr (cause11 (machineIn s) (content 2 s) (content 3 s)) (verdict (machineIn s) (content 3 s) (content 4 s)))
+
+-- what is written where nothing is refused, and what was there where something is
+abbrev pub changedUnless : Check → List ℕ → List ℕ → List ℕ
+changedUnless Clear after before = after
+changedUnless (Refused number place) after before = before
+
+-- the lent buffer after judging: "The marks are as after certifying", for the results and for refusal 11
+unfoldable pub judgedMarks : List ℕ → List ℕ → List ℕ
+judgedMarks s buffer = changedUnless (firstCause (judgeCauses (length buffer) s)) (marksAfter s buffer) buffer
+
+-- what judging promises of a sheet: its answer, and every byte of the lent buffer
+pub record Judges (s before after : List ℕ) (a : Answer) : Type 0 where
+  pub answer : a ≡ judgement (length before) s
+  pub marks : after ≡ judgedMarks s before
+
+-- The identity claim, the third demand, of a sheet and judging's answer: "whatever m, u and the unit's table, if judging returns pass and the
+-- answers judged are the unit's own, there is such a renaming". The answers are its own "if record 4 holds exactly these N, in order".
+abbrev pub Identity : List ℕ → Answer → Type 0
+Identity s a =
+    (U : Unit (machineIn s .n) (machineIn s .k)) (size end : ℕ) → a ≡ Pass size end
+    → content 4 s ≡ ownAnswers (machineIn s .n) (machineIn s .k) U (content 3 s) → Renaming (machineIn s) U (content 3 s) end
+
+-- "Class 1 to 11 is the refusal, and so are later refusal numbers (a, b zero). 100 pass: place N, b end state. 101 wrong: a specified, b given.
+-- 102 unfinished: place the number of answers. .. Fields not named are zero." The place of a refusal and of wrong is its own.
+abbrev pub valuesOf : Answer → Values
+valuesOf (Pass size end) = record { class = 100; place = size; a = 0; b = end }
+valuesOf (Wrong place specified given) = record { class = 101; place = place; a = specified; b = given }
+valuesOf (Unfinished number) = record { class = 102; place = number; a = 0; b = 0 }
+valuesOf (RefusedAnswer number place) = record { class = number; place = place; a = 0; b = 0 }

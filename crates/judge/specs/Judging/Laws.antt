@@ -1,0 +1,159 @@
+-- The laws of judging a sheet: its causes, its answer and buffer by the first cause, what each answer says, both directions, and the identity
+-- claim.
+use Prim.Native.Nat.{ℕ, _≤_}
+use mathlib.Core.Path.{_≡_, refl, sym, ap, ap₂, _∙_}
+use mathlib.Core.Bool.{true}
+use mathlib.Core.List.{List, [], _∷_}
+use native.Mathlib.Omega.{arith}
+use native.Mathlib.Nat.{le-refl}
+use borrow.Author.Tests.{ltb-false}
+use lib.ListN.{length}
+use Rattle.sheet.specs.declared.check.Check.{Check}
+use Rattle.sheet.specs.declared.check.Check.the-variants.{Clear, Refused}
+use Rattle.sheet.specs.Check.{_else_, firstCause}
+use Rattle.sheet.specs.Check.Laws.{clear-absent, both-clear, cause-one, cause-append}
+use Rattle.sheet.specs.Reader.{the, content}
+use Rattle.machine.specs.Machine.{Mealy, answers, stateAt, Proper}
+use Rattle.machine.specs.Causes.{machineIn}
+use Rattle.machine.specs.Causes.Lists.{machine-proper, clear-table, word-distinguishes}
+use Rattle.certify.specs.Recognition.{Certified}
+use Rattle.certify.specs.Marks.{marks}
+use Rattle.certify.specs.Certification.{certifyNeeds, certifyCauses, cause11, kept, marksAfter}
+use Rattle.certify.specs.Certification.Laws.{clear-certified, certified-clear, OpenNumber, refused-open, open-refused, after-clear, load-clear, sequence-commands, certify-without-answers}
+use Rattle.judge.specs.declared.answer.Answer.{Answer}
+use Rattle.judge.specs.declared.answer.Answer.the-variants.{Pass, Refused as RefusedAnswer}
+use Rattle.judge.specs.Unit.{Unit, ownAnswers}
+use Rattle.judge.specs.Unit.Identity.{identity}
+use Rattle.judge.specs.Judging.{judgeNeeds, cause10, judgeCauses, verdict, refusedOr, judgement, changedUnless, judgedMarks, Identity}
+use Rattle.judge.specs.Judging.Verdict.{Judged, passed, wrong, unfinished, judged-verdict, verdict-judged}
+
+-- ---- the causes
+pub judge-causes-are : (room : ℕ) (s : List ℕ) → firstCause (judgeCauses room s) ≡ (firstCause (certifyCauses judgeNeeds room s) else cause10 (the 4 s) (content 3 s) (content 4 s))
+unfolding judgeCauses
+judge-causes-are room s =
+    let ten = cause10 (the 4 s) (content 3 s) (content 4 s) in
+    cause-append (certifyCauses judgeNeeds room s) (ten ∷ []) ∙ ap (λ (c : Check). firstCause (certifyCauses judgeNeeds room s) else c) (cause-one ten)
+
+module _ (room : ℕ) (s : List ℕ) (e : firstCause (judgeCauses room s) ≡ Clear) where
+  both-parts : (firstCause (certifyCauses judgeNeeds room s) ≡ Clear) × (cause10 (the 4 s) (content 3 s) (content 4 s) ≡ Clear)
+  both-parts = both-clear _ _ (sym (judge-causes-are room s) ∙ e)
+
+  pub marking-clear : firstCause (certifyCauses judgeNeeds room s) ≡ Clear
+  marking-clear = both-parts .0
+
+  -- certifying refuses nothing that judging takes
+  pub certifying-clear : firstCause (certifyCauses certifyNeeds room s) ≡ Clear
+  certifying-clear = certify-without-answers true true room s marking-clear
+
+  pub few-answers : length (content 4 s) ≤ length (content 3 s)
+  unfolding cause10
+  few-answers = ltb-false _ _ (clear-absent 10 _ _ (both-parts .1))
+
+-- ---- the answer and the buffer, by the first cause
+module _ (room : ℕ) (s : List ℕ) where
+  pub judgement-refused : {n p : ℕ} → firstCause (judgeCauses room s) ≡ Refused n p → judgement room s ≡ RefusedAnswer n p
+  unfolding judgement
+  judgement-refused e = rw e
+
+  pub judgement-open : {n p : ℕ} → firstCause (judgeCauses room s) ≡ Clear → cause11 (machineIn s) (content 2 s) (content 3 s) ≡ Refused n p
+      → judgement room s ≡ RefusedAnswer n p
+  unfolding judgement
+  judgement-open e f = ap₂ refusedOr e (ap (λ (c : Check). refusedOr c (verdict (machineIn s) (content 3 s) (content 4 s))) f)
+
+  pub judgement-verdict : firstCause (judgeCauses room s) ≡ Clear → cause11 (machineIn s) (content 2 s) (content 3 s) ≡ Clear
+      → judgement room s ≡ verdict (machineIn s) (content 3 s) (content 4 s)
+  unfolding judgement
+  judgement-verdict e f = ap₂ refusedOr e (ap (λ (c : Check). refusedOr c (verdict (machineIn s) (content 3 s) (content 4 s))) f)
+
+pub marks-refused : (s buffer : List ℕ) {n p : ℕ} → firstCause (judgeCauses (length buffer) s) ≡ Refused n p → judgedMarks s buffer ≡ buffer
+unfolding judgedMarks
+marks-refused s buffer e = ap (λ (c : Check). changedUnless c (marksAfter s buffer) buffer) e
+
+pub marks-clear : (s buffer : List ℕ) → firstCause (judgeCauses (length buffer) s) ≡ Clear → judgedMarks s buffer ≡ marksAfter s buffer
+unfolding judgedMarks
+marks-clear s buffer e = ap (λ (c : Check). changedUnless c (marksAfter s buffer) buffer) e
+
+-- so marks 0 to N are the sequence's, and later bytes stay as they were
+pub marks-kept : (s buffer : List ℕ) → firstCause (judgeCauses (length buffer) s) ≡ Clear
+    → judgedMarks s buffer ≡ kept (marks (machineIn s) (content 2 s) (content 3 s)) buffer
+marks-kept s buffer e = marks-clear s buffer e ∙ after-clear s buffer (certifying-clear (length buffer) s e)
+
+-- ---- what each answer says
+-- the results where nothing is refused and the sequence is certified; a refusal with the number and place of the first cause, or, where only that the
+-- sequence is certified is missing, 11 and the open number
+pub data Result (room : ℕ) (s : List ℕ) : Answer → Type 0 where
+  refused : {n p : ℕ} → firstCause (judgeCauses room s) ≡ Refused n p → Result room s (RefusedAnswer n p)
+  not-certified : {v : ℕ} → firstCause (judgeCauses room s) ≡ Clear → OpenNumber (machineIn s) (content 2 s) (content 3 s) v → Result room s (RefusedAnswer 11 v)
+  judged : {a : Answer} → firstCause (judgeCauses room s) ≡ Clear → Certified (machineIn s) (content 2 s) (content 3 s)
+      → Judged (machineIn s) (content 3 s) (content 4 s) a → Result room s a
+
+module _ (room : ℕ) (s : List ℕ) where
+  pub result-judgement : {a : Answer} → Result room s a → a ≡ judgement room s
+  result-judgement (refused e) = sym (judgement-refused room s e)
+  result-judgement (not-certified e o) = sym (judgement-open room s e (open-refused (machineIn s) (content 2 s) (content 3 s) o))
+  result-judgement (judged e c h) =
+      judged-verdict (machineIn s) (content 3 s) (content 4 s) (few-answers room s e) h
+      ∙ sym (judgement-verdict room s e (certified-clear (machineIn s) (content 2 s) (content 3 s) c))
+
+  result-by : (c d : Check) → firstCause (judgeCauses room s) ≡ c → cause11 (machineIn s) (content 2 s) (content 3 s) ≡ d → Result room s (judgement room s)
+  result-by (Refused n p) d e f = rw (judgement-refused room s e) (refused e)
+  result-by Clear (Refused n v) e f =
+      let o = refused-open (machineIn s) (content 2 s) (content 3 s) f in
+      let eleven : cause11 (machineIn s) (content 2 s) (content 3 s) ≡ Refused 11 v = f ∙ ap (λ (x : ℕ). Refused x v) (o .0) in
+      rw (judgement-open room s e eleven) (not-certified e (o .1))
+  result-by Clear Clear e f =
+      rw (judgement-verdict room s e f)
+      (judged e (clear-certified (machineIn s) (content 2 s) (content 3 s) f) (verdict-judged (machineIn s) (content 3 s) (content 4 s) (few-answers room s e)))
+
+  pub judgement-result : Result room s (judgement room s)
+  judgement-result = result-by (firstCause (judgeCauses room s)) (cause11 (machineIn s) (content 2 s) (content 3 s)) refl refl
+
+-- what pass shows
+pub record Passes (room : ℕ) (s : List ℕ) (size end : ℕ) : Type 0 where
+  pub clear : firstCause (judgeCauses room s) ≡ Clear
+  pub certified : Certified (machineIn s) (content 2 s) (content 3 s)
+  pub complete : content 4 s ≡ answers (machineIn s) (machineIn s .start) (content 3 s)
+  pub long : size ≡ length (content 3 s)
+  pub ends : end ≡ stateAt (machineIn s) (content 3 s) (length (content 3 s))
+
+result-passes : (room : ℕ) (s : List ℕ) {a : Answer} {size end : ℕ} → Result room s a → a ≡ Pass size end → Passes room s size end
+result-passes room s (refused e) q = let z : _≡_ {A = ℕ} 0 1 = cc in absurd (omega arith)
+result-passes room s (not-certified e o) q = let z : _≡_ {A = ℕ} 0 1 = cc in absurd (omega arith)
+result-passes room s {size = size} {end = end} (judged e c h) q = go h q
+  where
+    same-size : {n e m f : ℕ} → Pass n e ≡ Pass m f → m ≡ n
+    same-size p = cc
+
+    same-end : {n e m f : ℕ} → Pass n e ≡ Pass m f → f ≡ e
+    same-end p = cc
+
+    go : {a : Answer} → Judged (machineIn s) (content 3 s) (content 4 s) a → a ≡ Pass size end → Passes room s size end
+    go (passed y n t) p = record { clear = e; certified = c; complete = y; long = same-size p ∙ n; ends = same-end p ∙ t }
+    go (wrong l r d x y) p = let z : _≡_ {A = ℕ} 0 1 = cc in absurd (omega arith)
+    go (unfinished y l r) p = let z : _≡_ {A = ℕ} 0 1 = cc in absurd (omega arith)
+
+pub pass-shows : (room : ℕ) (s : List ℕ) {size end : ℕ} → judgement room s ≡ Pass size end → Passes room s size end
+pass-shows room s e = result-passes room s (judgement-result room s) e
+
+pub shown-passes : (room : ℕ) (s : List ℕ) {size end : ℕ} → Passes room s size end → judgement room s ≡ Pass size end
+shown-passes room s h = sym (result-judgement room s (judged (h .clear) (h .certified) (passed (h .complete) (h .long) (h .ends))))
+
+-- ---- the identity claim
+pub pass-identity : (room : ℕ) (s : List ℕ) {a : Answer} → a ≡ judgement room s → Identity s a
+pass-identity room s ae U size end pass own =
+    let h = pass-shows room s (sym ae ∙ pass) in
+    let load = load-clear judgeNeeds room s (marking-clear room s (h .clear)) in
+    let M = machineIn s in
+    rw (h .ends)
+    (identity M (content 2 s) (content 3 s) (machine-proper judgeNeeds s (clear-table judgeNeeds s load))
+    (sequence-commands judgeNeeds room s (marking-clear room s (h .clear)))
+    (word-distinguishes judgeNeeds s refl load .separates) (h .certified) U (sym (h .complete) ∙ own))
+
+-- the claim speaks of something: the specified machine itself is a unit, and where judging passes the answers are its own
+pub itself : (M : Mealy) → Proper M → Unit (M .n) (M .k)
+itself M h = record { m = M .n; few = le-refl (M .n); u = M .start; stands = h .starts; next = M .next; answer = M .answer; stays = h .stays }
+
+pub pass-own : (room : ℕ) (s : List ℕ) {size end : ℕ} → judgement room s ≡ Pass size end → (h : Proper (machineIn s))
+    → content 4 s ≡ ownAnswers (machineIn s .n) (machineIn s .k) (itself (machineIn s) h) (content 3 s)
+unfolding itself
+pass-own room s e h = pass-shows room s e .complete

@@ -1,0 +1,149 @@
+-- The laws of the verdict: what each result says of the answers, both directions.
+use Prim.Native.Nat.{ℕ, zero, suc, _≤_, _<_}
+use mathlib.Core.Path.{_≡_, refl, sym, ap, ap₂, _∙_}
+use mathlib.Core.Bool.{Bool, true, false, cond}
+use mathlib.Core.List.{List, [], _∷_}
+use native.Mathlib.Omega.{arith}
+use lib.Dec.{ltb, eqb}
+use lib.ListN.{length, getD}
+use lib.Seq.{ext-getD}
+use borrow.Author.Tests.{eqb-true, eqb-false, ltb-true, ltb-false, lt-ltb, le-ltb}
+use Rattle.machine.specs.Machine.{Mealy, answers, stateAt}
+use Rattle.machine.specs.Machine.Laws.{answers-length}
+use Rattle.judge.specs.declared.answer.Answer.{Answer}
+use Rattle.judge.specs.declared.answer.Answer.the-variants.{Pass, Wrong, Unfinished}
+use Rattle.judge.specs.Judging.{agreed, resultAt, verdict}
+
+-- ---- where two lists first differ
+-- they are equal before place p, and differ there if both have that place
+pub record Agreed (xs ys : List ℕ) (p : ℕ) : Type 0 where
+  pub in-first : p ≤ length xs
+  pub in-second : p ≤ length ys
+  pub before : (i : ℕ) → i < p → getD xs i 0 ≡ getD ys i 0
+  pub here : p < length xs → p < length ys → getD xs p 0 ≡ getD ys p 0 → ⊥
+
+agreed-none : (xs ys : List ℕ) → (0 < length xs → 0 < length ys → getD xs 0 0 ≡ getD ys 0 0 → ⊥) → Agreed xs ys 0
+agreed-none xs ys h = record { in-first = omega arith; in-second = omega arith; before = λ i l. absurd (omega arith); here = h }
+
+agreed-more : (x y : ℕ) (xs ys : List ℕ) (p : ℕ) → x ≡ y → Agreed xs ys p → Agreed (x ∷ xs) (y ∷ ys) (suc p)
+agreed-more x y xs ys p e h = record {
+  in-first = omega (arith, h .in-first);
+  in-second = omega (arith, h .in-second);
+  before = before;
+  here = λ k l q. h .here (omega arith) (omega arith) q;
+}
+  where
+    before : (i : ℕ) → i < suc p → getD (x ∷ xs) i 0 ≡ getD (y ∷ ys) i 0
+    before zero l = e
+    before (suc i) l = h .before i (omega arith)
+
+pub agreed-holds : (xs ys : List ℕ) → Agreed xs ys (agreed xs ys)
+unfolding agreed
+agreed-holds [] ys = agreed-none [] ys (λ k l q. omega arith)
+agreed-holds (x ∷ xs) [] = agreed-none (x ∷ xs) [] (λ k l q. omega arith)
+agreed-holds (x ∷ xs) (y ∷ ys) = go (agreed-holds xs ys) (eqb x y) refl
+  where
+    go : Agreed xs ys (agreed xs ys) → (t : Bool) → eqb x y ≡ t → Agreed (x ∷ xs) (y ∷ ys) (elim t [ true ↦ suc (agreed xs ys) | false ↦ 0 ])
+    go h true e = agreed-more x y xs ys (agreed xs ys) (eqb-true x y e) h
+    go h false e = agreed-none (x ∷ xs) (y ∷ ys) (λ k l q. eqb-false x y e q)
+
+-- there is one such place
+agreed-one : (xs ys : List ℕ) (p q : ℕ) → Agreed xs ys p → Agreed xs ys q → p < q → ⊥
+agreed-one xs ys p q h k l = h .here (omega (arith, k .in-first)) (omega (arith, k .in-second)) (k .before p l)
+
+pub agreed-is : (xs ys : List ℕ) (p : ℕ) → Agreed xs ys p → p ≡ agreed xs ys
+agreed-is xs ys p h =
+    equal (agreed-one xs ys p (agreed xs ys) h (agreed-holds xs ys)) (agreed-one xs ys (agreed xs ys) p (agreed-holds xs ys) h)
+  where
+    equal : (p < agreed xs ys → ⊥) → (agreed xs ys < p → ⊥) → p ≡ agreed xs ys
+    equal a b = omega arith
+
+-- ---- the results, as document 01 says them
+-- "all right": the answers before place p are the specified ones
+abbrev pub Right : Mealy → List ℕ → List ℕ → ℕ → Type 0
+Right M xs ys p = (i : ℕ) → i < p → getD (answers M (M .start) xs) i 0 ≡ getD ys i 0
+
+pub data Judged (M : Mealy) (xs ys : List ℕ) : Answer → Type 0 where
+  -- "pass with the end state": every answer was given, and each is the specified one
+  passed : {size end : ℕ} → ys ≡ answers M (M .start) xs → size ≡ length xs → end ≡ stateAt M xs (length xs) → Judged M xs ys (Pass size end)
+  -- "wrong with the first place whose answer differs, the specified answer and the one given"
+  wrong : {place specified given : ℕ} → place < length ys → Right M xs ys place → (specified ≡ given → ⊥)
+      → specified ≡ getD (answers M (M .start) xs) place 0 → given ≡ getD ys place 0 → Judged M xs ys (Wrong place specified given)
+  -- "unfinished with the number of answers, all right, fewer than N"
+  unfinished : {number : ℕ} → number ≡ length ys → number < length xs → Right M xs ys number → Judged M xs ys (Unfinished number)
+
+if-true : {t : Bool} (a b : Answer) → t ≡ true → cond t a b ≡ a
+if-true a b e = ap (λ (t : Bool). cond t a b) e
+
+if-false : {t : Bool} (a b : Answer) → t ≡ false → cond t a b ≡ b
+if-false a b e = ap (λ (t : Bool). cond t a b) e
+
+module _ (M : Mealy) (xs ys : List ℕ) (few : length ys ≤ length xs) where
+  abbrev specified : List ℕ
+  specified = answers M (M .start) xs
+
+  many : length specified ≡ length xs
+  many = answers-length M (M .start) xs
+
+  verdict-at : {p : ℕ} → Agreed specified ys p → verdict M xs ys ≡ resultAt M xs ys p
+  unfolding verdict
+  verdict-at {p} h = ap (resultAt M xs ys) (sym (agreed-is specified ys p h))
+
+  at-wrong : {p : ℕ} → p < length ys → resultAt M xs ys p ≡ Wrong p (getD specified p 0) (getD ys p 0)
+  unfolding resultAt
+  at-wrong l = if-true _ _ (lt-ltb _ _ l)
+
+  at-last : {p : ℕ} → length ys ≤ p → resultAt M xs ys p ≡ cond (ltb p (length xs)) (Unfinished p) (Pass (length xs) (stateAt M xs (length xs)))
+  unfolding resultAt
+  at-last l = if-false _ _ (le-ltb _ _ l)
+
+  at-unfinished : {p : ℕ} → length ys ≤ p → p < length xs → resultAt M xs ys p ≡ Unfinished p
+  at-unfinished l k = at-last l ∙ if-true _ _ (lt-ltb _ _ k)
+
+  at-passed : {p : ℕ} → length ys ≤ p → length xs ≤ p → resultAt M xs ys p ≡ Pass (length xs) (stateAt M xs (length xs))
+  at-passed l k = at-last l ∙ if-false _ _ (le-ltb _ _ k)
+
+  -- ---- from what holds to the verdict
+  pub judged-verdict : {a : Answer} → Judged M xs ys a → a ≡ verdict M xs ys
+  judged-verdict (passed e se ee) =
+      let long : length ys ≡ length xs = ap length e ∙ many in
+      let h : Agreed specified ys (length xs) = record {
+        in-first = omega (arith, many);
+        in-second = omega (arith, long);
+        before = λ i l. ap (λ (x : List ℕ). getD x i 0) (sym e);
+        here = λ k l q. omega (arith, many);
+      } in
+      ap₂ Pass se ee ∙ sym (verdict-at h ∙ at-passed (omega (arith, long)) (omega arith))
+  judged-verdict (wrong {place} l r d se ge) =
+      let h : Agreed specified ys place = record {
+        in-first = omega (arith, many);
+        in-second = omega arith;
+        before = r;
+        here = λ k m q. d (se ∙ q ∙ sym ge);
+      } in
+      ap₂ (Wrong place) se ge ∙ sym (verdict-at h ∙ at-wrong l)
+  judged-verdict (unfinished {number} e l r) =
+      let h : Agreed specified ys number = record {
+        in-first = omega (arith, many);
+        in-second = omega arith;
+        before = r;
+        here = λ k m q. omega arith;
+      } in
+      sym (verdict-at h ∙ at-unfinished (omega arith) l)
+
+  -- ---- and from the verdict to what holds
+  judged-by : {p : ℕ} → Agreed specified ys p → (t u : Bool) → ltb p (length ys) ≡ t → ltb p (length xs) ≡ u → Judged M xs ys (resultAt M xs ys p)
+  judged-by {p} h true u e k =
+      let l = ltb-true p (length ys) e in
+      rw (at-wrong l) (wrong l (h .before) (h .here (omega (arith, many)) l) refl refl)
+  judged-by {p} h false true e k =
+      rw (at-unfinished (ltb-false p _ e) (ltb-true p _ k)) (unfinished {number = p} (omega (arith, ltb-false p _ e, h .in-second)) (ltb-true p _ k) (h .before))
+  judged-by {p} h false false e k =
+      let l = ltb-false p _ e in
+      let m = ltb-false p _ k in
+      rw (at-passed l m) (passed (sym (ext-getD 0 specified ys (omega (arith, many, h .in-second)) (λ i il. h .before i (omega (arith, many))))) refl refl)
+
+  pub verdict-judged : Judged M xs ys (verdict M xs ys)
+  verdict-judged =
+      let h = agreed-holds specified ys in
+      rw (verdict-at h) (judged-by h (ltb (agreed specified ys) (length ys)) (ltb (agreed specified ys) (length xs)) refl refl)

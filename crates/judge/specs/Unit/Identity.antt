@@ -1,0 +1,142 @@
+-- The identity claim over any certified sequence: a unit that gives the specified answers to it is the specified machine, its states renamed. Of
+-- certification it uses the laws and what a certified sequence has (`Certified`, `Verified`); of the word one fact, that two places where it stands
+-- have one state of the sheet if the unit is in one state there (`alike`).
+use Prim.Native.Nat.{ℕ, zero, suc, _+_, _≤_, _<_}
+use mathlib.Core.Path.{_≡_, refl, sym, ap, ap₂, _∙_}
+use mathlib.Core.List.{List}
+use native.Mathlib.Omega.{arith}
+use native.Mathlib.Numerals.{add-one}
+use lib.ListN.{length, getD, take, drop}
+use Rattle.machine.specs.Limits.{mostSequence}
+use Rattle.machine.specs.Machine.{Mealy, answers, stateAt, Separates, Proper, Commands}
+use Rattle.machine.specs.Machine.Laws.{answers-part, answer-at, state-start, state-next, state-end, states-agree, state-closed, state-stays}
+use Rattle.machine.specs.Numbers.{choice}
+use Rattle.machine.specs.Pigeonhole.{onto}
+use Rattle.certify.specs.Recognition.{Stands, Recognised, Certified}
+use Rattle.certify.specs.Recognition.Laws.{smallest, recognised-word}
+use Rattle.judge.specs.Unit.{Unit, tableOf, ownAnswers, Renaming}
+
+module _ (M : Mealy) (w xs : List ℕ) (proper : Proper M) (commands : Commands mostSequence (M .k) xs) (separates : Separates M w)
+    (certified : Certified M w xs) (U : Unit (M .n) (M .k)) (same : answers M (M .start) xs ≡ ownAnswers (M .n) (M .k) U xs) where
+  -- the unit as a machine
+  abbrev unit : Mealy
+  unit = tableOf (M .n) (M .k) U
+
+  -- ---- the word shows the state
+  word-answers : (p : ℕ) → Stands w xs p → answers M (stateAt M xs p) w ≡ answers unit (stateAt unit xs p) w
+  word-answers p h =
+      ap (answers M (stateAt M xs p)) (sym (h .stands))
+      ∙ sym (answers-part M xs p (length w))
+      ∙ ap (λ (l : List ℕ). take (length w) (drop p l)) same
+      ∙ answers-part unit xs p (length w)
+      ∙ ap (answers unit (stateAt unit xs p)) (h .stands)
+
+  state-low : (p : ℕ) → stateAt M xs p < M .n
+  state-low p = state-stays M proper xs (commands .low) p
+
+  alike : (p q : ℕ) → Stands w xs p → Stands w xs q → stateAt unit xs p ≡ stateAt unit xs q → stateAt M xs p ≡ stateAt M xs q
+  alike p q hp hq e =
+      separates (stateAt M xs p) (stateAt M xs q) (state-low p) (state-low q)
+      (word-answers p hp ∙ ap (λ (x : ℕ). answers unit x w) e ∙ sym (word-answers q hq))
+
+  -- ---- the state given to each state: that of the unit at a place where the word stands
+  Shows : ℕ → ℕ → Type 0
+  Shows s x = (p : ℕ) × (Stands w xs p) × (stateAt M xs p ≡ s) × (stateAt unit xs p ≡ x)
+
+  shows : (s : ℕ) → s < M .n → (x : ℕ) × Shows s x
+  unfolding Shows
+  shows s l =
+      let v = certified .entries s 0 l (proper .some-commands) in
+      let h = recognised-word M w xs (v .place) (v .before) in
+      (stateAt unit xs (h .0), (h .0, h .1, h .2 ∙ v .state, refl))
+
+  given : ℕ → ℕ
+  given = choice (M .n) Shows shows .0
+
+  given-shown : (s : ℕ) → s < M .n → Shows s (given s)
+  unfolding given
+  given-shown = choice (M .n) Shows shows .1
+
+  unit-low : (p : ℕ) → stateAt unit xs p < U .m
+  unit-low p = state-closed unit (U .stays) (U .stands) xs (commands .low) p
+
+  given-low : (s : ℕ) → s < M .n → given s < U .m
+  unfolding Shows
+  given-low s l = let h = given-shown s l in omega (arith, unit-low (h .0), h .3)
+
+  given-one : (s t : ℕ) → s < M .n → t < M .n → given s ≡ given t → s ≡ t
+  unfolding Shows
+  given-one s t sl tl e =
+      let a = given-shown s sl in
+      let b = given-shown t tl in
+      sym (a .2) ∙ alike (a .0) (b .0) (a .1) (b .1) (a .3 ∙ e ∙ sym (b .3)) ∙ b .2
+
+  given-onto : (x : ℕ) → x < U .m → (s : ℕ) × (s < M .n) × (given s ≡ x)
+  given-onto = onto (M .n) (U .m) given (U .few) given-low given-one
+
+  -- ---- at every recognised place the unit is in the state given to the place's
+  Met : ℕ → Type 0
+  Met p = stateAt unit xs p ≡ given (stateAt M xs p)
+
+  word-met : (p : ℕ) → Stands w xs p → Met p
+  unfolding Met Shows
+  word-met p h =
+      let o = given-onto (stateAt unit xs p) (unit-low p) in
+      let a = given-shown (o .0) (o .1) in
+      sym (o .2) ∙ ap given (sym (a .2) ∙ alike (a .0) p (a .1) h (a .3 ∙ o .2))
+
+  recognised-met : (p : ℕ) → Recognised M w xs p → Met p
+  unfolding Met
+  recognised-met =
+      smallest M w xs Met word-met
+      (λ p q m ml rp hp rq hq e rm hm i equal.
+      states-agree unit xs q p m (hq ∙ ap given (sym e) ∙ sym hp) (sym equal) ∙ hm ∙ ap given (states-agree M xs p q m e equal))
+
+  -- ---- verified entries
+  given-answers : (s c : ℕ) → s < M .n → c < M .k → unit .answer (given s) c ≡ M .answer s c
+  unfolding Met
+  given-answers s c sl cl =
+      let v = certified .entries s c sl cl in
+      let at : stateAt unit xs (v .place) ≡ given s = recognised-met (v .place) (v .before) ∙ ap given (v .state) in
+      ap₂ (unit .answer) (sym at) (sym (v .command))
+      ∙ sym (answer-at unit xs (v .place) (v .inside))
+      ∙ ap (λ (l : List ℕ). getD l (v .place) 0) (sym same)
+      ∙ answer-at M xs (v .place) (v .inside)
+      ∙ ap₂ (M .answer) (v .state) (v .command)
+
+  given-next : (s c : ℕ) → s < M .n → c < M .k → unit .next (given s) c ≡ given (M .next s c)
+  unfolding Met
+  given-next s c sl cl =
+      let v = certified .entries s c sl cl in
+      let at : stateAt unit xs (v .place) ≡ given s = recognised-met (v .place) (v .before) ∙ ap given (v .state) in
+      ap₂ (unit .next) (sym at) (sym (v .command))
+      ∙ sym (state-next unit xs (v .place) (v .inside))
+      ∙ recognised-met (v .place + 1) (v .after)
+      ∙ ap given (state-next M xs (v .place) (v .inside) ∙ ap₂ (M .next) (v .state) (v .command))
+
+  -- ---- every place of the run
+  all-met : (p : ℕ) → p ≤ length xs → Met p
+  unfolding Met
+  all-met zero l = recognised-met 0 (certified .start)
+  all-met (suc p) l =
+      let step : stateAt unit xs (p + 1) ≡ given (stateAt M xs (p + 1)) =
+      state-next unit xs p (omega arith)
+      ∙ ap (λ (x : ℕ). unit .next x (getD xs p 0)) (all-met p (omega arith))
+      ∙ given-next (stateAt M xs p) (getD xs p 0) (state-low p) (commands .low p (omega arith))
+      ∙ ap given (sym (state-next M xs p (omega arith))) in
+      rw (← add-one p) step
+
+  -- the claim: the end state is that of place N
+  pub identity : Renaming M U xs (stateAt M xs (length xs))
+  unfolding Met
+  identity = record {
+    given = given;
+    into = given-low;
+    one-to-one = given-one;
+    onto = given-onto;
+    answers-alike = given-answers;
+    goes-alike = given-next;
+    end-is = refl;
+    start-given = ap given (sym (state-start M xs)) ∙ sym (recognised-met 0 (certified .start)) ∙ state-start unit xs;
+    end-given = sym (all-met (length xs) (omega arith)) ∙ state-end unit xs;
+  }

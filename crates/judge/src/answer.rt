@@ -1,0 +1,62 @@
+// What judging answers, and document 01's numbers for it.
+ghost use mathlib.Core.Path.{_≡_};
+ghost use Rattle.judge.specs.Judging.{valuesOf};
+use certify::Values;
+
+// Pass with the number of commands and the end state; wrong with the first place whose answer
+// differs, the specified answer and the one given; unfinished with the number of answers; refused
+// with number and place.
+pub enum Answer {
+    Pass {
+        size: usize,
+        end: u8,
+    },
+    Wrong {
+        place: usize,
+        specified: u8,
+        given: u8,
+    },
+    Unfinished {
+        number: usize,
+    },
+    Refused {
+        number: u8,
+        place: usize,
+    },
+}
+
+// Class, place, a and b of an answer.
+pub fn values_of(answer: Answer) -> Values
+    ensures { λ r. ⌜ r ≡ valuesOf answer ⌝ }
+{
+    match answer {
+        Answer::Pass { size, end } => Values {
+            class: 100,
+            place: size,
+            a: 0,
+            b: end as usize,
+        },
+        Answer::Wrong {
+            place,
+            specified,
+            given,
+        } => Values {
+            class: 101,
+            place,
+            a: specified as usize,
+            b: given as usize,
+        },
+        Answer::Unfinished { number } => Values {
+            class: 102,
+            place: number,
+            a: 0,
+            b: 0,
+        },
+        Answer::Refused { number, place } => Values {
+            class: number,
+            place,
+            a: 0,
+            b: 0,
+        },
+    }
+}

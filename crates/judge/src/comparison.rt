@@ -1,0 +1,42 @@
+// The answers given, compared with the specified ones.
+ghost use mathlib.Core.Path.{_≡_};
+ghost use Prim.Native.Nat.{_≤_};
+ghost use lib.ListN.{length};
+ghost use Rattle.machine.specs.Limits.{mostSequence};
+ghost use Rattle.machine.specs.Machine.{meaning, Proper, Commands};
+ghost use Rattle.judge.specs.Judging.{verdict};
+use crate::answer::Answer;
+use machine::Machine;
+use machine::entry_at;
+
+// Runs the machine along the sequence as far as there are answers, and stops at the first that
+// differs.
+pub fn compare(m: Machine, xs: &[u8], ys: &[u8]) -> Answer
+    requires { ⌜ Proper (meaning m) ⌝ }
+    requires { ⌜ Commands mostSequence (meaning m .k) (now xs) ⌝ }
+    requires { ⌜ length (now ys) ≤ length (now xs) ⌝ }
+    ensures { λ r. ⌜ r ≡ verdict (meaning m) (now (xs .entry)) (now (ys .entry)) ⌝ }
+{
+    let next = m.next;
+    let answer = m.answer;
+    let mut s = m.start;
+    let mut i = 0;
+    while i < ys.len() {
+        let e = entry_at(m.k, s, xs[i]);
+        let specified = answer[e];
+        let given = ys[i];
+        if specified != given {
+            return Answer::Wrong {
+                place: i,
+                specified,
+                given,
+            };
+        }
+        s = next[e];
+        i += 1;
+    }
+    if i < xs.len() {
+        return Answer::Unfinished { number: i };
+    }
+    Answer::Pass { size: i, end: s }
+}

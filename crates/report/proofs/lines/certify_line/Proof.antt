@@ -1,0 +1,49 @@
+-- `report::lines::certify_line` meets its contract: each answer's own line.
+-- Assumes nothing.
+use mathlib.Core.Path.{ap}
+use Rattle.report.specs.Lines.{certifyLine}
+use Rattle.report.proofs.Putting.{prints-same}
+use borrow.Author.Needs.{needs}
+use Rattle.report.proofs.lines.certify_line.Statement.{statement}
+use Rattle.report.proofs.lines.certify_line.Tie as tie
+
+enum-known-answer : tie.Need-enum-known-answer
+enum-known-answer c = search needs
+
+certified-requires : tie.Need-certified-requires
+certified-requires c κs = search needs
+
+enum-known-answer-2 : tie.Need-enum-known-answer-2
+enum-known-answer-2 c = search needs
+
+still-open-requires : tie.Need-still-open-requires
+still-open-requires c κs = search needs
+
+enum-known-answer-3 : tie.Need-enum-known-answer-3
+enum-known-answer-3 c = search needs
+
+refused-requires : tie.Need-refused-requires
+refused-requires c κs = search needs
+
+returns : tie.Need-returns
+returns c = prints-same (ap certifyLine (c .before .before .before .answer .given .1)) (c .certified .ensures)
+
+returns-2 : tie.Need-returns-2
+returns-2 c = prints-same (ap certifyLine (c .before .before .before .answer2 .given .1)) (c .still-open .ensures)
+
+returns-3 : tie.Need-returns-3
+returns-3 c = prints-same (ap certifyLine (c .before .before .before .answer3 .given .1)) (c .refused .ensures)
+
+pub certify-line-spec : {M : Type 1} → statement M
+certify-line-spec =
+    tie.close
+    (tie.spec
+    enum-known-answer
+    certified-requires
+    enum-known-answer-2
+    still-open-requires
+    enum-known-answer-3
+    refused-requires
+    returns
+    returns-2
+    returns-3)

@@ -1,0 +1,65 @@
+-- `report::lines::judge_line` meets its contract: each answer's own line.
+-- Assumes nothing.
+use borrow.Author.Needs.{needs}
+use mathlib.Core.Path.{ap}
+use Rattle.report.specs.Lines.{judgeLine}
+use Rattle.report.proofs.Putting.{prints-same}
+use Rattle.report.proofs.lines.judge_line.Statement.{statement}
+use Rattle.report.proofs.lines.judge_line.Tie as tie
+
+enum-known-answer : tie.Need-enum-known-answer
+enum-known-answer c = search needs
+
+passed-requires : tie.Need-passed-requires
+passed-requires c κs = search needs
+
+enum-known-answer-2 : tie.Need-enum-known-answer-2
+enum-known-answer-2 c = search needs
+
+wrong-requires : tie.Need-wrong-requires
+wrong-requires c κs = search needs
+
+enum-known-answer-3 : tie.Need-enum-known-answer-3
+enum-known-answer-3 c = search needs
+
+unfinished-requires : tie.Need-unfinished-requires
+unfinished-requires c κs = search needs
+
+enum-known-answer-4 : tie.Need-enum-known-answer-4
+enum-known-answer-4 c = search needs
+
+refused-requires : tie.Need-refused-requires
+refused-requires c κs = search needs
+
+returns : tie.Need-returns
+returns c =
+    prints-same (ap judgeLine (c .before .before .before .answer .given .1)) (c .passed .ensures)
+
+returns-2 : tie.Need-returns-2
+returns-2 c =
+    prints-same (ap judgeLine (c .before .before .before .answer2 .given .1)) (c .wrong .ensures)
+
+returns-3 : tie.Need-returns-3
+returns-3 c =
+    prints-same (ap judgeLine (c .before .before .before .answer3 .given .1)) (c .unfinished .ensures)
+
+returns-4 : tie.Need-returns-4
+returns-4 c =
+    prints-same (ap judgeLine (c .before .before .before .answer4 .given .1)) (c .refused .ensures)
+
+pub judge-line-spec : {M : Type 1} → statement M
+judge-line-spec =
+    tie.close
+    (tie.spec
+    enum-known-answer
+    passed-requires
+    enum-known-answer-2
+    wrong-requires
+    enum-known-answer-3
+    unfinished-requires
+    enum-known-answer-4
+    refused-requires
+    returns
+    returns-2
+    returns-3
+    returns-4)

@@ -1,0 +1,61 @@
+-- `report::sheets::build_sheet` meets its contract: a sheet where a sequence was built, else the refusal.
+-- Assumes nothing.
+use borrow.Author.Needs.{needs}
+use native.Mathlib.Omega.{arith}
+use denote.Ref.{now}
+use Prim.Native.Nat.{ℕ}
+use lib.ListN.{length-replicate}
+use Rattle.machine.specs.Limits.{mostSequence}
+use Rattle.report.proofs.Making.{answer-is, built-ready, makes-sheet, makes-nothing}
+use Rattle.report.proofs.sheets.build_sheet.Statement.{statement}
+use Rattle.report.proofs.sheets.build_sheet.Tie as tie
+
+slice-aggregate-build : tie.Need-slice-aggregate-build
+slice-aggregate-build c = search needs
+
+build-requires : tie.Need-build-requires
+build-requires c κs = search needs
+
+enum-known-answer : tie.Need-enum-known-answer
+enum-known-answer c = search needs
+
+array-share-prefix-sequence : tie.Need-array-share-prefix-sequence
+array-share-prefix-sequence c =
+    let ready = built-ready (now (c .before .before .before .before .before .before .before .args .sheet)) _ _ (length-replicate {A = ℕ} mostSequence 0) (c .before .before .before .before .build .ensures) (c .before .answer .given .1) in
+    ready .inside
+
+slice-aggregate-compose : tie.Need-slice-aggregate-compose
+slice-aggregate-compose c =
+    let ready = built-ready (now (c .before .before .before .before .before .before .before .before .args .sheet)) _ _ (length-replicate {A = ℕ} mostSequence 0) (c .before .before .before .before .before .build .ensures) (c .before .before .answer .given .1) in
+    ready .sized
+
+compose-requires : tie.Need-compose-requires
+compose-requires c κs =
+    let ready = built-ready (now (c .before .before .before .before .before .before .before .before .before .args .sheet)) _ _ (length-replicate {A = ℕ} mostSequence 0) (c .before .before .before .before .before .before .build .ensures) (c .before .before .before .answer .given .1) in
+    (ready .behind, (ready .short, (omega (arith, ready .few, ready .sized), search needs)))
+
+enum-known-answer-2 : tie.Need-enum-known-answer-2
+enum-known-answer-2 c = search needs
+
+returns : tie.Need-returns
+returns c =
+    let ready = built-ready (now (c .before .before .before .before .before .before .before .before .before .before .args .sheet)) _ _ (length-replicate {A = ℕ} mostSequence 0) (c .before .before .before .before .before .before .before .build .ensures) (c .before .before .before .before .answer .given .1) in
+    makes-sheet (now (c .before .before .before .before .before .before .before .before .before .before .args .sheet)) (answer-is (length-replicate {A = ℕ} mostSequence 0) (c .before .before .before .before .before .before .before .build .ensures) (c .before .before .before .before .answer .given .1)) (ready .built) (c .compose .ensures)
+
+returns-2 : tie.Need-returns-2
+returns-2 c =
+    makes-nothing (now (c .before .before .before .before .before .before .before .args .sheet)) (answer-is (length-replicate {A = ℕ} mostSequence 0) (c .before .before .before .before .build .ensures) (c .before .answer2 .given .1))
+
+pub build-sheet-spec : {M : Type 1} → statement M
+build-sheet-spec =
+    tie.close
+    (tie.spec
+    slice-aggregate-build
+    build-requires
+    enum-known-answer
+    array-share-prefix-sequence
+    slice-aggregate-compose
+    compose-requires
+    enum-known-answer-2
+    returns
+    returns-2)

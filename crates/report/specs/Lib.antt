@@ -1,0 +1,5 @@
+pub mod Text
+pub mod Phrases
+pub mod Lines
+pub mod Pieces
+pub mod Sheets

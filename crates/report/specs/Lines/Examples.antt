@@ -1,0 +1,40 @@
+-- The lines that document 01 writes out, and those of certifying.
+use mathlib.Core.Path.{_≡_, refl}
+use Rattle.judge.specs.declared.answer.Answer.the-variants.{Pass, Wrong, Unfinished, Refused as RefusedJudgement}
+use Rattle.certify.specs.declared.answer.Answer.the-variants.{Certified, Open, Refused as RefusedCertification}
+use Rattle.report.specs.Text.{bytes, decimalWithin, decimal}
+use Rattle.report.specs.Phrases.{phrases, phrase}
+use Rattle.report.specs.Lines.{refusalLine, passLine, wrongLine, unfinishedLine, judgeLine, certifiedLine, openLine, certifyLine}
+
+pub pass : judgeLine (Pass 12 0) ≡ bytes "PASS 12 end 0\n"
+unfolding passLine decimal decimalWithin
+pass = refl
+
+pub wrong : judgeLine (Wrong 6 5 6) ≡ bytes "WRONG at 6 want 5 got 6\n"
+unfolding wrongLine decimal decimalWithin
+wrong = refl
+
+pub unfinished : judgeLine (Unfinished 4) ≡ bytes "UNFINISHED 4\n"
+unfolding unfinishedLine decimal decimalWithin
+unfinished = refl
+
+pub refused : judgeLine (RefusedJudgement 6 1) ≡ bytes "REFUSED 6 at 1 word does not separate\n"
+unfolding refusalLine phrase phrases decimal decimalWithin
+refused = refl
+
+-- a number without a phrase
+pub refused-later : judgeLine (RefusedJudgement 12 8) ≡ bytes "REFUSED 12 at 8\n"
+unfolding refusalLine phrase phrases decimal decimalWithin
+refused-later = refl
+
+pub certified : certifyLine (Certified 13) ≡ bytes "CERTIFIED 13\n"
+unfolding certifiedLine decimal decimalWithin
+certified = refl
+
+pub open-number : certifyLine (Open 5 2) ≡ bytes "OPEN 2 recognised 5\n"
+unfolding openLine decimal decimalWithin
+open-number = refl
+
+pub too-long : certifyLine (RefusedCertification 1 40912) ≡ bytes "REFUSED 1 at 40912 sheet cut or too long\n"
+unfolding refusalLine phrase phrases decimal decimalWithin
+too-long = refl

@@ -1,0 +1,26 @@
+-- The cause phrases (document 01, "Causes"), as bytes.
+use Prim.Native.Nat.{ℕ}
+use mathlib.Core.List.{List, [], _∷_}
+use lib.ListN.{getD}
+use Rattle.report.specs.Text.{bytes}
+pub mod Laws
+
+-- the phrases of the refusal numbers 1 to 11, in this order
+unfoldable pub phrases : List (List ℕ)
+phrases =
+    bytes "sheet cut or too long"
+    ∷ bytes "record kind"
+    ∷ bytes "machine shape"
+    ∷ bytes "next state"
+    ∷ bytes "word"
+    ∷ bytes "word does not separate"
+    ∷ bytes "sequence"
+    ∷ bytes "not connected"
+    ∷ bytes "room"
+    ∷ bytes "answers"
+    ∷ bytes "not certified"
+    ∷ []
+
+-- "the cause phrase that belongs to the refusal number"; "Numbers above 11, which later requests add, have no phrase", and 0 is no refusal
+unfoldable pub phrase : ℕ → List ℕ
+phrase number = getD ([] ∷ phrases) number []

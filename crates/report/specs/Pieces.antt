@@ -1,0 +1,12 @@
+-- What the program's functions that put a line together promise each other.
+use Prim.Native.Nat.{ℕ, _+_, _≤_}
+use mathlib.Core.Path.{_≡_}
+use mathlib.Core.List.{List}
+use lib.ListN.{length}
+use lib.Seq.{paste}
+
+-- bytes put at a place of a buffer, all else as it was, with the place behind them
+pub record Puts (before : List ℕ) (at : ℕ) (xs after : List ℕ) (end : ℕ) : Type 0 where
+  pub ends : end ≡ at + length xs
+  pub inside : end ≤ length before
+  pub written : after ≡ paste before at xs (length xs)

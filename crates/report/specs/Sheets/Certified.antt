@@ -1,0 +1,143 @@
+-- The sheet that is made from what was built is read as meant, and certifying answers certified.
+use Prim.Native.Nat.{ℕ, _+_, _≤_, _<_}
+use mathlib.Core.Path.{_≡_, refl, sym, ap, ap₂, subst, _∙_}
+use mathlib.Core.Bool.{true, false}
+use mathlib.Core.List.{List}
+use native.Mathlib.Omega.{arith}
+use borrow.Author.Tests.{le-ltb}
+use lib.ListN.{length}
+use Rattle.sheet.specs.declared.check.Check.the-variants.{Clear}
+use Rattle.sheet.specs.declared.record.Record.{Record}
+use Rattle.sheet.specs.declared.record.Found.the-variants.{At}
+use Rattle.sheet.specs.Check.{_else_, firstCause}
+use Rattle.sheet.specs.Check.Laws.{absent, both-clear, else-clear}
+use Rattle.sheet.specs.Format.{longest, end, parsed, find}
+use Rattle.sheet.specs.Reader.{isMissing, the, needed, refusalOf, content, sheetCauses}
+use Rattle.sheet.specs.Reader.Laws.{whenMissing, when-missing, checks-are, the-found, needed-clear, needed-machine, needed-word, clear-reads}
+use Rattle.machine.specs.Limits.{mostSequence}
+use Rattle.machine.specs.Machine.{Mealy, machineOf, Commands}
+use Rattle.machine.specs.Causes.{cause3, cause4, cause5, cause6, machineIn, loadCauses}
+use Rattle.machine.specs.Causes.Laws.{few-entries, commands-clear}
+use Rattle.machine.specs.Causes.Lists.{machine-causes-are, word-causes-are, load-causes-are, shape-of, clear-table, word-distinguishes}
+use Rattle.certify.specs.declared.answer.Answer.the-variants.{Certified}
+use Rattle.certify.specs.Marks.{count, marks}
+use Rattle.certify.specs.Certification.{certifyNeeds, cause7, certification}
+use Rattle.certify.specs.Certification.Laws.{cause9-is, certify-causes-are}
+use Rattle.build.specs.declared.service.Answer.the-variants.{Built}
+use Rattle.build.specs.Sequence.{sequence}
+use Rattle.build.specs.Building.{buildNeeds, building}
+use Rattle.build.specs.Building.Service.{load-clear, answer-built, built-shows, built-certification}
+use Rattle.report.specs.Sheets.{withSequence, builtSheet}
+use Rattle.sheet.specs.Format.Records.{Pair, pair-of}
+use Rattle.sheet.specs.Writing.Reading as reading
+
+-- ---- a sheet from which a sequence was built
+record Source (s : List ℕ) : Type 0 where
+  pub one : refusalOf 1 s ≡ Clear
+  pub two : refusalOf 2 s ≡ Clear
+  pub at-one : find 1 (parsed s .records) ≡ At (the 1 s)
+  pub at-two : find 2 (parsed s .records) ≡ At (the 2 s)
+  pub pair : Pair s (the 1 s) (the 2 s)
+  pub inside : end (the 2 s) ≤ length s
+  pub short : end (the 2 s) ≤ 190
+  pub table : (cause3 (the 1 s) (content 1 s) else cause4 (the 1 s) (content 1 s)) ≡ Clear
+  pub word : (cause5 (machineIn s .k) (the 2 s) (content 2 s) else cause6 (machineIn s) (content 2 s)) ≡ Clear
+
+source-of : (s : List ℕ) → firstCause (loadCauses buildNeeds s) ≡ Clear → Source s
+source-of s load =
+    let rows = clear-table buildNeeds s load in
+    let parts = both-clear _ _ (sym (machine-causes-are buildNeeds s) ∙ rows) in
+    let one = needed-clear s (needed buildNeeds) 1 (needed-machine buildNeeds) (parts .0) in
+    let two = needed-clear s (needed buildNeeds) 2 (needed-word buildNeeds refl) (parts .0) in
+    let reads-one = clear-reads 1 s one in
+    let reads-two = clear-reads 2 s two in
+    let at-one = reading.found-the 1 s (λ e. omega (arith, e)) reads-one in
+    let at-two = reading.found-the 2 s (λ e. omega (arith, e)) reads-two in
+    let pair = pair-of s at-one at-two in
+    let shape = shape-of buildNeeds s rows in
+    let starts-one : the 1 s .start ≡ 0 = ap (λ (r : Record). r .start) (sym (pair .first .is)) ∙ reading.start-at s 0 in
+    let starts-two : the 2 s .start ≡ end (the 1 s) = ap (λ (r : Record). r .start) (sym (pair .second .is)) ∙ reading.start-at s (end (the 1 s)) in
+    let few : length (content 1 s) ≤ 162 = omega (arith, shape .long, few-entries (content 1 s) shape) in
+    record {
+      one = one;
+      two = two;
+      at-one = at-one;
+      at-two = at-two;
+      pair = pair;
+      inside = reads-two .inside;
+      short = omega (arith, starts-one, starts-two, few, reading.end-size (the 1 s), reading.end-size (the 2 s), reading.size-of 1 s one at-one (reads-one .inside), reading.size-of 2 s two at-two (reads-two .inside), word-distinguishes buildNeeds s refl load .commands .few);
+      table = parts .1;
+      word = sym (word-causes-are s) ∙ both-clear _ _ (sym (load-causes-are buildNeeds s) ∙ load) .1;
+    }
+
+present-kind : (k : ℕ) (t : List ℕ) {r : Record} → find k (parsed t .records) ≡ At r → whenMissing t k true ≡ Clear
+present-kind k t e = sym (when-missing t k true) ∙ absent 2 (length t) (ap isMissing e)
+
+-- ---- the sheet with a sequence added
+pub record Carries (s xs t : List ℕ) : Type 0 where
+  pub machine : machineIn t ≡ machineIn s
+  pub word : content 2 t ≡ content 2 s
+  pub sequence : content 3 t ≡ xs
+  pub short : length t ≤ longest
+  pub clear : firstCause (loadCauses certifyNeeds t) ≡ Clear
+
+carries : (s xs : List ℕ) → Source s → length xs ≤ mostSequence → Carries s xs (withSequence s xs)
+unfolding withSequence machineIn
+carries s xs h few =
+    let p = h .pair in
+    let inside = h .inside in
+    let low : length xs < 65536 = omega (arith, few) in
+    let short : end (the 2 s) + 6 + length xs ≤ longest = omega (arith, h .short, few) in
+    let t = withSequence s xs in
+    let one : content 1 t ≡ content 1 s = reading.content-one s xs p inside low short (h .one) (h .at-one) in
+    let two : content 2 t ≡ content 2 s = reading.content-two s xs p inside low short (h .two) (h .at-two) in
+    let f1 = reading.find-one s xs p inside low in
+    let f2 = reading.find-two s xs p inside low in
+    let f3 = reading.find-three s xs p inside low in
+    let the-one : the 1 t ≡ the 1 s = sym (the-found 1 t {f = At (the 1 s)} (sym f1) refl) in
+    let the-two : the 2 t ≡ the 2 s = sym (the-found 2 t {f = At (the 2 s)} (sym f2) refl) in
+    let machine : machineIn t ≡ machineIn s = ap machineOf one in
+    let none : whenMissing t 4 false ≡ Clear = sym (when-missing t 4 false) ∙ absent 2 (length t) refl in
+    let sheet : firstCause (sheetCauses (needed certifyNeeds) t) ≡ Clear =
+    checks-are certifyNeeds t
+    ∙ ap₂ _else_ (reading.not-refused s xs p inside low short 1 f1)
+    (ap₂ _else_ (present-kind 2 t f2) (ap₂ _else_ (present-kind 3 t f3) none ∙ else-clear Clear) ∙ else-clear Clear)
+    ∙ else-clear Clear in
+    let table : (cause3 (the 1 t) (content 1 t) else cause4 (the 1 t) (content 1 t)) ≡ Clear =
+    ap₂ (λ (r : Record) (c : List ℕ). cause3 r c else cause4 r c) the-one one ∙ h .table in
+    let word : (cause5 (machineIn t .k) (the 2 t) (content 2 t) else cause6 (machineIn t) (content 2 t)) ≡ Clear =
+    ap₂ (λ (r : Record) (c : List ℕ). cause5 (machineIn t .k) r c else cause6 (machineIn t) c) the-two two
+    ∙ ap (λ (M : Mealy). cause5 (M .k) (the 2 s) (content 2 s) else cause6 M (content 2 s)) machine
+    ∙ h .word in
+    record {
+      machine = machine;
+      word = two;
+      sequence = reading.content-three s xs p inside low short;
+      short = omega (arith, short, reading.added-long s xs p inside low);
+      clear =
+          load-causes-are certifyNeeds t
+          ∙ ap₂ _else_ (machine-causes-are certifyNeeds t ∙ ap₂ _else_ sheet table ∙ else-clear Clear) (word-causes-are t ∙ word)
+          ∙ else-clear Clear;
+    }
+
+-- where a sequence was built, the sheet that is made has the same machine and word and carries the sequence, and no cause of 1 to 6 is present
+pub built-carries : (room : ℕ) (s : List ℕ) {n : ℕ} → building room s ≡ Built n → Carries s (sequence (machineIn s) (content 2 s)) (builtSheet s)
+built-carries room s e =
+    carries s (sequence (machineIn s) (content 2 s)) (source-of s (load-clear room s (answer-built room s e .0))) (built-shows room s e .commands .few)
+
+-- and certifying it, in a room for its marks, answers certified
+pub built-sheet-certified : (room : ℕ) (s : List ℕ) {n : ℕ} → building room s ≡ Built n → (marksRoom : ℕ) → n + 1 ≤ marksRoom
+    → certification marksRoom (builtSheet s) ≡ Certified (count (marks (machineIn s) (content 2 s) (sequence (machineIn s) (content 2 s))))
+built-sheet-certified room s {n} e marksRoom enough =
+    let xs = sequence (machineIn s) (content 2 s) in
+    let t = builtSheet s in
+    let c = built-carries room s e in
+    let shows = built-shows room s e in
+    let long : length (content 3 t) + 1 ≤ marksRoom = omega (arith, enough, shows .long, ap length (c .sequence)) in
+    let seven : cause7 (machineIn t .k) (the 3 t) (content 3 t) ≡ Clear =
+    commands-clear 7 mostSequence (machineIn t .k) (the 3 t) (content 3 t)
+    (subst (λ (M : Mealy). Commands mostSequence (M .k) (content 3 t)) (sym (c .machine)) (subst (λ (l : List ℕ). Commands mostSequence (machineIn s .k) l) (sym (c .sequence)) (shows .commands))) in
+    built-certification room s e marksRoom t (c .machine) (c .word) (c .sequence)
+    (certify-causes-are certifyNeeds marksRoom t
+    ∙ ap₂ _else_ (c .clear) (ap₂ _else_ seven (sym (cause9-is marksRoom (length (content 3 t) + 1)) ∙ absent 9 (length (content 3 t) + 1) (le-ltb marksRoom (length (content 3 t) + 1) long)) ∙ else-clear Clear)
+    ∙ else-clear Clear)

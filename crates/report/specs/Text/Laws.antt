@@ -1,0 +1,102 @@
+-- The laws of numbers in decimal: their equations without a bound, and that they are what the kit's `io::decimal` promises.
+use Prim.Native.Nat.{ℕ, zero, suc, _+_, _-_, _*_, _/_, _%_, _^_, _≤_, _<_}
+use mathlib.Core.Path.{_≡_, refl, sym, ap, ap₂, subst, _∙_}
+use mathlib.Core.Bool.{Bool, true, false}
+use mathlib.Core.List.{List, [], _∷_, _++_}
+use native.Mathlib.Omega.{arith}
+use native.Mathlib.Numerals.{add-one}
+use native.Mathlib.Nat.{pow-suc, one-le-pow, pow-le-pow-right, mod-lt, mod-eq-of-lt, div-lt-self, div-lt-iff-lt-mul, le-div-iff-mul-le}
+use borrow.Author.Tests.{lt-ltb, le-ltb, ltb-true, ltb-false}
+use lib.Dec.{ltb}
+use Rattle.io.specs.Digits.{glyph, digits, Fewest}
+use Rattle.report.specs.Text.{lastDigit, decimalWithin, decimal}
+
+-- ---- with a bound
+within-digit : (most n : ℕ) → n < 10 → decimalWithin (suc most) n ≡ (48 + n) ∷ []
+unfolding decimalWithin
+within-digit most n h = ap (λ (t : Bool). lastDigit t n (decimalWithin most)) (lt-ltb n 10 h)
+
+within-more : (most n : ℕ) → 10 ≤ n → decimalWithin (suc most) n ≡ decimalWithin most (n / 10) ++ ((48 + n % 10) ∷ [])
+unfolding decimalWithin
+within-more most n h = ap (λ (t : Bool). lastDigit t n (decimalWithin most)) (le-ltb n 10 h)
+
+suc-sub : (n : ℕ) → suc n - 1 ≡ n
+suc-sub n = omega arith
+
+shorter : (n : ℕ) → 10 ≤ n → n / 10 < n
+shorter n h = div-lt-self {n = n} {k = 10} (omega arith) (omega arith)
+
+-- any bound above n gives the same
+enough : (f g n : ℕ) → n < f → n < g → decimalWithin f n ≡ decimalWithin g n
+enough zero g n a b = let z : ⊥ = omega arith in absurd z
+enough (suc f) zero n a b = let z : ⊥ = omega arith in absurd z
+enough (suc f) (suc g) n a b = go (ltb n 10) refl (enough f g (n / 10))
+  where
+    go : (t : Bool) → ltb n 10 ≡ t → (n / 10 < f → n / 10 < g → decimalWithin f (n / 10) ≡ decimalWithin g (n / 10))
+        → decimalWithin (suc f) n ≡ decimalWithin (suc g) n
+    go true e again = within-digit f n (ltb-true n 10 e) ∙ sym (within-digit g n (ltb-true n 10 e))
+    go false e again =
+        let h : 10 ≤ n = ltb-false n 10 e in
+        let less : n / 10 < n = shorter n h in
+        within-more f n h ∙ ap (λ (l : List ℕ). l ++ ((48 + n % 10) ∷ [])) (again (omega arith) (omega arith)) ∙ sym (within-more g n h)
+
+-- ---- without
+-- one digit
+pub decimal-digit : (n : ℕ) → n < 10 → decimal n ≡ (48 + n) ∷ []
+unfolding decimal
+decimal-digit n h = ap (λ (f : ℕ). decimalWithin f n) (add-one n) ∙ within-digit n n h
+
+-- more digits: those of n / 10, then the last one
+pub decimal-more : (n : ℕ) → 10 ≤ n → decimal n ≡ decimal (n / 10) ++ ((48 + n % 10) ∷ [])
+unfolding decimal
+decimal-more n h =
+    let less : n / 10 < n = shorter n h in
+    ap (λ (f : ℕ). decimalWithin f n) (add-one n) ∙ within-more n n h ∙ ap (λ (l : List ℕ). l ++ ((48 + n % 10) ∷ [])) (enough n (n / 10 + 1) (n / 10) (omega arith) (omega arith))
+
+-- ---- the kit's promise
+glyph-is : (d : ℕ) → d < 10 → glyph d ≡ 48 + d
+glyph-is d h = simp (lt-ltb d 10 h)
+
+-- as many digits as are needed, and no fewer than one
+agree : (f n k : ℕ) → n < f → Fewest 10 1 n k → digits 10 k n ≡ decimal n
+agree zero n k a h = let z : ⊥ = omega arith in absurd z
+agree (suc f) n zero a h = let z : ⊥ = omega (arith, h .0) in absurd z
+agree (suc f) n (suc k) a h = go (ltb n 10) refl k h (agree f (n / 10) k)
+  where
+    go : (t : Bool) → ltb n 10 ≡ t → (k : ℕ) → Fewest 10 1 n (suc k) → (n / 10 < f → Fewest 10 1 (n / 10) k → digits 10 k (n / 10) ≡ decimal (n / 10))
+        → digits 10 (suc k) n ≡ decimal n
+    go true e zero h again =
+        let low : n < 10 = ltb-true n 10 e in
+        ap (λ (d : ℕ). d ∷ []) (ap glyph (mod-eq-of-lt low) ∙ glyph-is n low) ∙ sym (decimal-digit n low)
+    go true e (suc k) h again =
+        let low : n < 10 = ltb-true n 10 e in
+        let high : 10 ^ suc k ≤ n = subst (λ (j : ℕ). 10 ^ j ≤ n) (suc-sub (suc k)) (h .2 (omega arith)) in
+        let z : ⊥ = omega (arith, pow-suc 10 k, one-le-pow k 10 (omega arith)) in absurd z
+    go false e zero h again =
+        let high : 10 ≤ n = ltb-false n 10 e in
+        let z : ⊥ = omega (arith, h .1) in absurd z
+    go false e (suc k) h again =
+        let high : 10 ≤ n = ltb-false n 10 e in
+        let less : n / 10 < n = shorter n high in
+        let top : 10 ^ suc k ≤ n = subst (λ (j : ℕ). 10 ^ j ≤ n) (suc-sub (suc k)) (h .2 (omega arith)) in
+        let few : Fewest 10 1 (n / 10) (suc k) = (
+          omega arith,
+          div-lt-iff-lt-mul {k = 10} (omega arith) .1 (subst (λ (x : ℕ). n < x) (pow-suc 10 (suc k)) (h .1)),
+          λ _. le-div-iff-mul-le {k = 10} (omega arith) .1 (subst (λ (j : ℕ). 10 ^ j * 10 ≤ n) (sym (suc-sub k)) (subst (λ (x : ℕ). x ≤ n) (pow-suc 10 k) top)),
+        ) in
+        ap₂ (λ (l : List ℕ) (d : ℕ). l ++ (d ∷ [])) (again (omega arith) few) (glyph-is (n % 10) (mod-lt n (omega arith))) ∙ sym (decimal-more n high)
+
+-- the digits that `io::decimal` gives are the number in decimal
+pub digits-decimal : (n k : ℕ) → Fewest 10 1 n k → digits 10 k n ≡ decimal n
+digits-decimal n k h = agree (n + 1) n k (omega arith) h
+
+-- a 64-bit number has at most 20 digits
+pub few-digits : (n k : ℕ) → n < 2 ^ 64 → Fewest 10 1 n k → k ≤ 20
+few-digits n k l h = go (ltb 20 k) refl
+  where
+    go : (t : Bool) → ltb 20 k ≡ t → k ≤ 20
+    go false e = ltb-false 20 k e
+    go true e =
+        let high = ltb-true 20 k e in
+        let most : 10 ^ 20 ≤ 10 ^ (k - 1) = pow-le-pow-right {n = 10} (omega arith) {i = 20} {j = k - 1} (omega arith) in
+        let z : ⊥ = omega (arith, h .2 (omega arith)) in absurd z

@@ -1,0 +1,61 @@
+// The pieces of a line, put into a buffer one behind the other.
+ghost use Prim.Native.Nat.{_+_, _≤_};
+ghost use mathlib.Core.List.{_++_};
+ghost use lib.ListN.{length};
+ghost use Rattle.report.specs.Text.{decimal};
+ghost use Rattle.report.specs.Phrases.{phrase};
+ghost use Rattle.report.specs.Lines.{spaced};
+ghost use Rattle.report.specs.Pieces.{Puts};
+use crate::phrases::phrase_of;
+
+// The most digits of a 64-bit number.
+const DIGITS: usize = 20;
+
+// Copies a text to a place; gives the place behind it.
+pub fn put(text: &[u8], at: usize, out: &mut [u8]) -> usize
+    requires { ⌜ at + length (now text) ≤ length (now out) ⌝ }
+    ensures { λ r. ⌜ Puts (now (out .entry)) at (now (text .entry)) (now (out .exit)) r ⌝ }
+{
+    let mut i = 0;
+    while i < text.len() {
+        out[at + i] = text[i];
+        i += 1;
+    }
+    at + i
+}
+
+fn put_decimal(n: u64, at: usize, out: &mut [u8]) -> usize
+    requires { ⌜ at + 20 ≤ length (now out) ⌝ }
+    ensures { λ r. ⌜ Puts (now (out .entry)) at (decimal n) (now (out .exit)) r ⌝ }
+    ensures { λ r. ⌜ r ≤ at + 20 ⌝ }
+{
+    let mut digits = [0u8; DIGITS];
+    let size = io::decimal(n, &mut digits);
+    put(&digits[..size], at, out)
+}
+
+// A text, then a number.
+pub fn put_counted(text: &[u8], n: u64, at: usize, out: &mut [u8]) -> usize
+    requires { ⌜ at + length (now text) + 20 ≤ length (now out) ⌝ }
+    ensures { λ r. ⌜ Puts (now (out .entry)) at (now (text .entry) ++ decimal n) (now (out .exit)) r ⌝ }
+    ensures { λ r. ⌜ r ≤ at + length (now (text .entry)) + 20 ⌝ }
+{
+    let next = put(text, at, out);
+    put_decimal(n, next, out)
+}
+
+// The phrase of a refusal number with a space before it, or nothing.
+pub fn put_phrase(number: u8, at: usize, out: &mut [u8]) -> usize
+    requires { ⌜ at + 23 ≤ length (now out) ⌝ }
+    ensures { λ r. ⌜ Puts (now (out .entry)) at (spaced (phrase number)) (now (out .exit)) r ⌝ }
+    ensures { λ r. ⌜ r ≤ at + 23 ⌝ }
+{
+    let p = phrase_of(number);
+    let bytes = p.bytes;
+    let size = p.size;
+    if size == 0 {
+        return at;
+    }
+    let next = put(b" ", at, out);
+    put(&bytes[..size], next, out)
+}

@@ -1,0 +1,17 @@
+// The rig's number.
+ghost use mathlib.Core.Path.{_≡_};
+ghost use Rattle.certify.specs.Certification.Places.{Fits};
+ghost use Rattle.rig.specs.Result.{packed};
+use certify::Values;
+
+// Class, place, a and b, each in its own bits.
+pub fn pack(v: Values) -> u64
+    requires { ⌜ Fits v ⌝ }
+    ensures { λ r. ⌜ r ≡ packed v ⌝ }
+{
+    let class = v.class as u64;
+    let place = v.place as u64;
+    let a = v.a as u64;
+    let b = v.b as u64;
+    class * 1099511627776 + place * 65536 + a * 256 + b
+}

@@ -1,0 +1,88 @@
+// Standard input, read to its end. What the bytes are no contract can say; it says how many count.
+ghost use Prim.Native.Nat.{_≤_};
+ghost use mathlib.Core.Path.{_≡_};
+ghost use lib.ListN.{length};
+ghost use Rattle.streams.specs.declared.input.Input.the-variants.{Failed as FailedInput};
+ghost use Rattle.streams.specs.Input.{Within, Reached, stepAfter};
+use libc::EINTR;
+use libc::STDIN_FILENO;
+
+// How many bytes were read, or that reading failed, which is not the same as none.
+pub enum Input {
+    Read { size: usize },
+    Failed,
+}
+
+// After one read: how many bytes there are now, that the input has ended, or that the read failed.
+enum Step {
+    More { size: usize },
+    End,
+    Failed,
+}
+
+// What one read tells: by whether it moved bytes, whether the input has ended and whether a signal
+// interrupted the read, which then adds nothing.
+fn step_after(moved: bool, ended: bool, interrupted: bool, size: usize, next: usize) -> Step
+    ensures { λ r. ⌜ r ≡ stepAfter moved ended interrupted size next ⌝ }
+{
+    if moved {
+        return Step::More { size: next };
+    }
+    if ended {
+        return Step::End;
+    }
+    if !interrupted {
+        return Step::Failed;
+    }
+    Step::More { size }
+}
+
+// One read, behind the bytes that are there. The error is asked for right after the read; it
+// decides only where the read failed.
+fn read_more(buf: &mut [u8], size: usize) -> Step
+    requires { ⌜ size ≤ length (now buf) ⌝ }
+    ensures { λ r. ⌜ Reached r (now (buf .exit)) ⌝ }
+{
+    let rest = &mut buf[size..];
+    let got = libc::read(STDIN_FILENO, rest);
+    let interrupted = os::errno() == EINTR;
+    let next = size + io::count(got, rest);
+    step_after(got > 0, got == 0, interrupted, size, next)
+}
+
+// Tells on standard error that standard input cannot be read.
+fn failed() -> Input
+    ensures { λ r. ⌜ r ≡ FailedInput ⌝ }
+{
+    os::fail(b"standard input");
+    Input::Failed
+}
+
+// Reads standard input until it ends or the buffer is full: a caller that lends one byte more than
+// it takes sees that an input is too long. Nothing behind that is read. A proved loop has to end,
+// so it counts its turns down, from a number that no run uses up; using it up would be a failure.
+pub fn read_input(buf: &mut [u8]) -> Input
+    ensures { λ r. ⌜ Within r (now (buf .exit)) ⌝ }
+{
+    let mut size = 0;
+    let mut turns = u64::MAX;
+    while size < buf.len() && turns > 0 {
+        let step = read_more(buf, size);
+        match step {
+            Step::More { size: now } => {
+                size = now;
+            }
+            Step::End => {
+                return Input::Read { size };
+            }
+            Step::Failed => {
+                return failed();
+            }
+        }
+        turns -= 1;
+    }
+    if size < buf.len() {
+        return failed();
+    }
+    Input::Read { size }
+}

@@ -1,0 +1,9 @@
+// Standard input read to its end, and bytes written, for the programs. A failure is told on standard
+// error.
+mod input;
+mod output;
+
+pub use input::Input;
+pub use input::read_input;
+pub use output::write_error;
+pub use output::write_output;
