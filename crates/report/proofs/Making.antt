@@ -12,9 +12,11 @@ use Rattle.sheet.specs.declared.check.Check.the-variants.{Clear}
 use Rattle.sheet.specs.declared.record.Record.{Record}
 use Rattle.sheet.specs.Check.{firstCause}
 use Rattle.sheet.specs.Check.Laws.{both-clear, clear-absent}
-use Rattle.sheet.specs.Format.{longest, offset, end}
+use Rattle.sheet.specs.Format.{longest, end}
 use Rattle.sheet.specs.Reader.{the, content, needed, refusalOf}
 use Rattle.sheet.specs.Reader.Laws.{refusal-is, needed-word, needed-clear, clear-reads}
+use Rattle.sheet.specs.Writing.{headerOf}
+use Rattle.sheet.specs.Writing.Reading.{end-size}
 use Rattle.machine.specs.Limits.{mostSequence}
 use Rattle.machine.specs.Causes.{machineIn, loadCauses}
 use Rattle.machine.specs.Causes.Lists.{machine-causes-are, clear-table}
@@ -25,17 +27,11 @@ use Rattle.build.specs.Building.{buildNeeds, building, Builds}
 use Rattle.build.specs.Building.Service.{load-clear, answer-built, built-shows, built-buffer}
 use Rattle.report.specs.declared.sheets.Made.the-variants.{Sheet, Refused}
 use Rattle.report.specs.Lines.{Prints}
-use Rattle.sheet.specs.Writing.{headerOf}
 use Rattle.report.specs.Sheets.{withSequence, builtSheet, madeOf, bufferOf, Makes}
 
--- ---- the header and the place behind a record
-pub header-size : (kind size : ℕ) → length (headerOf kind size) ≡ 6
-unfolding headerOf
-header-size kind size = refl
-
+-- ---- the place behind a record
 pub end-of : {r w : Record} → w ≡ r → w .start + 6 + w .size ≡ end r
-unfolding end offset
-end-of e = ap (λ (x : Record). x .start + 6 + x .size) e
+end-of {r} {w} e = sym (end-size w) ∙ ap end e
 
 -- the two records lie within the sheet
 pub front-fits : (s : List ℕ) {w : Record} → w ≡ the 2 s → end (the 2 s) ≤ length s

@@ -1,13 +1,11 @@
 // The sheet that building gives: records 1 and 2 of the lent sheet as they stand, and the built
 // sequence as record 3.
-ghost use mathlib.Core.Path.{_≡_};
-ghost use Prim.Native.Nat.{_%_, _≤_};
+ghost use Prim.Native.Nat.{_≤_};
 ghost use lib.ListN.{length};
 ghost use Rattle.machine.specs.Limits.{mostSequence};
 ghost use Rattle.sheet.specs.Format.{longest, end};
 ghost use Rattle.sheet.specs.Reader.{the};
 ghost use Rattle.report.specs.Lines.{Prints};
-ghost use Rattle.sheet.specs.Writing.{headerOf};
 ghost use Rattle.report.specs.Sheets.{withSequence, sheetRoom, Makes};
 use crate::pieces::put;
 use build::Answer;
@@ -17,6 +15,7 @@ use sheet::HEADER;
 use sheet::LONGEST;
 use sheet::SEQUENCE_KIND;
 use sheet::WORD_KIND;
+use sheet::header_of;
 use sheet::record_of;
 
 // The bytes of a buffer for a sheet: no sheet that is made has more.
@@ -26,27 +25,6 @@ pub const SHEET: usize = LONGEST + HEADER + Machine::SEQUENCE;
 pub enum Made {
     Sheet { size: usize },
     Refused { number: u8, place: usize },
-}
-
-fn low(x: usize) -> u8
-    ensures { λ r. ⌜ r ≡ x % 256 ⌝ }
-{
-    (x % 256) as u8
-}
-
-// A record's header.
-fn header_of(kind: u16, size: usize) -> [u8; HEADER]
-    ensures { λ r. ⌜ r ≡ headerOf kind size ⌝ }
-{
-    let wide = kind as usize;
-    [
-        low(size),
-        low(size / 256),
-        low(size / 65_536),
-        low(size / 16_777_216),
-        low(wide),
-        low(wide / 256),
-    ]
 }
 
 // Puts records 1 and 2 and a sequence into a buffer; gives the length of it all.

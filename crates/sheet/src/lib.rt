@@ -1,8 +1,9 @@
-// The byte format of a sheet: records, kinds, checks 1 and 2, and the reader.
+// The byte format of a sheet: records, kinds, checks 1 and 2, the reader, and a record's header.
 mod check;
 mod parse;
 mod reader;
 mod record;
+mod writing;
 
 pub use check::Check;
 pub use check::first_of;
@@ -22,3 +23,4 @@ pub use record::Record;
 pub use record::SEQUENCE_KIND;
 pub use record::WORD_KIND;
 pub use record::byte;
+pub use writing::header_of;

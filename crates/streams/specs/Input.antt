@@ -20,7 +20,8 @@ Reached (More size) buffer = Counts size buffer
 Reached End buffer = Unit
 Reached FailedStep buffer = Unit
 
--- what one read tells, by whether it moved bytes, the input ended or a signal interrupted it: a read that a signal interrupted adds nothing, and any other read that failed is a failure, not the end
+-- what one read tells, by whether it moved bytes, the input ended or a signal interrupted it: a read that a signal interrupted adds nothing, and
+-- any other read that failed is a failure, not the end
 unfoldable pub stepAfter : Bool → Bool → Bool → ℕ → ℕ → Step
 stepAfter true ended interrupted size next = More next
 stepAfter false true interrupted size next = End

@@ -48,6 +48,11 @@ pub held-loaded : (s : List ℕ) {p : List ℕ} {M : Mealy} → p ≡ content 1 
 unfolding held
 held-loaded s pe e = e ∙ ap (λ (x : List ℕ). machineOf (take (2 + 2 * mostEntries) x)) pe
 
+-- sheets with the same record 1 have the same machine
+pub machine-same : (s t : List ℕ) → content 1 t ≡ content 1 s → machineIn t ≡ machineIn s
+unfolding machineIn
+machine-same s t e = ap machineOf e
+
 -- ---- where they are clear
 module _ (n : Needs) (s : List ℕ) (e : firstCause (machineCauses n s) ≡ Clear) where
   table-clear : (cause3 (the 1 s) (content 1 s) ≡ Clear) × (cause4 (the 1 s) (content 1 s) ≡ Clear)

@@ -15,10 +15,10 @@ use Rattle.sheet.specs.Format.{longest, end, parsed, find}
 use Rattle.sheet.specs.Reader.{isMissing, the, needed, refusalOf, content, sheetCauses}
 use Rattle.sheet.specs.Reader.Laws.{whenMissing, when-missing, checks-are, the-found, needed-clear, needed-machine, needed-word, clear-reads}
 use Rattle.machine.specs.Limits.{mostSequence}
-use Rattle.machine.specs.Machine.{Mealy, machineOf, Commands}
+use Rattle.machine.specs.Machine.{Mealy, Commands}
 use Rattle.machine.specs.Causes.{cause3, cause4, cause5, cause6, machineIn, loadCauses}
 use Rattle.machine.specs.Causes.Laws.{few-entries, commands-clear}
-use Rattle.machine.specs.Causes.Lists.{machine-causes-are, word-causes-are, load-causes-are, shape-of, clear-table, word-distinguishes}
+use Rattle.machine.specs.Causes.Lists.{machine-same, machine-causes-are, word-causes-are, load-causes-are, shape-of, clear-table, word-distinguishes}
 use Rattle.certify.specs.declared.answer.Answer.the-variants.{Certified}
 use Rattle.certify.specs.Marks.{count, marks}
 use Rattle.certify.specs.Certification.{certifyNeeds, cause7, certification}
@@ -82,7 +82,7 @@ pub record Carries (s xs t : List ℕ) : Type 0 where
   pub clear : firstCause (loadCauses certifyNeeds t) ≡ Clear
 
 carries : (s xs : List ℕ) → Source s → length xs ≤ mostSequence → Carries s xs (withSequence s xs)
-unfolding withSequence machineIn
+unfolding withSequence
 carries s xs h few =
     let p = h .pair in
     let inside = h .inside in
@@ -96,7 +96,7 @@ carries s xs h few =
     let f3 = reading.find-three s xs p inside low in
     let the-one : the 1 t ≡ the 1 s = sym (the-found 1 t {f = At (the 1 s)} (sym f1) refl) in
     let the-two : the 2 t ≡ the 2 s = sym (the-found 2 t {f = At (the 2 s)} (sym f2) refl) in
-    let machine : machineIn t ≡ machineIn s = ap machineOf one in
+    let machine : machineIn t ≡ machineIn s = machine-same s t one in
     let none : whenMissing t 4 false ≡ Clear = sym (when-missing t 4 false) ∙ absent 2 (length t) refl in
     let sheet : firstCause (sheetCauses (needed certifyNeeds) t) ≡ Clear =
     checks-are certifyNeeds t

@@ -23,6 +23,11 @@ use Rattle.sheet.specs.Reader.Laws.{refusal-is, part-clear, the-found}
 use Rattle.sheet.specs.Writing.{headerOf}
 use Rattle.sheet.specs.Format.Records.{Pair}
 
+-- ---- the header
+pub header-size : (kind size : ℕ) → length (headerOf kind size) ≡ 6
+unfolding headerOf
+header-size kind size = refl
+
 -- ---- a record that is in order
 clear-at : (t : List ℕ) (at last : ℕ) {r : Record} → recordAt t at ≡ r → at + header ≤ length t → end r ≤ length t → last < rank (kindOf (r .kind)) → causeAt t at last ≡ Clear
 unfolding causeAt cause1 cause2
@@ -102,8 +107,7 @@ module _ (s xs : List ℕ) {one two : Record} (p : Pair s one two) (inside : end
   front-long = length-take-le (end two) s inside
 
   head-long : length (front ++ headerOf 3 (length xs)) ≡ end two + 6
-  unfolding headerOf
-  head-long = length-append front (headerOf 3 (length xs)) ∙ ap (λ (n : ℕ). n + 6) front-long
+  head-long = length-append front (headerOf 3 (length xs)) ∙ ap₂ _+_ front-long (header-size 3 (length xs))
 
   pub added-long : length added ≡ end two + 6 + length xs
   added-long = length-append (front ++ headerOf 3 (length xs)) xs ∙ ap (λ (n : ℕ). n + length xs) head-long

@@ -5,7 +5,8 @@ use native.Mathlib.Omega.{arith}
 use denote.Ref.{now}
 use mathlib.Core.Path.{sym, ap}
 use lib.ListN.{length}
-use Rattle.report.proofs.Making.{header-size, end-of, front-fits, parts-are}
+use Rattle.report.proofs.Making.{end-of, front-fits, parts-are}
+use Rattle.sheet.specs.Writing.Reading.{header-size}
 use Rattle.report.proofs.Putting.{puts-same, puts-append, prints-line}
 use Rattle.report.proofs.sheets.compose.Statement.{statement}
 use Rattle.report.proofs.sheets.compose.Tie as tie

@@ -1,9 +1,9 @@
--- `report::sheets::header_of` meets its contract: six bytes, each the lowest of what is left.
+-- `sheet::writing::header_of` meets its contract: six bytes, each the lowest of what is left.
 -- Assumes nothing.
 use borrow.Author.Needs.{needs}
 use Rattle.sheet.specs.Writing.{headerOf}
-use Rattle.report.proofs.sheets.header_of.Statement.{statement}
-use Rattle.report.proofs.sheets.header_of.Tie as tie
+use Rattle.sheet.proofs.writing.header_of.Statement.{statement}
+use Rattle.sheet.proofs.writing.header_of.Tie as tie
 
 low-requires : tie.Need-low-requires
 low-requires c κs = search needs
