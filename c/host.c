@@ -93,6 +93,7 @@ static void certifying(void)
     expect("word of 16", f, of(TWIN, WORD16, BUILT, NONE), 20, UINT64_C(0x6F0000000000), PART("\0\0\0\0\0\0\0\0\0\0\0\0\0"));
     expect("word of 17", f, of(TWIN, WORD17, BUILT, NONE), 20, UINT64_C(0x050000100000), NONE);
     expect("word 1", f, of(TWIN, PART("\1"), BUILT, NONE), 20, UINT64_C(0x060000010000), NONE);
+    expect("payload of two states for three", f, of(PART("\3\2" "\1\0" "\0\5" "\0\1" "\1\5"), WORD, BUILT, NONE), 20, UINT64_C(0x030000000000), NONE);
     expect("first next state 2", f, of(PART("\2\2" "\2\0" "\0\5" "\0\1" "\1\5"), WORD, BUILT, NONE), 20, UINT64_C(0x040000080000), NONE);
     expect("command 2", f, of(TWIN, WORD, PART("\0\2"), NONE), 20, UINT64_C(0x0700001E0000), NONE);
     expect("room of 12", f, of(TWIN, WORD, BUILT, NONE), 12, UINT64_C(0x0900000D0000), NONE);

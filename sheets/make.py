@@ -2,7 +2,8 @@
 """Writes the sample sheets into the folder of this file, and prints the table of README.md.
 
 The model below is written from the scope paper and shares nothing with the crates: sheets, runs,
-transfers, the built sequence, recognition as the smallest set of the two rules, the verdicts.
+transfers, the built sequence, recognition as the smallest set of the two rules, certification. The
+lines of judging and of the refusals are written out beside their sheets.
 """
 import os
 from itertools import product
@@ -157,8 +158,8 @@ put("twin-word", sheet(TWIN.payload(), [1], [0], []), "bench", "REFUSED 6 at 1 w
 again("twin-word", "bench_build", "REFUSED 6 at 1 word does not separate")
 put("twin-open", sheet(TWIN.payload(), [0], [0, 0, 1, 0, 1, 0], []), "bench_certify", certify(TWIN, [0], [0, 0, 1, 0, 1, 0]))
 again("twin-open", "bench", "REFUSED 11 at 2 not certified")
-SPLIT = Machine([[(1, 0), (0, 5)], [(1, 1), (1, 5)]])  # entry (1, 0) leads to 1
-put("twin-split", sheet(SPLIT.payload(), [0]), "bench_build", "REFUSED 8 at 1 not connected")
+DISCONNECTED = Machine([[(1, 0), (0, 5)], [(1, 1), (1, 5)]])  # entry (1, 0) leads to 1
+put("twin-split", sheet(DISCONNECTED.payload(), [0]), "bench_build", "REFUSED 8 at 1 not connected")
 put("twin-cut", sheet(TWIN.payload(), [0])[:-1], "bench_certify", "REFUSED 1 at 16 sheet cut or too long")
 unit("house", HOUSE, [0, 1])
 ring = build(RING, RING_WORD)

@@ -1,9 +1,9 @@
 // Reads a sheet from standard input, builds the sequence of its machine and word, and writes the
 // sheet that carries it. A refusal goes to standard error.
+use report::BUILT_SHEET;
+use report::INPUT;
 use report::LINE;
 use report::Made;
-use report::ROOM;
-use report::SHEET;
 use report::build_sheet;
 use report::refusal_line;
 use streams::Input;
@@ -18,7 +18,7 @@ fn refuse(number: u8, place: usize) {
 }
 
 fn answer(sheet: &[u8]) {
-    let mut out = [0u8; SHEET];
+    let mut out = [0u8; BUILT_SHEET];
     let made = build_sheet(sheet, &mut out);
     match made {
         Made::Sheet { size } => write_output(&out[..size]),
@@ -27,7 +27,7 @@ fn answer(sheet: &[u8]) {
 }
 
 fn main() {
-    let mut sheet = [0u8; ROOM];
+    let mut sheet = [0u8; INPUT];
     let input = read_input(&mut sheet);
     if let Input::Read { size } = input {
         answer(&sheet[..size]);

@@ -1,6 +1,6 @@
 // Reads a sheet from standard input, certifies its sequence and prints one line.
+use report::INPUT;
 use report::LINE;
-use report::ROOM;
 use report::certify_sheet;
 use streams::Input;
 use streams::read_input;
@@ -13,7 +13,7 @@ fn answer(sheet: &[u8]) {
 }
 
 fn main() {
-    let mut sheet = [0u8; ROOM];
+    let mut sheet = [0u8; INPUT];
     let input = read_input(&mut sheet);
     if let Input::Read { size } = input {
         answer(&sheet[..size]);

@@ -14,6 +14,7 @@ use Rattle.sheet.specs.declared.check.Check.the-variants.{Clear, Refused}
 use Rattle.sheet.specs.Check.{refusal_with_if_, firstCause}
 use Rattle.sheet.specs.Check.Laws.{clear-absent}
 use Rattle.sheet.specs.Reader.{content}
+use Rattle.sheet.specs.Writing.{written}
 use Rattle.machine.specs.Limits.{mostWord}
 use Rattle.machine.specs.declared.loading.Loaded.{Loaded}
 use Rattle.machine.specs.Machine.{meaning, Proper, Commands}
@@ -24,9 +25,10 @@ use Rattle.certify.specs.Certification.Laws.{cause9-is}
 use Rattle.build.specs.declared.service.Answer.the-variants.{Built, Refused as RefusedAnswer}
 use Rattle.build.specs.Sequence.{sequence}
 use Rattle.build.specs.Building.{buildNeeds, cause8, buildCauses, Builds}
-use Rattle.build.specs.Building.Laws.{clear-blocks}
+use Rattle.build.specs.Building.Connection.{clear-blocks}
 use Rattle.build.specs.Building.Service.{refused-early, refused-eight, room-cause, building-refused, building-clear, buffer-refused, buffer-clear}
-use Rattle.build.specs.Writing.{Ready, Filled, Writes}
+use Rattle.build.specs.Table.{Filled}
+use Rattle.build.specs.Writing.{Ready, Writes}
 
 -- a refusal, and nothing written
 refused-builds : (s before : List ℕ) {a b : ℕ} → firstCause (buildCauses (length before) s) ≡ Refused a b → {after : List ℕ} → after ≡ before → Builds s before after (RefusedAnswer a b)
@@ -100,6 +102,6 @@ module _ (s before : List ℕ) (l : Loaded) (h : LoadedFrom buildNeeds s l) wher
                     wr .written room
                     ∙ ap (λ (d : List ℕ). paste d 0 xs (length xs)) me
                     ∙ ap₂ (λ (a : List ℕ) (n : ℕ). a ++ drop n before) (take-length xs) (zero-add (length xs))
-                    ∙ ap (λ (a : List ℕ). a ++ drop (length a) before) sequence-same
+                    ∙ ap (λ (a : List ℕ). written a before) sequence-same
                     ∙ sym (buffer-clear s before (causes-are ∙ e));
               }

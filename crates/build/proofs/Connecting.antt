@@ -3,26 +3,26 @@
 use Prim.Native.Nat.{ℕ, _+_, _*_, _≤_, _<_}
 use mathlib.Core.Path.{_≡_, refl, sym, ap, ap₂, subst, _∙_}
 use mathlib.Core.Bool.{Bool, true, false, not}
-use mathlib.Core.List.{List}
-use mathlib.Core.Option.{some}
+use mathlib.Core.List.{List, []}
+use mathlib.Core.Option.{Option, some, Option·getD}
 use native.Mathlib.Omega.{arith}
 use borrow.Author.Tests.{not-false}
 use lib.ListN.{length, getD, take}
 use lib.Seq.{length-take-le}
+use borrow.Author.Count.{below-more}
 use Rattle.sheet.specs.declared.check.Check.{Check}
 use Rattle.sheet.specs.declared.check.Check.the-variants.{Clear, Refused}
 use Rattle.sheet.specs.Check.{refusal_with_if_, first}
 use Rattle.sheet.specs.Check.Laws.{clear-absent, first-none, first-stops, first-goes-on, first-ends}
 use Rattle.machine.specs.Machine.{Mealy, run, Proper}
-use Rattle.machine.specs.Numbers.{below-more}
-use Rattle.build.specs.declared.paths.Path.{Path}
-use Rattle.build.specs.Transfer.{guard, transfer, stringOf}
+use Rattle.build.specs.declared.transfers.MaybeTransfer.{MaybeTransfer}
+use Rattle.build.specs.Transfer.{guard, transfer, transferIn}
 use Rattle.build.specs.Transfer.Laws.{transfer-below}
 use Rattle.build.specs.Transfer.Paths.{guard-true, guard-false}
-use Rattle.build.specs.Sequence.{following, B, orEmpty}
+use Rattle.build.specs.Sequence.{following, B}
 use Rattle.build.specs.Building.{noTransfer, cause8}
-use Rattle.build.specs.Building.Laws.{transferCause, cause8-is}
-use Rattle.build.specs.Writing.{rowSize, tableSize, row, Filled, Stored}
+use Rattle.build.specs.Building.Connection.{transferCause, cause8-is}
+use Rattle.build.specs.Table.{rowSize, tableSize, row, Filled, Stored}
 
 -- the transfers of the states before s are found and stored
 pub record Connecting (M : Mealy) (w rows : List ℕ) (s : ℕ) : Type 0 where
@@ -42,9 +42,9 @@ guard-missing : (b : Bool) (xs : List ℕ) → noTransfer (guard b (some xs)) �
 guard-missing true xs = ap noTransfer (guard-true (some xs) refl)
 guard-missing false xs = ap noTransfer (guard-false (some xs) refl)
 
-module _ (M : Mealy) (w : List ℕ) (s : ℕ) (p : Path) (from to : ℕ) {N : ℕ} {c : Check} (ne : N ≡ M .n)
-    (fe : from ≡ run M s w) (te : to ≡ following N s) (e : stringOf p ≡ transfer M from to) (ce : c ≡ (refusal 8 with s if not (p .found))) where
-  transfer-of : stringOf p ≡ B M w s
+module _ (M : Mealy) (w : List ℕ) (s : ℕ) (p : MaybeTransfer) (from to : ℕ) {N : ℕ} {c : Check} (ne : N ≡ M .n)
+    (fe : from ≡ run M s w) (te : to ≡ following N s) (e : transferIn p ≡ transfer M from to) (ce : c ≡ (refusal 8 with s if not (p .found))) where
+  transfer-of : transferIn p ≡ B M w s
   transfer-of = e ∙ ap₂ (transfer M) fe (te ∙ ap (λ (n : ℕ). following n s) ne)
 
   check-of : c ≡ transferCause M w s
@@ -74,9 +74,9 @@ module _ (M : Mealy) (w : List ℕ) (s : ℕ) (p : Path) (from to : ℕ) {N : �
             (λ i q. subst (λ (x : ℕ). x < rowSize) (sym (st .sizes i q)) (h .filled .short i q))
             (subst (λ (x : ℕ). x < rowSize) (sym (st .sized)) size-low);
         stored =
-            below-more (λ i. orEmpty (B M w i) ≡ row after i) s
+            below-more (λ i. Option·getD (B M w i) [] ≡ row after i) s
             (λ i q. h .filled .stored i q ∙ sym (st .rows i q (h .filled .short i q)))
-            (ap orEmpty B-is ∙ sym (st .stored));
+            (ap (λ (o : Option (List ℕ)). Option·getD o []) B-is ∙ sym (st .stored));
       }
 
       pub connecting-on : s < M .n → {after : List ℕ} → Stored rows after s (p .length) (p .commands) → Connecting M w after (s + 1)
@@ -89,7 +89,3 @@ module _ (M : Mealy) (w rows : List ℕ) {s : ℕ} (h : Connecting M w rows s) w
 
   pub connecting-filled : M .n ≤ s → Filled M w (M .n) rows
   connecting-filled l = subst (λ (x : ℕ). Filled M w x rows) (omega (arith, h .inside)) (h .filled)
-
--- a refusal is not clear
-pub never : {A : Type 0} {a b : ℕ} {c : Check} → c ≡ Refused a b → c ≡ Clear → A
-never r e = let z : _≡_ {A = ℕ} 0 1 = cc in absurd (omega arith)

@@ -1,9 +1,9 @@
 mod Answering
 mod Connecting
 mod Descending
-mod Writes
 mod Parts
 mod Rounds
+mod Rows
 mod Searching
-mod Table
 mod WordEnd
+mod Writes

@@ -6,17 +6,17 @@ use mathlib.Core.Path.{_≡_, refl, sym, ap, subst, _∙_}
 use mathlib.Core.List.{List, [], _∷_, _++_, append-assoc, append-nil}
 use native.Mathlib.Omega.{arith}
 use native.Mathlib.Numerals.{add-one}
-use native.Mathlib.Nat.{mul-le-mul}
 use lib.ListN.{length}
 use Rattle.machine.specs.Limits.{mostStates, mostCommands, mostSequence}
 use Rattle.machine.specs.Machine.{Mealy, run}
 use Rattle.machine.specs.Machine.Laws.{run-append, run-none}
 use Rattle.build.specs.declared.writing.Position.{Position}
-use Rattle.build.specs.Sequence.{following, T, nthState, round, opening, approach, test, stateTests, tests, sequence, blockBound}
+use Rattle.build.specs.Sequence.{following, T, nthState, firstBlocks, opening, approach, test, stateTests, tests, sequence, mostBlock}
 use Rattle.build.specs.Sequence.Cycle.{following-below, gap, gap-below, gap-step, nthState-below, nthState-start, nthState-next}
-use Rattle.build.specs.Sequence.Laws.{T-is, approach-here, approach-more, round-none, round-more, round-leads, opening-is, opening-leads, test-is, test-leads, test-stays, state-tests-stay, state-tests-none, state-tests-more, tests-none, tests-more, sequence-is}
-use Rattle.build.specs.Sequence.Length.{approach-length, test-length, state-tests-length, opening-length}
-use Rattle.build.specs.Writing.{mostBlock, mostApproach, mostTest, mostStateTests, mostTests, row, Ready, Writes, Moves, BlockAsked, Asked}
+use Rattle.build.specs.Sequence.Laws.{T-is, approach-here, approach-more, first-blocks-none, first-blocks-more, first-blocks-lead, opening-is, opening-leads, test-is, test-leads, test-stays, state-tests-stay, state-tests-none, state-tests-more, tests-none, tests-more, sequence-is}
+use Rattle.build.specs.Sequence.Length.{approach-length, test-length, state-tests-length, opening-length, block-few, blocks-few, tests-few}
+use Rattle.build.specs.Table.{row}
+use Rattle.build.specs.Writing.{mostApproach, mostTest, mostStateTests, mostTests, Ready, Writes, Moves, BlockAsked, Asked}
 use Rattle.build.proofs.Writes.{writes-none, writes-append}
 
 -- a number that the program has by another name
@@ -47,9 +47,6 @@ pub record Approaching (M : Mealy) (w before : List ℕ) (at₀ p₀ s : ℕ) (n
 
 module _ (M : Mealy) (w rows : List ℕ) (h : Ready M w rows) where
   -- ---- blocks
-  block-few : blockBound M w ≤ mostBlock
-  block-few = omega (arith, h .few, h .blocks .proper .few-states)
-
   block-asked : (s at : ℕ) → s < M .n → at + mostBlock ≤ mostSequence → BlockAsked w rows s at
   block-asked s at sl room = record {
     few = h .few;
@@ -63,7 +60,7 @@ module _ (M : Mealy) (w rows : List ℕ) (h : Ready M w rows) where
   block-writes s sl l = rw (T-is M w s, h .filled .stored s sl) l
 
   block-length : (s : ℕ) → s < M .n → length (T M w s) ≤ mostBlock
-  block-length s sl = omega (arith, h .blocks .short s sl, block-few)
+  block-length s sl = omega (arith, h .blocks .short s sl, block-few M w (h .blocks .proper) (h .few))
 
   -- ---- the approach
   module _ (before : List ℕ) (at₀ p₀ s : ℕ) where
@@ -109,7 +106,7 @@ module _ (M : Mealy) (w rows : List ℕ) (h : Ready M w rows) where
     reached-room : {before after : List ℕ} {end : ℕ} → Writes before at (approach M w (M .n) p s) after end → end + 1 + mostBlock ≤ mostSequence
     reached-room l =
         let g = gap-below (M .n) p s (a .low) sl in
-        let few : gap (M .n) p s * blockBound M w ≤ (mostStates - 1) * mostBlock = mul-le-mul {n₁ = gap (M .n) p s} {m₁ = blockBound M w} {n₂ = mostStates - 1} {m₂ = mostBlock} (omega (arith, h .blocks .proper .few-states)) block-few in
+        let few = blocks-few M w (h .blocks .proper) (h .few) (gap (M .n) p s) (mostStates - 1) (omega (arith, h .blocks .proper .few-states)) in
         omega (arith, a .room, l .ends, approach-length M w (h .blocks) (M .n) p s (a .low) sl)
 
     pub command-room : {before after : List ℕ} {end : ℕ} → Writes before at (approach M w (M .n) p s) after end → end + 1 ≤ mostSequence
@@ -146,17 +143,13 @@ pub record Testing (M : Mealy) (w before : List ℕ) (p₀ : Position) (now : Li
   pub room : p .at + (mostStates - s) * mostStateTests ≤ mostSequence
 
 module _ (M : Mealy) (w rows before : List ℕ) (p₀ : Position) (h : Ready M w rows) where
-  blocks-few : M .n * blockBound M w ≤ mostStates * mostBlock
-  blocks-few = mul-le-mul {n₁ = M .n} {m₁ = blockBound M w} {n₂ = mostStates} {m₂ = mostBlock} (h .blocks .proper .few-states) (block-few M w rows h)
-
   -- a test's length, on a machine within the limits
   test-few : (p s c : ℕ) → p < M .n → s < M .n → c < M .k → length (test M w p s c) ≤ mostTest
-  test-few p s c pl sl cl = omega (arith, blocks-few, test-length M w (h .blocks) p s c pl sl cl)
+  test-few p s c pl sl cl = omega (arith, blocks-few M w (h .blocks .proper) (h .few) (M .n) mostStates (h .blocks .proper .few-states), test-length M w (h .blocks) p s c pl sl cl)
 
   state-few : (p s : ℕ) → p < M .n → s < M .n → length (stateTests M w p s (M .k)) ≤ mostStateTests
   state-few p s pl sl =
-      let few = blocks-few in
-      let all : M .k * (M .n * blockBound M w + 1) ≤ mostCommands * mostTest = mul-le-mul {n₁ = M .k} {m₁ = M .n * blockBound M w + 1} {n₂ = mostCommands} {m₂ = mostTest} (h .blocks .proper .few-commands) (omega arith) in
+      let all = tests-few M w (h .blocks .proper) (h .few) (M .k) mostCommands (h .blocks .proper .few-commands) in
       omega (arith, state-tests-length M w (h .blocks) p s (M .k) pl sl (omega arith))
 
   -- ---- one state's tests
@@ -209,51 +202,51 @@ module _ (M : Mealy) (w rows before : List ℕ) (p₀ : Position) (h : Ready M w
     testing-end l = subst (λ (x : ℕ). Moves M before (p₀ .at) (p₀ .state) (tests M w (p₀ .state) x) now p) (omega (arith, a .inside)) (a .moves)
 
 -- ---- the opening: the first i blocks
-pub record Rounding (M : Mealy) (w before now : List ℕ) (at p i : ℕ) : Type 0 where
+pub record Opening (M : Mealy) (w before now : List ℕ) (at p i : ℕ) : Type 0 where
   pub inside : i ≤ M .n + 1
-  pub writes : Writes before 0 (round M w i) now at
+  pub writes : Writes before 0 (firstBlocks M w i) now at
   pub state : p ≡ nthState M i
   pub room : at ≤ i * mostBlock
 
 module _ (M : Mealy) (w rows before : List ℕ) (h : Ready M w rows) where
-  pub rounding-start : {p : ℕ} → p ≡ M .start → Rounding M w before before 0 p 0
-  rounding-start e = record {
+  pub opening-start : {p : ℕ} → p ≡ M .start → Opening M w before before 0 p 0
+  opening-start e = record {
     inside = omega arith;
-    writes = writes-none before 0 (round-none M w);
+    writes = writes-none before 0 (first-blocks-none M w);
     state = e ∙ sym (nthState-start M (h .blocks .proper));
     room = omega arith;
   }
 
-  module _ {now : List ℕ} {at p i : ℕ} (a : Rounding M w before now at p i) where
-    pub rounding-low : p < M .n
-    rounding-low = rw (a .state) (nthState-below M (h .blocks .proper) i)
+  module _ {now : List ℕ} {at p i : ℕ} (a : Opening M w before now at p i) where
+    pub opening-low : p < M .n
+    opening-low = rw (a .state) (nthState-below M (h .blocks .proper) i)
 
-    pub rounding-asked : {N : ℕ} → N ≡ M .n → i ≤ N → BlockAsked w rows p at
-    rounding-asked e l = block-asked M w rows h p at rounding-low (omega (arith, a .room, h .blocks .proper .few-states))
+    pub opening-asked : {N : ℕ} → N ≡ M .n → i ≤ N → BlockAsked w rows p at
+    opening-asked e l = block-asked M w rows h p at opening-low (omega (arith, a .room, h .blocks .proper .few-states))
 
-    pub rounding-on : {N q end : ℕ} {after : List ℕ} → N ≡ M .n → i ≤ N → Writes now at (w ++ row rows p) after end → q ≡ following N p → Rounding M w before after end q (i + 1)
-    rounding-on {N} {q} {end} {after} e l b qe =
-        let block : Writes now at (T M w p) after end = block-writes M w rows h p rounding-low b in
+    pub opening-on : {N q end : ℕ} {after : List ℕ} → N ≡ M .n → i ≤ N → Writes now at (w ++ row rows p) after end → q ≡ following N p → Opening M w before after end q (i + 1)
+    opening-on {N} {q} {end} {after} e l b qe =
+        let block : Writes now at (T M w p) after end = block-writes M w rows h p opening-low b in
         let here : Writes now at (T M w (nthState M i)) after end = rw (← a .state) block in
         record {
           inside = omega arith;
-          writes = rw (add-one, round-more M w i) (writes-append (round M w i) (T M w (nthState M i)) (a .writes) here);
+          writes = rw (add-one, first-blocks-more M w i) (writes-append (firstBlocks M w i) (T M w (nthState M i)) (a .writes) here);
           state = qe ∙ (rw (e, a .state, add-one) (sym (nthState-next M (h .blocks .proper) i)));
-          room = omega (arith, a .room, block .ends, block-length M w rows h p rounding-low);
+          room = omega (arith, a .room, block .ends, block-length M w rows h p opening-low);
         }
 
-    pub rounding-end : {N : ℕ} → N ≡ M .n → N < i → Moves M before 0 (M .start) (opening M w) now (record { at = at; state = p })
-    rounding-end e l =
-        let all : round M w i ≡ opening M w = ap (round M w) (omega (arith, a .inside)) ∙ sym (opening-is M w (h .blocks)) in
+    pub opening-end : {N : ℕ} → N ≡ M .n → N < i → Moves M before 0 (M .start) (opening M w) now (record { at = at; state = p })
+    opening-end e l =
+        let all : firstBlocks M w i ≡ opening M w = ap (firstBlocks M w) (omega (arith, a .inside)) ∙ sym (opening-is M w (h .blocks)) in
         record {
           writes = rw (← all) (a .writes);
-          leads = a .state ∙ sym (round-leads M w (h .blocks) i) ∙ ap (run M (M .start)) all;
+          leads = a .state ∙ sym (first-blocks-lead M w (h .blocks) i) ∙ ap (run M (M .start)) all;
         }
 
   -- ---- the whole
   pub tests-asked : {after : List ℕ} {p : Position} → Moves M before 0 (M .start) (opening M w) after p → Asked M w rows (p .at) (p .state) mostTests
   tests-asked m =
-      let few : (M .n + 1) * blockBound M w ≤ (mostStates + 1) * mostBlock = mul-le-mul {n₁ = M .n + 1} {m₁ = blockBound M w} {n₂ = mostStates + 1} {m₂ = mostBlock} (omega (arith, h .blocks .proper .few-states)) (block-few M w rows h) in
+      let few = blocks-few M w (h .blocks .proper) (h .few) (M .n + 1) (mostStates + 1) (omega (arith, h .blocks .proper .few-states)) in
       record {
         ready = h;
         low = rw (m .leads, opening-leads M w (h .blocks)) (following-below (M .n) (M .start) (h .blocks .proper .starts));

@@ -4,40 +4,30 @@ use Prim.Native.Nat.{ℕ, suc, _+_, _*_, _-_, _≤_, _<_}
 use mathlib.Core.Path.{_≡_, refl, sym, ap, _∙_}
 use mathlib.Core.List.{List, []}
 use mathlib.Core.Option.{none}
-use mathlib.Core.Bool.{Bool, true, false}
-use mathlib.Core.Logic.{_⊎_, inl, inr, ⊎-elim}
+use mathlib.Core.Logic.{⊎-elim}
 use native.Mathlib.Omega.{arith}
 use native.Mathlib.Numerals.{add-one}
-use lib.Dec.{ltb}
 use lib.ListN.{length, getD, set, replicate, length-set, length-replicate, getD-replicate}
 use lib.Seq.{getD-set-same, getD-set-other}
-use borrow.Author.Tests.{ltb-true, ltb-false}
+use borrow.Author.Count.{below-more}
 use Rattle.machine.specs.Machine.{Mealy, tabled}
 use Rattle.machine.specs.Machine.Laws.{tabled-states, tabled-commands, tabled-cells}
-use Rattle.machine.specs.Numbers.{equal-or-not, below-more}
+use Rattle.machine.specs.Numbers.{equal-or-not, less-or-not}
 use Rattle.build.specs.Transfer.{firstPath}
 use Rattle.build.specs.Transfer.Paths.{Seen, nothing, string, seen, path-zero, path-here, path-inside, path-outside, some-path, none-path}
-use Rattle.build.specs.Distances.{Widened, Distance, Distances}
+use Rattle.build.specs.Distances.{unreached, Widened, Distance, Distances}
 use Rattle.build.proofs.Searching.{nearest, unreached-none, exact}
-
--- ---- numbers
-less-or-not : (a b : ℕ) → (a < b) ⊎ (b ≤ a)
-less-or-not a b = go (ltb a b) refl
-  where
-    go : (t : Bool) → ltb a b ≡ t → (a < b) ⊎ (b ≤ a)
-    go true e = inl (ltb-true a b e)
-    go false e = inr (ltb-false a b e)
 
 -- ---- the loop over the states
 -- the first s states are done, the others as before
-pub record Widening (next : List ℕ) (n k : ℕ) (before : List ℕ) (d : ℕ) (far : List ℕ) (s : ℕ) : Type 0 where
+pub record Widening (next : List ℕ) (n k : ℕ) (before : List ℕ) (d : ℕ) (distance : List ℕ) (s : ℕ) : Type 0 where
   pub few : s ≤ n
-  pub long : length far ≡ 256
-  pub done : (x : ℕ) → x < s → Widened next k before d x (getD far x 0)
-  pub later : (x : ℕ) → s ≤ x → getD far x 0 ≡ getD before x 0
+  pub long : length distance ≡ 256
+  pub done : (x : ℕ) → x < s → Widened next k before d x (getD distance x 0)
+  pub later : (x : ℕ) → s ≤ x → getD distance x 0 ≡ getD before x 0
 
 -- the states at distance d are those before the round, whatever it did with them
-widened-same : {next : List ℕ} {k : ℕ} {before : List ℕ} {d x w : ℕ} → d < 254 → Widened next k before d x w → (w ≡ d → getD before x 0 ≡ d) × (getD before x 0 ≡ d → w ≡ d)
+widened-same : {next : List ℕ} {k : ℕ} {before : List ℕ} {d x w : ℕ} → d + 1 < unreached → Widened next k before d x w → (w ≡ d → getD before x 0 ≡ d) × (getD before x 0 ≡ d → w ≡ d)
 widened-same l (Widened.kept o e) = (λ q. omega arith, λ q. omega arith)
 widened-same l (Widened.reached c cl z e w) = (λ q. let y : ⊥ = omega arith in absurd y, λ q. let y : ⊥ = omega arith in absurd y)
 widened-same l (Widened.still z h e) = (λ q. omega arith, λ q. omega arith)
@@ -47,97 +37,88 @@ module _ {next : List ℕ} {n k : ℕ} {before : List ℕ} {d : ℕ} where
   pub widening-none : length before ≡ 256 → Widening next n k before d before 0
   widening-none l = record { few = omega arith; long = l; done = λ x y. let z : ⊥ = omega arith in absurd z; later = λ x y. refl }
 
-  same-at : {far : List ℕ} {s : ℕ} → d < 254 → Widening next n k before d far s → (x : ℕ) → (getD far x 0 ≡ d → getD before x 0 ≡ d) × (getD before x 0 ≡ d → getD far x 0 ≡ d)
-  same-at {far} {s} l h x =
+  same-at : {distance : List ℕ} {s : ℕ} → d + 1 < unreached → Widening next n k before d distance s → (x : ℕ) → (getD distance x 0 ≡ d → getD before x 0 ≡ d) × (getD before x 0 ≡ d → getD distance x 0 ≡ d)
+  same-at {distance} {s} l h x =
       ⊎-elim (λ (k : x < s). widened-same l (h .done x k)) (λ (k : s ≤ x). (λ q. omega (arith, h .later x k), λ q. omega (arith, h .later x k)))
       (less-or-not x s)
 
   -- so a state's distance after the round does not depend on what the round did with other states
-  widened-before : {far : List ℕ} {s w : ℕ} → d < 254 → Widening next n k before d far s → Widened next k far d s w → Widened next k before d s w
-  widened-before {far} {s} {w} l h (Widened.kept o e) = let q = h .later s (omega arith) in Widened.kept (λ z. o (omega arith)) (omega arith)
-  widened-before {far} {s} {w} l h (Widened.reached c cl z e we) =
+  widened-before : {distance : List ℕ} {s w : ℕ} → d + 1 < unreached → Widening next n k before d distance s → Widened next k distance d s w → Widened next k before d s w
+  widened-before {distance} {s} {w} l h (Widened.kept o e) = let q = h .later s (omega arith) in Widened.kept (λ z. o (omega arith)) (omega arith)
+  widened-before {distance} {s} {w} l h (Widened.reached c cl z e we) =
       Widened.reached c cl (sym (h .later s (omega arith)) ∙ z) (same-at l h (getD next (s * k + c) 0) .0 e) we
-  widened-before {far} {s} {w} l h (Widened.still z p e) =
+  widened-before {distance} {s} {w} l h (Widened.still z p e) =
       Widened.still (sym (h .later s (omega arith)) ∙ z) (λ c cl q. p c cl (same-at l h (getD next (s * k + c) 0) .1 q)) e
 
   -- one state more
-  pub widening-on : {far : List ℕ} {s w : ℕ} → d < 254 → n ≤ 255 → s < n → Widening next n k before d far s → Widened next k far d s w → Widening next n k before d (set far s w) (s + 1)
-  widening-on {far} {s} {w} l few sl h e =
-      let inside : s < length far = omega (arith, h .long) in
+  pub widening-on : {distance : List ℕ} {s w : ℕ} → d + 1 < unreached → n ≤ 255 → s < n → Widening next n k before d distance s → Widened next k distance d s w → Widening next n k before d (set distance s w) (s + 1)
+  widening-on {distance} {s} {w} l few sl h e =
+      let inside : s < length distance = omega (arith, h .long) in
       record {
         few = omega arith;
-        long = length-set far s w ∙ h .long;
+        long = length-set distance s w ∙ h .long;
         done =
-            below-more (λ x. Widened next k before d x (getD (set far s w) x 0)) s
-            (λ x q. rw (getD-set-other far s x w 0 (λ y. omega arith)) (h .done x q))
-            (rw (getD-set-same far s w 0 inside) (widened-before l h e));
-        later = λ x xl. getD-set-other far s x w 0 (λ y. omega arith) ∙ h .later x (omega arith);
+            below-more (λ x. Widened next k before d x (getD (set distance s w) x 0)) s
+            (λ x q. rw (getD-set-other distance s x w 0 (λ y. omega arith)) (h .done x q))
+            (rw (getD-set-same distance s w 0 inside) (widened-before l h e));
+        later = λ x xl. getD-set-other distance s x w 0 (λ y. omega arith) ∙ h .later x (omega arith);
       }
 
 -- ---- what a round is for
-module _ (M : Mealy) (b d : ℕ) (few : M .n ≤ 255) (small : d < 254) (next : List ℕ) (cells : (s c : ℕ) → M .next s c ≡ getD next (s * M .k + c) 0)
-    (bytes : (i : ℕ) → getD next i 0 < 256) {far : List ℕ} (table : Distances M b d far) where
+module _ (M : Mealy) (b d : ℕ) (few : M .n ≤ 255) (small : d + 1 < unreached) (next : List ℕ) (cells : (s c : ℕ) → M .next s c ≡ getD next (s * M .k + c) 0)
+    (bytes : (i : ℕ) → getD next i 0 < 256) {distance : List ℕ} (table : Distances M b d distance) where
   -- no path of d + 1 commands leads from a state that is still unreached
-  still-none : (s : ℕ) → s < M .n → ((m : ℕ) → m ≤ d → firstPath M b m s ≡ none) → ((c : ℕ) → c < M .k → getD far (getD next (s * M .k + c) 0) 0 ≡ d → ⊥) → firstPath M b (suc d) s ≡ none
+  still-none : (s : ℕ) → s < M .n → ((m : ℕ) → m ≤ d → firstPath M b m s ≡ none) → ((c : ℕ) → c < M .k → getD distance (getD next (s * M .k + c) 0) 0 ≡ d → ⊥) → firstPath M b (suc d) s ≡ none
   still-none s sl lacks h = none-path M b d s (λ c cl. go c cl (seen (firstPath M b d (M .next s c))))
     where
       go : (c : ℕ) → c < M .k → Seen (firstPath M b d (M .next s c)) → firstPath M b d (M .next s c) ≡ none
       go c cl (nothing e) = e
-      go c cl (string t e) = absurd (h c cl (ap (λ (x : ℕ). getD far x 0) (sym (cells s c)) ∙ exact M b d few table d s c (omega arith) sl cl lacks e))
+      go c cl (string t e) = absurd (h c cl (ap (λ (x : ℕ). getD distance x 0) (sym (cells s c)) ∙ exact M b d few table d s c (omega arith) sl cl lacks e))
 
   -- a state has its distance after the round
-  widened-distance : (s : ℕ) → s < M .n → {w : ℕ} → Widened next (M .k) far d s w → Distance M b (d + 1) s w
+  widened-distance : (s : ℕ) → s < M .n → {w : ℕ} → Widened next (M .k) distance d s w → Distance M b (d + 1) s w
   widened-distance s sl {w} (Widened.kept o e) = rw e (go (table .at s (omega arith)))
     where
-      go : Distance M b d s (getD far s 0) → Distance M b (d + 1) s (getD far s 0)
+      go : Distance M b d s (getD distance s 0) → Distance M b (d + 1) s (getD distance s 0)
       go (Distance.near t l p q) = Distance.near t (omega arith) p q
-      go (Distance.unreached z h) = absurd (o z)
+      go (Distance.beyond z h) = absurd (o z)
   widened-distance s sl {w} (Widened.reached c cl z e we) =
       let lacks = unreached-none M b d (table .at s (omega arith)) z (omega arith) in
-      let near = nearest M b d (table .at (M .next s c) (rw (cells s c) (bytes (s * M .k + c)))) (ap (λ (x : ℕ). getD far x 0) (cells s c) ∙ e) (omega arith) in
+      let near = nearest M b d (table .at (M .next s c) (rw (cells s c) (bytes (s * M .k + c)))) (ap (λ (x : ℕ). getD distance x 0) (cells s c) ∙ e) (omega arith) in
       let r = some-path M b d s c sl cl (near .found) in
       rw we (Distance.near (r .0) (omega arith) (rw add-one (r .1)) (λ m l. lacks m (omega arith)))
   widened-distance s sl {w} (Widened.still z h e) =
       let lacks = unreached-none M b d (table .at s (omega arith)) z (omega arith) in
-      Distance.unreached e
+      Distance.beyond e
       (λ m l. below-more (λ i. firstPath M b i s ≡ none) (d + 1) (λ i q. lacks i (omega arith)) (rw add-one (still-none s sl lacks h)) m (omega arith))
 
   -- what is no state stays unreached
   outside-distance : (s v : ℕ) → M .n ≤ s → Distance M b d s v → Distance M b (d + 1) s v
   outside-distance s v l (Distance.near t k p q) = let y = path-inside M b v s p in let z : ⊥ = omega arith in absurd z
-  outside-distance s v l (Distance.unreached z h) = Distance.unreached z (λ m _. path-outside M b m s l)
+  outside-distance s v l (Distance.beyond z h) = Distance.beyond z (λ m _. path-outside M b m s l)
 
   -- so all have
-  round-distances : {after : List ℕ} {s : ℕ} → Widening next (M .n) (M .k) far d after s → M .n ≤ s → Distances M b (d + 1) after
+  round-distances : {after : List ℕ} {s : ℕ} → Widening next (M .n) (M .k) distance d after s → M .n ≤ s → Distances M b (d + 1) after
   round-distances {after} {s} h l = record {
     long = h .long;
     at = λ x xl.
         ⊎-elim (λ (q : x < M .n). widened-distance x q (h .done x (omega arith)))
-        (λ (q : M .n ≤ x). rw (h .later x (omega (arith, h .few))) (outside-distance x (getD far x 0) q (table .at x xl)))
+        (λ (q : M .n ≤ x). rw (h .later x (omega (arith, h .few))) (outside-distance x (getD distance x 0) q (table .at x xl)))
         (less-or-not x (M .n));
   }
 
 -- the same, of the machine of a table
-pub widening-all : {next : List ℕ} {n k : ℕ} {before : List ℕ} {d : ℕ} {far : List ℕ} {s : ℕ} → n ≤ 255 → d < 254 → ((i : ℕ) → getD next i 0 < 256)
-    → Widening next n k before d far s → n ≤ s → (start to : ℕ) (answer : List ℕ)
-    → Distances (tabled n k start next answer) to d before → Distances (tabled n k start next answer) to (d + 1) far
-widening-all {next} {n} {k} {before} {d} {far} {s} few small bytes h l start to answer table =
+pub widening-all : {next : List ℕ} {n k : ℕ} {before : List ℕ} {d : ℕ} {distance : List ℕ} {s : ℕ} → n ≤ 255 → d + 1 < unreached → ((i : ℕ) → getD next i 0 < 256)
+    → Widening next n k before d distance s → n ≤ s → (start to : ℕ) (answer : List ℕ)
+    → Distances (tabled n k start next answer) to d before → Distances (tabled n k start next answer) to (d + 1) distance
+widening-all {next} {n} {k} {before} {d} {distance} {s} few small bytes h l start to answer table =
     let M : Mealy = tabled n k start next answer in
     let ns : M .n ≡ n = tabled-states n k start next answer in
-    let wide : Widening next (M .n) (M .k) before d far s = rw (ns, tabled-commands n k start next answer) h in
+    let wide : Widening next (M .n) (M .k) before d distance s = rw (ns, tabled-commands n k start next answer) h in
     round-distances M to d (omega arith) small next (tabled-cells n k start next answer) bytes table wide (omega arith)
 
 -- ---- the first distances
--- a table with one number in all cells
-pub record Constant (n v : ℕ) (l : List ℕ) : Type 0 where
-  pub long : length l ≡ n
-  pub cells : (i : ℕ) → i < n → getD l i 0 ≡ v
-
--- an array made of one number is such a table
-pub filled : (n v : ℕ) → Constant n v (replicate n v)
-filled n v = record { long = length-replicate n v; cells = λ i l. getD-replicate n i v 0 l }
-
-module _ (M : Mealy) (b : ℕ) {l : List ℕ} (h : Constant 256 255 l) where
+module _ (M : Mealy) (b : ℕ) where
   -- from what is not b, or where b is no state, no path of no command leads to b
   away : (s : ℕ) → (s < M .n → s ≡ b → ⊥) → (m : ℕ) → m ≤ 0 → firstPath M b m s ≡ none
   away s o m ml = let z : m ≡ 0 = omega arith in rw z (go (seen (firstPath M b 0 s)))
@@ -147,54 +128,56 @@ module _ (M : Mealy) (b : ℕ) {l : List ℕ} (h : Constant 256 255 l) where
       go (string t e) = let p = path-zero M b s e in absurd (o (p .0) (p .1))
 
   -- the state b is at distance 0 from itself, and the others are unreached
-  first-state : b < M .n → M .n ≤ 255 → Distances M b 0 (set l b 0)
+  first-state : b < M .n → M .n ≤ 255 → Distances M b 0 (set (replicate 256 unreached) b 0)
   first-state k few =
-      let inside : b < length l = omega (arith, h .long) in
+      let l : List ℕ = replicate 256 unreached in
+      let long : length l ≡ 256 = length-replicate 256 unreached in
+      let inside : b < length l = omega arith in
       record {
-        long = length-set l b 0 ∙ h .long;
+        long = length-set l b 0 ∙ long;
         at = λ s sl.
             ⊎-elim (λ (q : s ≡ b). rw (q, getD-set-same l b 0 0 inside) (Distance.near [] (omega arith) (path-here M b b refl k) (λ m y. let z : ⊥ = omega arith in absurd z)))
-            (λ (o : s ≡ b → ⊥). Distance.unreached (getD-set-other l b s 0 0 o ∙ h .cells s sl) (away s (λ _ q. o q)))
+            (λ (o : s ≡ b → ⊥). Distance.beyond (getD-set-other l b s 0 0 o ∙ getD-replicate 256 s unreached 0 sl) (away s (λ _ q. o q)))
             (equal-or-not s b);
       }
 
   -- where b is no state all are unreached
-  no-state : M .n ≤ b → Distances M b 0 l
-  no-state k = record { long = h .long; at = λ s sl. Distance.unreached (h .cells s sl) (away s (λ y q. omega arith)) }
+  no-state : M .n ≤ b → Distances M b 0 (replicate 256 unreached)
+  no-state k = record { long = length-replicate 256 unreached; at = λ s sl. Distance.beyond (getD-replicate 256 s unreached 0 sl) (away s (λ y q. omega arith)) }
 
 -- ---- the loop over the distances
 -- after d rounds, below n, the distances of at most d commands
-pub record Rounded (next : List ℕ) (n k to : ℕ) (far : List ℕ) (d : ℕ) : Type 0 where
+pub record Rounded (next : List ℕ) (n k to : ℕ) (distance : List ℕ) (d : ℕ) : Type 0 where
   pub low : d ≤ n - 1
-  pub tables : (start : ℕ) (answer : List ℕ) → Distances (tabled n k start next answer) to d far
+  pub tables : (start : ℕ) (answer : List ℕ) → Distances (tabled n k start next answer) to d distance
 
 module _ {next : List ℕ} {n k to : ℕ} where
   -- before the first round, to a state
-  pub rounded-state : {l far : List ℕ} → Constant 256 255 l → to < n → n ≤ 255 → far ≡ set l to 0 → Rounded next n k to far 0
-  rounded-state h l few e = rw e (record {
+  pub rounded-state : {distance : List ℕ} → to < n → n ≤ 255 → distance ≡ set (replicate 256 unreached) to 0 → Rounded next n k to distance 0
+  rounded-state l few e = rw e (record {
     low = omega arith;
     tables = λ start answer.
-        let ns = tabled-states n k start next answer in first-state (tabled n k start next answer) to h (rw ns l) (rw ns few);
+        let ns = tabled-states n k start next answer in first-state (tabled n k start next answer) to (rw ns l) (rw ns few);
   })
 
   -- and to what is no state
-  pub rounded-none : {l far : List ℕ} → Constant 256 255 l → n ≤ to → far ≡ l → Rounded next n k to far 0
-  rounded-none h l e = rw e (record {
+  pub rounded-none : {distance : List ℕ} → n ≤ to → distance ≡ replicate 256 unreached → Rounded next n k to distance 0
+  rounded-none l e = rw e (record {
     low = omega arith;
-    tables = λ start answer. no-state (tabled n k start next answer) to h (rw (tabled-states n k start next answer) l);
+    tables = λ start answer. no-state (tabled n k start next answer) to (rw (tabled-states n k start next answer) l);
   })
 
-  module _ {far : List ℕ} {d : ℕ} (h : Rounded next n k to far d) where
+  module _ {distance : List ℕ} {d : ℕ} (h : Rounded next n k to distance d) where
     -- the table has a cell for each byte
-    pub rounded-long : length far ≡ 256
+    pub rounded-long : length distance ≡ 256
     rounded-long = h .tables 0 [] .long
 
     -- one round more
     pub rounded-on : {after : List ℕ} → d + 1 < n
-        → ((start to : ℕ) (answer : List ℕ) → Distances (tabled n k start next answer) to d far → Distances (tabled n k start next answer) to (d + 1) after)
+        → ((start to : ℕ) (answer : List ℕ) → Distances (tabled n k start next answer) to d distance → Distances (tabled n k start next answer) to (d + 1) after)
         → Rounded next n k to after (d + 1)
     rounded-on l widens = record { low = omega arith; tables = λ start answer. widens start to answer (h .tables start answer) }
 
     -- after the last round the distances below n are there
-    pub rounded-all : n ≤ d + 1 → (start : ℕ) (answer : List ℕ) → Distances (tabled n k start next answer) to (n - 1) far
+    pub rounded-all : n ≤ d + 1 → (start : ℕ) (answer : List ℕ) → Distances (tabled n k start next answer) to (n - 1) distance
     rounded-all l start answer = let e : d ≡ n - 1 = omega (arith, h .low) in rw e at (h .tables start answer)

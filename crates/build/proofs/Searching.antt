@@ -6,47 +6,47 @@ use mathlib.Core.List.{List}
 use mathlib.Core.Option.{none, some}
 use native.Mathlib.Omega.{arith}
 use lib.ListN.{getD}
-use Rattle.machine.specs.Numbers.{below-more}
+use borrow.Author.Count.{below-more}
 use Rattle.machine.specs.Machine.{Mealy}
 use Rattle.build.specs.Transfer.{firstPath}
 use Rattle.build.specs.Transfer.Paths.{some-none, path-inside, some-path}
-use Rattle.build.specs.Distances.{FirstStep, Widened, Distance, Distances}
+use Rattle.build.specs.Distances.{unreached, FirstStep, Widened, Distance, Distances}
 
 -- ---- the first step
 -- the distance behind a command
-cell-reached : (next far : List ℕ) (k s c : ℕ) {e t d : ℕ} → e ≡ s * k + c → t ≡ getD next e 0 → getD far t 0 ≡ d → getD far (getD next (s * k + c) 0) 0 ≡ d
-cell-reached next far k s c ee te de = ap (λ (x : ℕ). getD far x 0) (ap (λ (x : ℕ). getD next x 0) (sym ee) ∙ sym te) ∙ de
+cell-reached : (next distance : List ℕ) (k s c : ℕ) {e t d : ℕ} → e ≡ s * k + c → t ≡ getD next e 0 → getD distance t 0 ≡ d → getD distance (getD next (s * k + c) 0) 0 ≡ d
+cell-reached next distance k s c ee te de = ap (λ (x : ℕ). getD distance x 0) (ap (λ (x : ℕ). getD next x 0) (sym ee) ∙ sym te) ∙ de
 
 -- what the loop over the commands keeps
-pub record Passing (next : List ℕ) (k : ℕ) (far : List ℕ) (s d c : ℕ) : Type 0 where
+pub record Passing (next : List ℕ) (k : ℕ) (distance : List ℕ) (s d c : ℕ) : Type 0 where
   pub few : c ≤ k
-  pub passed : (x : ℕ) → x < c → getD far (getD next (s * k + x) 0) 0 ≡ d → ⊥
+  pub passed : (x : ℕ) → x < c → getD distance (getD next (s * k + x) 0) 0 ≡ d → ⊥
 
-module _ {next : List ℕ} {k : ℕ} {far : List ℕ} {s d : ℕ} where
+module _ {next : List ℕ} {k : ℕ} {distance : List ℕ} {s d : ℕ} where
   -- before the first command nothing is passed
-  pub passing-none : Passing next k far s d 0
+  pub passing-none : Passing next k distance s d 0
   passing-none = record { few = omega arith; passed = λ x l. let z : ⊥ = omega arith in absurd z }
 
   -- one command more
-  pub passing-on : {c e t : ℕ} → Passing next k far s d c → c < k → e ≡ s * k + c → t ≡ getD next e 0 → (getD far t 0 ≡ d → ⊥) → Passing next k far s d (c + 1)
+  pub passing-on : {c e t : ℕ} → Passing next k distance s d c → c < k → e ≡ s * k + c → t ≡ getD next e 0 → (getD distance t 0 ≡ d → ⊥) → Passing next k distance s d (c + 1)
   passing-on {c} {e} {t} h l ee te o = record {
     few = omega arith;
     passed =
-        below-more (λ x. getD far (getD next (s * k + x) 0) 0 ≡ d → ⊥) c (h .passed)
-        (λ w. o (ap (λ (y : ℕ). getD far y 0) (te ∙ ap (λ (y : ℕ). getD next y 0) ee) ∙ w));
+        below-more (λ x. getD distance (getD next (s * k + x) 0) 0 ≡ d → ⊥) c (h .passed)
+        (λ w. o (ap (λ (y : ℕ). getD distance y 0) (te ∙ ap (λ (y : ℕ). getD next y 0) ee) ∙ w));
   }
 
   -- the command is found
-  pub passing-found : {c e t : ℕ} → Passing next k far s d c → e ≡ s * k + c → t ≡ getD next e 0 → t < 256 → getD far t 0 ≡ d → FirstStep next k far s d c
+  pub passing-found : {c e t : ℕ} → Passing next k distance s d c → e ≡ s * k + c → t ≡ getD next e 0 → t < 256 → getD distance t 0 ≡ d → FirstStep next k distance s d c
   passing-found {c} {e} {t} h ee te small de = record {
     few = h .few;
     passed = h .passed;
     byte = λ l. let q : t ≡ getD next (s * k + c) 0 = te ∙ ap (λ (x : ℕ). getD next x 0) ee in omega arith;
-    found = λ l. cell-reached next far k s c ee te de;
+    found = λ l. cell-reached next distance k s c ee te de;
   }
 
   -- or none does so
-  pub passing-all : {c : ℕ} → Passing next k far s d c → k ≤ c → FirstStep next k far s d k
+  pub passing-all : {c : ℕ} → Passing next k distance s d c → k ≤ c → FirstStep next k distance s d k
   passing-all {c} h l = record {
     few = omega arith;
     passed = λ x xl. h .passed x (omega arith);
@@ -55,13 +55,13 @@ module _ {next : List ℕ} {k : ℕ} {far : List ℕ} {s d : ℕ} where
   }
 
 -- ---- a state's distance after a round, by its three ways
-module _ {next : List ℕ} {k : ℕ} {far : List ℕ} {s d r : ℕ} (h : FirstStep next k far s d r) (z : getD far s 0 ≡ 255) where
+module _ {next : List ℕ} {k : ℕ} {distance : List ℕ} {s d r : ℕ} (h : FirstStep next k distance s d r) (z : getD distance s 0 ≡ unreached) where
   -- a command leads to the distance
-  pub widened-reached : r < k → Widened next k far d s (d + 1)
+  pub widened-reached : r < k → Widened next k distance d s (d + 1)
   widened-reached l = Widened.reached r l z (h .found l) refl
 
   -- no command does
-  pub widened-still : k ≤ r → Widened next k far d s 255
+  pub widened-still : k ≤ r → Widened next k distance d s unreached
   widened-still l = Widened.still z (λ c cl. h .passed c (omega arith)) refl
 
 -- ---- distances and paths
@@ -73,34 +73,34 @@ module _ (M : Mealy) (b d : ℕ) where
     pub found : firstPath M b v s ≡ some string
     pub least : (m : ℕ) → m < v → firstPath M b m s ≡ none
 
-  -- a distance below 255 is that of a path
-  pub nearest : {s v m : ℕ} → Distance M b d s v → v ≡ m → m < 255 → Nearest s m
+  -- a distance below unreached is that of a path
+  pub nearest : {s v m : ℕ} → Distance M b d s v → v ≡ m → m < unreached → Nearest s m
   nearest (Distance.near t l p q) e k = rw (← e) (record { string = t; low = l; found = p; least = q })
-  nearest (Distance.unreached z h) e k = let y : ⊥ = omega arith in absurd y
+  nearest (Distance.beyond z h) e k = let y : ⊥ = omega arith in absurd y
 
-  -- and so is one that is not 255
-  pub nearest-known : {s v : ℕ} → Distance M b d s v → (v ≡ 255 → ⊥) → Nearest s v
+  -- and so is one that is not unreached
+  pub nearest-known : {s v : ℕ} → Distance M b d s v → (v ≡ unreached → ⊥) → Nearest s v
   nearest-known (Distance.near t l p q) o = record { string = t; low = l; found = p; least = q }
-  nearest-known (Distance.unreached z h) o = absurd (o z)
+  nearest-known (Distance.beyond z h) o = absurd (o z)
 
-  -- at 255 there is no path
-  pub unreached-none : {s v : ℕ} → Distance M b d s v → v ≡ 255 → d < 255 → (m : ℕ) → m ≤ d → firstPath M b m s ≡ none
+  -- at unreached there is no path
+  pub unreached-none : {s v : ℕ} → Distance M b d s v → v ≡ unreached → d < unreached → (m : ℕ) → m ≤ d → firstPath M b m s ≡ none
   unreached-none (Distance.near t l p q) z k = let y : ⊥ = omega arith in absurd y
-  unreached-none (Distance.unreached z h) z′ k = h
+  unreached-none (Distance.beyond z h) z′ k = h
 
   -- where there is a path the distance is that of a path no longer
   path-nearest : {s v m : ℕ} {t : List ℕ} → Distance M b d s v → firstPath M b m s ≡ some t → m ≤ d → (v ≤ m) × Nearest s v
   path-nearest {s} {v} {m} (Distance.near t l p q) e k =
       let n : m < v → ⊥ = λ y. some-none e (q m y) in
       (omega arith, record { string = t; low = l; found = p; least = q })
-  path-nearest {s} {v} {m} (Distance.unreached z h) e k = absurd (some-none e (h m k))
+  path-nearest {s} {v} {m} (Distance.beyond z h) e k = absurd (some-none e (h m k))
 
-  module _ (few : M .n ≤ 255) {far : List ℕ} (table : Distances M b d far) where
+  module _ (few : M .n ≤ 255) {distance : List ℕ} (table : Distances M b d distance) where
     -- where no path of at most m commands leads from s, but one of m commands from the next state, that state's distance is m
     pub exact : (m s c : ℕ) {u : List ℕ} → m ≤ d → s < M .n → c < M .k → ((i : ℕ) → i ≤ m → firstPath M b i s ≡ none)
-        → firstPath M b m (M .next s c) ≡ some u → getD far (M .next s c) 0 ≡ m
+        → firstPath M b m (M .next s c) ≡ some u → getD distance (M .next s c) 0 ≡ m
     exact m s c {u} ml sl cl none-here e =
         let inside = path-inside M b m (M .next s c) e in
         let r = path-nearest (table .at (M .next s c) (omega arith)) e ml in
-        let longer : getD far (M .next s c) 0 < m → ⊥ = λ y. some-none (some-path M b (getD far (M .next s c) 0) s c sl cl (r .1 .found) .1) (none-here (suc (getD far (M .next s c) 0)) y) in
+        let longer : getD distance (M .next s c) 0 < m → ⊥ = λ y. some-none (some-path M b (getD distance (M .next s c) 0) s c sl cl (r .1 .found) .1) (none-here (suc (getD distance (M .next s c) 0)) y) in
         omega (arith, r .0)

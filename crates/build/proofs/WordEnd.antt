@@ -2,18 +2,14 @@
 -- Assumes nothing.
 use Prim.Native.Nat.{ℕ, _+_, _*_, _≤_, _<_}
 use mathlib.Core.Path.{_≡_, sym, ap, _∙_}
-use mathlib.Core.List.{List, _∷_}
-use native.Mathlib.Numerals.{add-one}
+use mathlib.Core.List.{List}
 use lib.ListN.{length, getD, drop, drop-of-length-le}
-use lib.Seq.{drop-cons}
 use Rattle.machine.specs.Machine.{Mealy, tabled, run}
-use Rattle.machine.specs.Machine.Laws.{run-none, run-cons, tabled-next}
+use Rattle.machine.specs.Machine.Laws.{run-none, run-rest, tabled-next}
 
 -- one command on
 rest-next : (M : Mealy) (w : List ℕ) (p t u : ℕ) → p < length w → u ≡ M .next t (getD w p 0) → run M u (drop (p + 1) w) ≡ run M t (drop p w)
-rest-next M w p t u l e =
-    ap (λ (x : ℕ). run M x (drop (p + 1) w)) e
-    ∙ sym (ap (run M t) (drop-cons w p 0 l ∙ ap (λ (x : ℕ). getD w p 0 ∷ drop x w) (sym (add-one p))) ∙ run-cons M t (getD w p 0) (drop (p + 1) w))
+rest-next M w p t u l e = ap (λ (x : ℕ). run M x (drop (p + 1) w)) e ∙ sym (run-rest M t w p l)
 
 module _ (n k start : ℕ) (next answer w : List ℕ) where
   -- the cell of an entry leads on

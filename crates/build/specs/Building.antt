@@ -1,16 +1,17 @@
 -- Building (document 01, "Causes" and "Building"): causes 1 to 6, 8 and 9, the answer, and what is written; and when building succeeds. The
--- laws of cause 8 stand in Building.Laws, those of the service in Building.Service; in Building.Twin the starred cases are computed.
+-- laws of cause 8 stand in Building.Connection, those of the service in Building.Service; in Building.Twin the starred cases are computed.
 use Prim.Native.Nat.{ℕ, _≤_, _<_}
 use mathlib.Core.Path.{_≡_}
 use mathlib.Core.Bool.{Bool, true, false}
 use mathlib.Core.List.{List, [], _∷_, _++_}
 use mathlib.Core.Option.{Option, none, some}
-use lib.ListN.{length, drop}
+use lib.ListN.{length}
 use Rattle.sheet.specs.declared.check.Check.{Check}
-use Rattle.sheet.specs.declared.check.Check.the-variants.{Clear, Refused}
+use Rattle.sheet.specs.declared.check.Check.the-variants.{Clear}
 use Rattle.sheet.specs.declared.reader.Needs.{Needs}
-use Rattle.sheet.specs.Check.{refusal_with_if_, firstCause, first}
+use Rattle.sheet.specs.Check.{refusal_with_if_, firstCause, first, refusedOr, unlessRefused}
 use Rattle.sheet.specs.Reader.{the, content}
+use Rattle.sheet.specs.Writing.{written}
 use Rattle.machine.specs.Machine.{Mealy, Separates}
 use Rattle.machine.specs.Causes.{cause5, machineIn, machineCauses, loadCauses}
 use Rattle.certify.specs.Certification.{cause9}
@@ -18,7 +19,7 @@ use Rattle.build.specs.declared.service.Answer.{Answer}
 use Rattle.build.specs.declared.service.Answer.the-variants.{Built, Refused as RefusedAnswer}
 use Rattle.build.specs.Transfer.{Leads}
 use Rattle.build.specs.Sequence.{B, sequence}
-pub mod Laws
+pub mod Connection
 pub mod Service
 pub mod Twin
 
@@ -33,7 +34,7 @@ noTransfer none = true
 noTransfer (some t) = false
 
 -- "not connected": the "least s such that no path leads from where the word takes s to s+1 (0 after n-1)". That no path of any length leads
--- there is a law: refused-unconnected and unconnected-refused, in Building.Laws
+-- there is a law: refused-unconnected and unconnected-refused, in Building.Connection
 unfoldable pub cause8 : Mealy → List ℕ → Check
 cause8 M w = first (M .n) (λ s. refusal 8 with s if noTransfer (B M w s))
 
@@ -44,23 +45,13 @@ buildCauses room s =
     ++ (cause8 (machineIn s) (content 2 s) ∷ cause9 room (length (sequence (machineIn s) (content 2 s))) ∷ [])
 
 -- ---- the service
--- "The result is the length", or the refusal with its number and place
-abbrev pub builtUnless : Check → ℕ → Answer
-builtUnless Clear size = Built size
-builtUnless (Refused number place) size = RefusedAnswer number place
-
--- what building answers to a sheet and a room
+-- what building answers to a sheet and a room: "The result is the length"
 unfoldable pub building : ℕ → List ℕ → Answer
-building room s = builtUnless (firstCause (buildCauses room s)) (length (sequence (machineIn s) (content 2 s)))
+building room s = refusedOr RefusedAnswer (firstCause (buildCauses room s)) (Built (length (sequence (machineIn s) (content 2 s))))
 
--- "the first bytes of the buffer hold the sequence; later bytes are unchanged"; a refusal leaves "all buffers" as they were
-abbrev pub writtenUnless : Check → List ℕ → List ℕ → List ℕ
-writtenUnless Clear xs buffer = xs ++ drop (length xs) buffer
-writtenUnless (Refused number place) xs buffer = buffer
-
--- the lent buffer after building
+-- the lent buffer after building: "the first bytes of the buffer hold the sequence; later bytes are unchanged"
 unfoldable pub bufferAfter : List ℕ → List ℕ → List ℕ
-bufferAfter s buffer = writtenUnless (firstCause (buildCauses (length buffer) s)) (sequence (machineIn s) (content 2 s)) buffer
+bufferAfter s buffer = unlessRefused (firstCause (buildCauses (length buffer) s)) (written (sequence (machineIn s) (content 2 s)) buffer) buffer
 
 -- what building promises of a sheet: its answer, and every byte of the lent buffer
 pub record Builds (s before after : List ℕ) (a : Answer) : Type 0 where

@@ -4,9 +4,10 @@
 use Prim.Native.Nat.{ℕ, zero, suc, _+_, _-_, _*_}
 use mathlib.Core.Bool.{Bool, true, false}
 use mathlib.Core.List.{List, [], _∷_, _++_}
-use mathlib.Core.Option.{Option, none, some}
+use mathlib.Core.Option.{Option, Option·getD}
 use lib.Dec.{eqb}
 use lib.ListN.{length}
+use Rattle.machine.specs.Limits.{mostStates, mostWord}
 use Rattle.machine.specs.Machine.{Mealy, run}
 use Rattle.build.specs.Transfer.{transfer}
 pub mod Cycle
@@ -27,14 +28,9 @@ following n s = nextOr (eqb (s + 1) n) s
 abbrev pub B : Mealy → List ℕ → ℕ → Option (List ℕ)
 B M w s = transfer M (run M s w) (following (M .n) s)
 
--- a string; the empty one where there is none: then cause 8 is present and nothing is built
-abbrev pub orEmpty : Option (List ℕ) → List ℕ
-orEmpty none = []
-orEmpty (some t) = t
-
--- "T(s) is the word followed by B(s)": the field's T-sequence
+-- "T(s) is the word followed by B(s)": the field's T-sequence. Where there is no B(s) cause 8 is present and nothing is built
 unfoldable pub T : Mealy → List ℕ → ℕ → List ℕ
-T M w s = w ++ orEmpty (B M w s)
+T M w s = w ++ Option·getD (B M w s) []
 
 -- the i-th state after the start, counted round; "0 is the start", so it is state i for each i below n: nthState-is, in Sequence.Cycle
 unfoldable pub nthState : Mealy → ℕ → ℕ
@@ -42,13 +38,13 @@ nthState M zero = M .start
 nthState M (suc i) = following (M .n) (nthState M i)
 
 -- the first i of T(0), T(1), ..
-unfoldable pub round : Mealy → List ℕ → ℕ → List ℕ
-round M w zero = []
-round M w (suc i) = round M w i ++ T M w (nthState M i)
+unfoldable pub firstBlocks : Mealy → List ℕ → ℕ → List ℕ
+firstBlocks M w zero = []
+firstBlocks M w (suc i) = firstBlocks M w i ++ T M w (nthState M i)
 
 -- "T(0), T(1), .., T(n-1), T(0)": the field's α-sequence
 unfoldable pub opening : Mealy → List ℕ → List ℕ
-opening M w = round M w (M .n) ++ T M w (M .start)
+opening M w = firstBlocks M w (M .n) ++ T M w (M .start)
 
 -- commands, unless a state is reached already
 abbrev pub unless : Bool → List ℕ → List ℕ
@@ -56,7 +52,7 @@ unless true xs = []
 unless false xs = xs
 
 -- "T of the present state, again and again, until state s is reached (none if already there)", at most i times. n times are enough
--- (approach-reaches, in Sequence.Laws), and without the bound it reads: approach-here, approach-more
+-- (approach-reaches, in Sequence.Laws); the equations without the bound are approach-here and approach-more
 unfoldable pub approach : Mealy → List ℕ → ℕ → ℕ → ℕ → List ℕ
 approach M w zero present s = []
 approach M w (suc i) present s = unless (eqb present s) (T M w present ++ approach M w i (run M present (T M w present)) s)
@@ -82,6 +78,10 @@ sequence M w = let xs = opening M w in xs ++ tests M w (run M (M .start) xs) (M 
 -- "c = L+n-1", which no T(s) is longer than
 abbrev pub blockBound : Mealy → List ℕ → ℕ
 blockBound M w = length w + M .n - 1
+
+-- c at the limits of states and word
+abbrev pub mostBlock : ℕ
+mostBlock = mostWord + mostStates - 1
 
 -- "the length is at most (n+1)c + nk(nc+1)": sequence-length, in Sequence.Length
 unfoldable pub lengthBound : Mealy → List ℕ → ℕ

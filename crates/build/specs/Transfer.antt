@@ -5,11 +5,11 @@ use Prim.Native.Nat.{ℕ, zero, suc, _≤_, _<_}
 use mathlib.Core.Path.{_≡_}
 use mathlib.Core.Bool.{Bool, true, false, _&&_}
 use mathlib.Core.List.{List, [], _∷_}
-use mathlib.Core.Option.{Option, none, some}
+use mathlib.Core.Option.{Option, none, some, Option·map, orElse}
 use lib.Dec.{ltb, eqb}
 use lib.ListN.{length, getD, take}
 use Rattle.machine.specs.Machine.{Mealy, run}
-use Rattle.build.specs.declared.paths.Path.{Path}
+use Rattle.build.specs.declared.transfers.MaybeTransfer.{MaybeTransfer}
 pub mod Laws
 pub mod Paths
 
@@ -38,31 +38,22 @@ unfoldable pub guard : Bool → Option (List ℕ) → Option (List ℕ)
 guard true o = o
 guard false o = none
 
--- the first string, or, where there is none, the second
-unfoldable pub orElse : Option (List ℕ) → Option (List ℕ) → Option (List ℕ)
-orElse none o = o
-orElse (some t) o = some t
-
 -- the first of f 0, f 1, .., f (n - 1) that there is
 unfoldable pub firstOf : ℕ → (ℕ → Option (List ℕ)) → Option (List ℕ)
 firstOf zero f = none
 firstOf (suc n) f = orElse (firstOf n f) (f n)
 
--- a string with a command in front of it
-unfoldable pub prefixed : ℕ → Option (List ℕ) → Option (List ℕ)
-prefixed c none = none
-prefixed c (some t) = some (c ∷ t)
-
--- firstPath M b m a: the first string in byte order of exactly m commands that leads from a to b along states of the machine
+-- firstPath M b m a: the first string in byte order of exactly m commands that leads from a to b along states of the machine; of m + 1 it is the
+-- least command that has one behind it
 unfoldable pub firstPath : Mealy → ℕ → ℕ → ℕ → Option (List ℕ)
 firstPath M b zero a = guard (ltb a (M .n) && eqb a b) (some [])
-firstPath M b (suc m) a = guard (ltb a (M .n)) (firstOf (M .k) (λ c. prefixed c (firstPath M b m (M .next a c))))
+firstPath M b (suc m) a = guard (ltb a (M .n)) (firstOf (M .k) (λ c. Option·map (_∷_ c) (firstPath M b m (M .next a c))))
 
 -- the transfer from a to b: the least length below n that has a string, and the first string of that length. Where a string of any length
 -- leads from a to b, there is one of a length below n: leads-some, in Transfer.Laws
 unfoldable pub transfer : Mealy → ℕ → ℕ → Option (List ℕ)
 transfer M a b = firstOf (M .n) (λ m. firstPath M b m a)
 
--- what the program's answer says: the first commands of its array, where a path is found
-abbrev pub stringOf : Path → Option (List ℕ)
-stringOf p = guard (p .found) (some (take (p .length) (p .commands)))
+-- the transfer in the program's answer: the first commands of its array, where one is found
+abbrev pub transferIn : MaybeTransfer → Option (List ℕ)
+transferIn p = guard (p .found) (some (take (p .length) (p .commands)))

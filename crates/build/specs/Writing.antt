@@ -1,19 +1,17 @@
--- What the program's functions that write the sequence promise each other: the table of transfers, and commands written into a buffer.
+-- What the program's functions that write the sequence promise each other: commands written into a buffer, by the table of transfers.
 use Prim.Native.Nat.{ℕ, _+_, _-_, _*_, _≤_, _<_}
 use mathlib.Core.Path.{_≡_}
 use mathlib.Core.List.{List}
-use lib.ListN.{length, getD, take, drop}
+use lib.ListN.{length, getD}
 use lib.Seq.{paste}
 use Rattle.machine.specs.Limits.{mostStates, mostCommands, mostWord, mostSequence}
 use Rattle.machine.specs.Machine.{Mealy, run}
 use Rattle.build.specs.declared.writing.Position.{Position}
-use Rattle.build.specs.Sequence.{B, orEmpty}
+use Rattle.build.specs.Sequence.{mostBlock}
 use Rattle.build.specs.Sequence.Laws.{Blocks}
+use Rattle.build.specs.Table.{rowSize, tableSize, Filled}
 
 -- ---- the most commands of each part, on a machine within the limits
-abbrev pub mostBlock : ℕ
-mostBlock = mostWord + mostStates - 1
-
 abbrev pub mostApproach : ℕ
 mostApproach = (mostStates - 1) * mostBlock
 
@@ -26,36 +24,11 @@ mostStateTests = mostCommands * mostTest
 abbrev pub mostTests : ℕ
 mostTests = mostStates * mostStateTests
 
--- ---- the table of transfers: a row for each state, first the length, then the commands
-abbrev pub rowSize : ℕ
-rowSize = mostStates
-
-abbrev pub tableSize : ℕ
-tableSize = mostStates * rowSize
-
--- the commands of a row
-unfoldable pub row : List ℕ → ℕ → List ℕ
-row rows s = take (getD rows (s * rowSize) 0) (drop (s * rowSize + 1) rows)
-
--- the transfers of a machine and a word, those of the states below n, in a table
-pub record Filled (M : Mealy) (w : List ℕ) (n : ℕ) (rows : List ℕ) : Type 0 where
-  pub long : length rows ≡ tableSize
-  pub short : (s : ℕ) → s < n → getD rows (s * rowSize) 0 < rowSize
-  pub stored : (s : ℕ) → s < n → orEmpty (B M w s) ≡ row rows s
-
 -- what writing needs of a machine, a word and a table: every T(s) leads on, and the table has all transfers
 pub record Ready (M : Mealy) (w rows : List ℕ) : Type 0 where
   pub blocks : Blocks M w
   pub few : length w ≤ mostWord
   pub filled : Filled M w (M .n) rows
-
--- a transfer stored in its row, the rows before it as they were
-pub record Stored (before after : List ℕ) (s size : ℕ) (commands : List ℕ) : Type 0 where
-  pub long : length after ≡ tableSize
-  pub sized : getD after (s * rowSize) 0 ≡ size
-  pub stored : row after s ≡ take size commands
-  pub sizes : (i : ℕ) → i < s → getD after (i * rowSize) 0 ≡ getD before (i * rowSize) 0
-  pub rows : (i : ℕ) → i < s → getD before (i * rowSize) 0 < rowSize → row after i ≡ row before i
 
 -- ---- writing
 -- commands written at a place of a buffer: where they fit they stand there and all else is as it was; with the place behind them

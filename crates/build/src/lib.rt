@@ -1,11 +1,11 @@
 // Checking sequences: transfers from state to state, the prescribed sequence, refusals 8 and 9.
-mod blocks;
-mod paths;
+mod distances;
 mod service;
-mod shortest;
+mod table;
+mod transfers;
 mod writing;
 
-pub use paths::Path;
-pub use paths::transfer;
 pub use service::Answer;
 pub use service::build;
+pub use transfers::MaybeTransfer;
+pub use transfers::transfer;

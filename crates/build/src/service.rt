@@ -1,7 +1,7 @@
 // The service: builds the checking sequence of a sheet.
 ghost use Rattle.build.specs.Building.{Builds};
-use crate::blocks::ROWS;
-use crate::blocks::connect;
+use crate::table::ROWS;
+use crate::table::connect;
 use crate::writing::write_sequence;
 use machine::load_sheet;
 use sheet::Check;

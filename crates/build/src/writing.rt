@@ -12,9 +12,10 @@ ghost use Rattle.build.specs.Sequence.{test as testOf};
 ghost use Rattle.build.specs.Sequence.{stateTests};
 ghost use Rattle.build.specs.Sequence.{tests as testsOf};
 ghost use Rattle.build.specs.Sequence.{opening as openingOf};
-ghost use Rattle.build.specs.Writing.{mostApproach, mostTest, mostStateTests, mostTests, row, Ready, Writes, Moves, BlockAsked, Asked};
-use crate::blocks::ROW;
-use crate::blocks::following;
+ghost use Rattle.build.specs.Table.{row};
+ghost use Rattle.build.specs.Writing.{mostApproach, mostTest, mostStateTests, mostTests, Ready, Writes, Moves, BlockAsked, Asked};
+use crate::table::ROW;
+use crate::table::following;
 use machine::Machine;
 use machine::entry_at;
 use sheet::byte;
@@ -26,20 +27,12 @@ pub struct Position {
 }
 
 // Copies commands to a place, where they fit; gives the place behind them.
-pub fn put(xs: &[u8], at: usize, buffer: &mut [u8]) -> usize
+fn put(xs: &[u8], at: usize, buffer: &mut [u8]) -> usize
     requires { ⌜ at + length (now xs) ≤ mostSequence ⌝ }
     ensures { λ r. ⌜ Writes (now (buffer .entry)) at (now (xs .entry)) (now (buffer .exit)) r ⌝ }
 {
-    let end = at + xs.len();
-    if buffer.len() < end {
-        return end;
-    }
-    let mut i = 0;
-    while i < xs.len() {
-        buffer[at + i] = xs[i];
-        i += 1;
-    }
-    end
+    sheet::put(xs, at, buffer);
+    at + xs.len()
 }
 
 // T(s): the word, then the transfer of its row.

@@ -1,11 +1,11 @@
 // Check 1, and its order with check 2: records that run past the sheet's end.
 use crate::lines::Ask;
 use crate::lines::line;
-use crate::sheets::all;
 use crate::sheets::front;
 use crate::sheets::header;
 use crate::sheets::twins;
 use sheet::MACHINE_KIND;
+use sheet::put;
 
 // The first bytes of a sheet of the twin's records.
 fn beginning(name: &[u8], kinds: &[u16], size: usize, ask: Ask) {
@@ -55,7 +55,7 @@ fn claimed(name: &[u8], size: usize, rest: &[u8], ask: Ask) {
     let mut space = [0u8; 64];
     let buf: &mut [u8] = &mut space;
     let at = header(buf, 0, MACHINE_KIND, size);
-    let end = all(buf, at, rest);
+    let end = put(rest, at, buf);
     line(name, front(buf, end), ask);
 }
 

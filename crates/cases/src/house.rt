@@ -5,12 +5,12 @@ use crate::lines::number;
 use crate::lines::text;
 use crate::sheets::front;
 use crate::sheets::header;
-use crate::sheets::put;
 use crate::sheets::record;
 use machine::Machine;
 use machine::house_entry;
 use sheet::MACHINE_KIND;
 use sheet::WORD_KIND;
+use sheet::put;
 
 fn limit(name: &[u8], most: usize) {
     text(name);
@@ -60,8 +60,8 @@ fn above() {
 
 fn put_entry(buf: &mut [u8], from: usize, state: u8, command: u8) -> usize {
     let e = house_entry(state, command);
-    let at = put(buf, from, e.next);
-    put(buf, at, e.answer)
+    let pair = [e.next, e.answer];
+    put(&pair, from, buf)
 }
 
 fn put_state(buf: &mut [u8], from: usize, state: u8) -> usize {
@@ -76,8 +76,7 @@ fn unit(name: &[u8], word: &[u8]) {
     let mut space = [0u8; 64];
     let buf: &mut [u8] = &mut space;
     let mut at = header(buf, 0, MACHINE_KIND, 34);
-    at = put(buf, at, 4);
-    at = put(buf, at, 4);
+    at = put(&[4, 4], at, buf);
     at = put_state(buf, at, 0);
     at = put_state(buf, at, 1);
     at = put_state(buf, at, 2);

@@ -5,12 +5,12 @@ use crate::sheets::TWIN;
 use crate::sheets::front;
 use crate::sheets::grid;
 use crate::sheets::header;
-use crate::sheets::put;
 use crate::sheets::record;
 use crate::sheets::times;
 use crate::tables::pair;
 use sheet::MACHINE_KIND;
 use sheet::WORD_KIND;
+use sheet::put;
 
 // Checks 1 to 6 of the twin's machine with a word.
 fn given(name: &[u8], word: &[u8]) {
@@ -24,7 +24,8 @@ fn long(name: &[u8], command: u8, count: u8, last: u8) {
     let mut at = record(buf, 0, MACHINE_KIND, &TWIN);
     at = header(buf, at, WORD_KIND, count as usize + 1);
     at = times(buf, at, command, count as usize);
-    let end = put(buf, at, last);
+    let one = [last];
+    let end = put(&one, at, buf);
     line(name, front(buf, end), Ask::Building);
 }
 
@@ -81,7 +82,7 @@ fn ten() {
     let mut space = [0u8; 64];
     let buf: &mut [u8] = &mut space;
     let at = grid(buf, 0, 10, 1, 22);
-    put(buf, 27, 8);
+    put(&[8], 27, buf);
     let end = record(buf, at, WORD_KIND, &[0]);
     let sheet = front(buf, end);
     line(b"ten states, the last two alike", sheet, Ask::Building);

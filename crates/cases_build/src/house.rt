@@ -3,9 +3,8 @@
 use crate::lines::counted;
 use crate::sheets::front;
 use crate::sheets::header;
-use crate::sheets::put;
 use crate::sheets::record;
-use crate::transfers::path;
+use crate::transfers::line;
 use crate::trials::checked;
 use crate::trials::shown;
 use build::build;
@@ -13,12 +12,13 @@ use machine::Machine;
 use machine::house_entry;
 use sheet::MACHINE_KIND;
 use sheet::WORD_KIND;
+use sheet::put;
 use sheet::read;
 
 fn entry(buf: &mut [u8], from: usize, e: u8) -> usize {
     let cells = house_entry(e / 4, e % 4);
-    let at = put(buf, from, cells.next);
-    put(buf, at, cells.answer)
+    let pair = [cells.next, cells.answer];
+    put(&pair, from, buf)
 }
 
 fn table(buf: &mut [u8], from: usize) -> usize {
@@ -34,8 +34,7 @@ fn table(buf: &mut [u8], from: usize) -> usize {
 // The sheet of machine and word.
 fn unit(buf: &mut [u8]) -> usize {
     let mut at = header(buf, 0, MACHINE_KIND, 34);
-    at = put(buf, at, 4);
-    at = put(buf, at, 4);
+    at = put(&[4, 4], at, buf);
     at = table(buf, at);
     record(buf, at, WORD_KIND, &[0, 1])
 }
@@ -44,7 +43,7 @@ fn unit(buf: &mut [u8]) -> usize {
 fn after(name: &[u8], m: Machine, s: u8, to: u8) {
     let first = house_entry(s, 0);
     let second = house_entry(first.next, 1);
-    path(name, m, second.next, to);
+    line(name, m, second.next, to);
 }
 
 fn transfers(sheet: &[u8]) {

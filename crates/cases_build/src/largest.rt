@@ -2,21 +2,22 @@
 // e = 8 s + c, leads to (factor e + 1) / 8 modulo 10 and answers e modulo 9.
 use crate::sheets::front;
 use crate::sheets::header;
-use crate::sheets::put;
 use crate::sheets::record;
-use crate::transfers::path;
+use crate::transfers::line;
 use crate::trials::checked;
 use crate::trials::shown;
 use machine::Machine;
 use sheet::MACHINE_KIND;
 use sheet::WORD_KIND;
+use sheet::put;
 use sheet::read;
 
 // The entry at a place of the table.
 fn entry(buf: &mut [u8], from: usize, factor: u8, e: u8) -> usize {
     let x = (factor as usize * e as usize + 1) / 8;
-    let at = put(buf, from, (x % 10) as u8);
-    put(buf, at, e % 9)
+    let next = (x % 10) as u8;
+    let pair = [next, e % 9];
+    put(&pair, from, buf)
 }
 
 fn table(buf: &mut [u8], from: usize, factor: u8) -> usize {
@@ -32,8 +33,7 @@ fn table(buf: &mut [u8], from: usize, factor: u8) -> usize {
 // The sheet of machine and word.
 fn unit(buf: &mut [u8], factor: u8) -> usize {
     let mut at = header(buf, 0, MACHINE_KIND, 162);
-    at = put(buf, at, 10);
-    at = put(buf, at, 8);
+    at = put(&[10, 8], at, buf);
     at = table(buf, at, factor);
     let word = [0u8, 1, 2, 3, 4, 5, 6, 7, 0, 1, 2, 3, 4, 5, 6, 7];
     record(buf, at, WORD_KIND, &word)
@@ -44,8 +44,8 @@ fn unit(buf: &mut [u8], factor: u8) -> usize {
 fn ring(buf: &mut [u8]) {
     let end = unit(buf, 1);
     let m = Machine::load(read(front(buf, end), MACHINE_KIND));
-    path(b"ring, transfer of 9", m, 2, 1);
-    path(b"ring, round", m, 9, 3);
+    line(b"ring, transfer of 9", m, 2, 1);
+    line(b"ring, round", m, 9, 3);
     shown(b"ring, room of 20354", front(buf, end), 20_354);
     checked(b"ring", buf, end, 20_355);
 }

@@ -3,7 +3,7 @@
 // over all), behind "kept" how many of the bytes lent are as they were, and how many were lent; in
 // some cases then what certifying answers to the built sequence.
 // The last sequences need more steps than the interpreter of rt try allows.
-mod connected;
+mod disconnected;
 mod house;
 mod largest;
 mod lines;
@@ -18,7 +18,7 @@ mod verdicts;
 fn main() {
     twin::cases();
     house::cases();
-    connected::cases();
+    disconnected::cases();
     order::cases();
     records::cases();
     transfers::cases();

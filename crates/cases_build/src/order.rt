@@ -1,5 +1,5 @@
 // Causes 3 to 6, and several causes in one sheet: the first of them is told.
-use crate::connected::SINK;
+use crate::disconnected::DISCONNECTED;
 use crate::sheets::TWIN;
 use crate::sheets::TWIN_WORD;
 use crate::trials::tried;
@@ -25,10 +25,10 @@ fn words() {
 }
 
 fn several() {
-    tried(b"word 1, not connected", &SINK, &[1], 64);
-    tried(b"word 2, not connected", &SINK, &[2], 64);
+    tried(b"word 1, not connected", &DISCONNECTED, &[1], 64);
+    tried(b"word 2, not connected", &DISCONNECTED, &[2], 64);
     tried(b"word 1, room of 0", &TWIN, &[1], 0);
-    tried(b"not connected, room of 0", &SINK, &TWIN_WORD, 0);
+    tried(b"not connected, room of 0", &DISCONNECTED, &TWIN_WORD, 0);
     machine(
         b"states 1 and 2 not separated, not connected",
         &[3, 1, 0, 0, 1, 7, 2, 7],

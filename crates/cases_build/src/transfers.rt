@@ -2,21 +2,21 @@
 use crate::lines::counted;
 use crate::lines::items;
 use crate::lines::text;
-use crate::sheets::all;
 use crate::sheets::front;
 use build::transfer;
 use machine::Machine;
+use sheet::put;
 
 // Five states, three commands, a row for each state. State 4 is never reached.
 fn mesh() -> Machine {
     let mut space = [0u8; 32];
     let buf: &mut [u8] = &mut space;
-    let mut at = all(buf, 0, &[5, 3]);
-    at = all(buf, at, &[2, 0, 1, 0, 1, 0]);
-    at = all(buf, at, &[3, 0, 1, 0, 1, 0]);
-    at = all(buf, at, &[2, 0, 3, 0, 3, 0]);
-    at = all(buf, at, &[3, 0, 3, 0, 0, 0]);
-    all(buf, at, &[0, 0, 4, 0, 4, 0]);
+    let mut at = put(&[5, 3], 0, buf);
+    at = put(&[2, 0, 1, 0, 1, 0], at, buf);
+    at = put(&[3, 0, 1, 0, 1, 0], at, buf);
+    at = put(&[2, 0, 3, 0, 3, 0], at, buf);
+    at = put(&[3, 0, 3, 0, 0, 0], at, buf);
+    put(&[0, 0, 4, 0, 4, 0], at, buf);
     Machine::load(buf)
 }
 
@@ -27,7 +27,7 @@ fn found(commands: &[u8]) {
 }
 
 // The line of a transfer.
-pub fn path(name: &[u8], m: Machine, from: u8, to: u8) {
+pub fn line(name: &[u8], m: Machine, from: u8, to: u8) {
     text(name);
     let p = transfer(m, from, to);
     let commands = p.commands;
@@ -39,21 +39,21 @@ pub fn path(name: &[u8], m: Machine, from: u8, to: u8) {
 }
 
 fn states(m: Machine) {
-    path(b"transfer, first of four", m, 0, 3);
-    path(b"transfer, first of two commands", m, 0, 1);
-    path(b"transfer, shorter before first", m, 2, 0);
-    path(b"transfer, three commands", m, 4, 3);
-    path(b"transfer, round", m, 1, 2);
-    path(b"transfer, to itself", m, 3, 3);
-    path(b"transfer, to itself, never reached", m, 4, 4);
-    path(b"transfer, none", m, 0, 4);
+    line(b"transfer, first of four", m, 0, 3);
+    line(b"transfer, first of two commands", m, 0, 1);
+    line(b"transfer, shorter before first", m, 2, 0);
+    line(b"transfer, three commands", m, 4, 3);
+    line(b"transfer, round", m, 1, 2);
+    line(b"transfer, to itself", m, 3, 3);
+    line(b"transfer, to itself, never reached", m, 4, 4);
+    line(b"transfer, none", m, 0, 4);
 }
 
 fn others(m: Machine) {
-    path(b"transfer, from 5", m, 5, 0);
-    path(b"transfer, to 5", m, 0, 5);
-    path(b"transfer, from 5 to 5", m, 5, 5);
-    path(b"transfer, from 255 to 255", m, 255, 255);
+    line(b"transfer, from 5", m, 5, 0);
+    line(b"transfer, to 5", m, 0, 5);
+    line(b"transfer, from 5 to 5", m, 5, 5);
+    line(b"transfer, from 255 to 255", m, 255, 255);
 }
 
 pub fn cases() {
@@ -61,5 +61,5 @@ pub fn cases() {
     states(m);
     others(m);
     let one = Machine::load(&[1, 1, 0, 9]);
-    path(b"transfer, one state", one, 0, 0);
+    line(b"transfer, one state", one, 0, 0);
 }

@@ -4,17 +4,17 @@ use crate::lines::valued;
 use crate::sheets::digits;
 use crate::sheets::front;
 use crate::sheets::header;
-use crate::sheets::put;
 use crate::sheets::record;
 use machine::house_entry;
 use sheet::MACHINE_KIND;
 use sheet::SEQUENCE_KIND;
 use sheet::WORD_KIND;
+use sheet::put;
 
 fn put_entry(buf: &mut [u8], from: usize, state: u8, command: u8) -> usize {
     let e = house_entry(state, command);
-    let at = put(buf, from, e.next);
-    put(buf, at, e.answer)
+    let pair = [e.next, e.answer];
+    put(&pair, from, buf)
 }
 
 fn put_state(buf: &mut [u8], from: usize, state: u8) -> usize {
@@ -27,8 +27,7 @@ fn put_state(buf: &mut [u8], from: usize, state: u8) -> usize {
 // The machine, its table made from the look-ups.
 fn table(buf: &mut [u8]) -> usize {
     let mut at = header(buf, 0, MACHINE_KIND, 34);
-    at = put(buf, at, 4);
-    at = put(buf, at, 4);
+    at = put(&[4, 4], at, buf);
     at = put_state(buf, at, 0);
     at = put_state(buf, at, 1);
     at = put_state(buf, at, 2);

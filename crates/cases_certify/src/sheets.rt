@@ -1,39 +1,23 @@
 // Sheets, written as bytes from a place of a buffer on. A function that writes answers the place
-// behind what it wrote; bytes for which the buffer has no room are left out.
+// behind what it wrote; what the buffer has no room for is left out.
 use sheet::MACHINE_KIND;
 use sheet::SEQUENCE_KIND;
 use sheet::WORD_KIND;
+use sheet::header_of;
+use sheet::put;
 
 // The twin's machine and word.
 pub const TWIN: [u8; 10] = [2, 2, 1, 0, 0, 5, 0, 1, 1, 5];
 
 pub const TWIN_WORD: [u8; 1] = [0];
 
-pub fn put(buf: &mut [u8], at: usize, b: u8) -> usize {
-    if at < buf.len() {
-        buf[at] = b;
-        at + 1
-    } else {
-        at
-    }
-}
-
 // One byte again and again.
 pub fn times(buf: &mut [u8], from: usize, b: u8, count: usize) -> usize {
+    let one = [b];
     let mut at = from;
     let mut i = 0;
     while i < count {
-        at = put(buf, at, b);
-        i += 1;
-    }
-    at
-}
-
-fn all(buf: &mut [u8], from: usize, bytes: &[u8]) -> usize {
-    let mut at = from;
-    let mut i = 0;
-    while i < bytes.len() {
-        at = put(buf, at, bytes[i]);
+        at = put(&one, at, buf);
         i += 1;
     }
     at
@@ -44,28 +28,22 @@ pub fn digits(buf: &mut [u8], from: usize, text: &[u8]) -> usize {
     let mut at = from;
     let mut i = 0;
     while i < text.len() {
-        at = put(buf, at, text[i] % 16);
+        let digit = text[i] % 16;
+        let one = [digit];
+        at = put(&one, at, buf);
         i += 1;
     }
     at
 }
 
-fn low(x: usize) -> u8 {
-    (x % 256) as u8
-}
-
 pub fn header(buf: &mut [u8], from: usize, kind: u16, size: usize) -> usize {
-    let mut at = put(buf, from, low(size));
-    at = put(buf, at, low(size / 256));
-    at = put(buf, at, low(size / 65_536));
-    at = put(buf, at, low(size / 16_777_216));
-    at = put(buf, at, low(kind as usize));
-    put(buf, at, low(kind as usize / 256))
+    let bytes = header_of(kind, size);
+    put(&bytes, from, buf)
 }
 
 pub fn record(buf: &mut [u8], from: usize, kind: u16, payload: &[u8]) -> usize {
     let body = header(buf, from, kind, payload.len());
-    all(buf, body, payload)
+    put(payload, body, buf)
 }
 
 // A machine, a word and a sequence.

@@ -3,7 +3,6 @@
 use crate::lines::counted;
 use crate::lines::text;
 use crate::sheets::front;
-use crate::sheets::put;
 use crate::sheets::record;
 use crate::trials::shown;
 use crate::units::Unit;
@@ -13,6 +12,7 @@ use build::build;
 use certify::Answer;
 use certify::certify;
 use sheet::SEQUENCE_KIND;
+use sheet::put;
 
 fn certified(sheet: &[u8]) {
     let mut marks = [7u8; 210];
@@ -36,7 +36,7 @@ fn answered(name: &[u8], buf: &mut [u8], at: usize, unit: Unit, commands: &[u8])
 
 fn wrong(buf: &mut [u8], at: usize, commands: &[u8]) {
     let end = answers(buf, at, Unit::House, commands);
-    put(buf, 364, 99);
+    put(&[99], 364, buf);
     shown(b"house, 99 at place 101", front(buf, end), 210);
 }
 

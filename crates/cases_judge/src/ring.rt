@@ -1,7 +1,6 @@
 // Ten states in a ring, eight commands and a word of 16: the longest built sequence, and with its
 // answers the longest sheet. Record 4 starts at 20,551; the last answer stands at 40,911.
 use crate::sheets::front;
-use crate::sheets::put;
 use crate::sheets::record;
 use crate::trials::shown;
 use crate::units::Unit;
@@ -9,6 +8,7 @@ use crate::units::answers;
 use crate::units::described;
 use build::build;
 use sheet::SEQUENCE_KIND;
+use sheet::put;
 
 // The sheet with the unit's own answers.
 fn longest(buf: &mut [u8]) -> usize {
@@ -26,8 +26,8 @@ pub fn cases() {
     let buf: &mut [u8] = &mut space;
     let end = longest(buf);
     shown(b"ring, sheet of 40912 bytes", front(buf, end), 20_400);
-    put(buf, 40_911, 9);
+    put(&[9], 40_911, buf);
     shown(b"ring, 9 at the last place", front(buf, end), 20_400);
-    put(buf, 20_551, 132);
+    put(&[132], 20_551, buf);
     shown(b"ring, one answer more", front(buf, 40_913), 20_400);
 }

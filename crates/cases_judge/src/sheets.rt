@@ -1,45 +1,20 @@
 // Sheets, written as bytes from a place of a buffer on. A function that writes answers the place
-// behind what it wrote; bytes for which the buffer has no room are left out.
+// behind what it wrote; what the buffer has no room for is left out.
 use sheet::ANSWERS_KIND;
 use sheet::MACHINE_KIND;
 use sheet::SEQUENCE_KIND;
 use sheet::WORD_KIND;
-
-pub fn put(buf: &mut [u8], at: usize, b: u8) -> usize {
-    if at < buf.len() {
-        buf[at] = b;
-        at + 1
-    } else {
-        at
-    }
-}
-
-fn all(buf: &mut [u8], from: usize, bytes: &[u8]) -> usize {
-    let mut at = from;
-    let mut i = 0;
-    while i < bytes.len() {
-        at = put(buf, at, bytes[i]);
-        i += 1;
-    }
-    at
-}
-
-fn low(x: usize) -> u8 {
-    (x % 256) as u8
-}
+use sheet::header_of;
+use sheet::put;
 
 pub fn header(buf: &mut [u8], from: usize, kind: u16, size: usize) -> usize {
-    let mut at = put(buf, from, low(size));
-    at = put(buf, at, low(size / 256));
-    at = put(buf, at, low(size / 65_536));
-    at = put(buf, at, low(size / 16_777_216));
-    at = put(buf, at, low(kind as usize));
-    put(buf, at, low(kind as usize / 256))
+    let bytes = header_of(kind, size);
+    put(&bytes, from, buf)
 }
 
 pub fn record(buf: &mut [u8], from: usize, kind: u16, payload: &[u8]) -> usize {
     let body = header(buf, from, kind, payload.len());
-    all(buf, body, payload)
+    put(payload, body, buf)
 }
 
 // A machine, a word, a sequence and answers.

@@ -1,12 +1,12 @@
 // Units: their tables, written as machines, and their answers to a sequence, as record 4.
 use crate::sheets::header;
-use crate::sheets::put;
 use crate::sheets::record;
 use machine::Entry;
 use machine::house_entry;
 use sheet::ANSWERS_KIND;
 use sheet::MACHINE_KIND;
 use sheet::WORD_KIND;
+use sheet::put;
 
 // The house unit; one that stays in preview, its entry (0, 1) leading to 0; ten states in a ring.
 pub enum Unit {
@@ -41,8 +41,8 @@ fn entry(unit: Unit, s: u8, c: u8) -> Entry {
 }
 
 fn put_entry(buf: &mut [u8], from: usize, x: Entry) -> usize {
-    let at = put(buf, from, x.next);
-    put(buf, at, x.answer)
+    let pair = [x.next, x.answer];
+    put(&pair, from, buf)
 }
 
 // The entry at a place of the table that specifies the unit, all commands of state 0 first.
@@ -66,8 +66,8 @@ fn table(buf: &mut [u8], from: usize, unit: Unit, entries: u8) -> usize {
 // Machine and word.
 pub fn described(buf: &mut [u8], unit: Unit, n: u8, k: u8, entries: u8, word: &[u8]) -> usize {
     let mut at = header(buf, 0, MACHINE_KIND, 2 + 2 * entries as usize);
-    at = put(buf, at, n);
-    at = put(buf, at, k);
+    let sizes = [n, k];
+    at = put(&sizes, at, buf);
     at = table(buf, at, unit, entries);
     record(buf, at, WORD_KIND, word)
 }
@@ -79,7 +79,8 @@ fn run(buf: &mut [u8], from: usize, unit: Unit, commands: &[u8]) -> usize {
     let mut i = 0;
     while i < commands.len() {
         let x = entry(unit, s, commands[i]);
-        at = put(buf, at, x.answer);
+        let one = [x.answer];
+        at = put(&one, at, buf);
         s = x.next;
         i += 1;
     }

@@ -1,11 +1,11 @@
 -- Chains of alternatives: going on along one, and the loop that does so.
+-- Assumes nothing.
 use Prim.Native.Nat.{ℕ, _+_, _<_}
 use mathlib.Core.Path.{_≡_, refl, sym, _∙_}
 use mathlib.Core.List.{List}
 use native.Mathlib.Omega.{arith}
 use lib.ListN.{length, getD}
-use Rattle.certify.specs.Folding.{Past, here, past, Reached, Rising}
-use Rattle.certify.specs.Sweep.{Rooted}
+use Rattle.certify.specs.Folding.{Past, here, past, Reached, Rising, Rooted}
 
 -- one alternative further
 pub past-on : {xs alt : List ℕ} {c r v : ℕ} → Past xs alt c r v → (getD xs v 0 ≡ c → ⊥) → (getD alt v 0 ≡ 0 → ⊥) → Past xs alt c r (getD alt v 0)

@@ -1,56 +1,45 @@
 -- The entries that a sweep knows to be verified: each has a place that shows it, and applying one is rule 2 with one command.
-use Prim.Native.Nat.{ℕ, _+_, _*_, _≤_, _<_}
-use mathlib.Core.Path.{_≡_, refl, sym, ap, _∙_}
+-- Assumes nothing.
+use Prim.Native.Nat.{ℕ, _+_, _<_}
+use mathlib.Core.Path.{_≡_, refl, sym, _∙_}
 use mathlib.Core.Bool.{Bool, true, false, true≢false}
 use mathlib.Core.List.{List}
 use mathlib.Core.Logic.{_⊎_, inl, inr, ⊎-elim}
 use native.Mathlib.Omega.{arith}
-use lib.Dec.{ltb}
 use lib.ListN.{length, getD, set, length-set}
 use lib.Seq.{getD-set-same}
-use borrow.Author.Tests.{ltb-true, ltb-false}
-use Rattle.machine.specs.Limits.{mostEntries}
-use Rattle.machine.specs.Machine.{Mealy}
-use Rattle.machine.specs.Causes.Laws.{entry-below}
-use Rattle.certify.specs.Marks.Laws.{true-or-false}
-use Rattle.certify.specs.Folding.{From, Marking, Risen, tops, step}
-use Rattle.certify.specs.Sweep.{entryAt, Witness, Knows, Learnt}
-use Rattle.certify.proofs.Marking.{bit-one, set-at, set-keeps, marking-more, was-zero}
+use Rattle.machine.specs.Limits.{mostSequence, mostEntries}
+use Rattle.machine.specs.Machine.{Mealy, Commands}
+use Rattle.machine.specs.Numbers.{digits-one}
+use Rattle.certify.specs.Marks.{Bits}
+use Rattle.certify.specs.Folding.{From, Marking, Risen, Paired, tops, step}
+use Rattle.certify.specs.Sweep.{placeEntry, Witness, Knows, Sweepable, Learnt}
+use Rattle.certify.proofs.Marking.{bit-one, set-cases, set-keeps, marking-more, was-zero}
 use Rattle.certify.proofs.Paired.{paired-carries}
 
--- an entry's number tells its state and its command
-pub entry-one : (k s c s′ c′ : ℕ) → c < k → c′ < k → s * k + c ≡ s′ * k + c′ → (s ≡ s′) × (c ≡ c′)
-entry-one k s c s′ c′ l l′ e =
-    let q : s ≡ s′ = omega (arith, not-below s c s′ c′ l e, not-below s′ c′ s c l′ (sym e)) in
-    (q, (let z : s * k ≡ s′ * k = ap (λ (x : ℕ). x * k) q in omega arith))
-  where
-    not-below : (s c s′ c′ : ℕ) → c < k → s * k + c ≡ s′ * k + c′ → s′ ≤ s
-    not-below s c s′ c′ l e =
-        ⊎-elim (λ (b : ltb s s′ ≡ true). let z : ⊥ = omega (arith, entry-below s′ k s c (ltb-true s s′ b) l) in absurd z)
-        (λ (b : ltb s s′ ≡ false). ltb-false s s′ b)
-        (true-or-false (ltb s s′))
+-- what holds of marks and known entries during a sweep that knew these at its start
+pub record Learning (M : Mealy) (xs given known₀ ms known : List ℕ) (changed : Bool) : Type 0 where
+  pub marking : Marking M xs given ms
+  pub table : length known ≡ mostEntries
+  pub knows : Knows M xs given known
+  pub keeps : (e : ℕ) → getD known₀ e 0 ≡ 1 → getD known e 0 ≡ 1
+  pub known-bits : Bits known
+  pub risen : changed ≡ true → (Risen given ms) ⊎ (Risen known₀ known)
 
-module _ (M : Mealy) (xs given : List ℕ) (few : (p : ℕ) → getD given p 0 ≤ 1) (low : (i : ℕ) → i < length xs → getD xs i 0 < M .k)
-    (known₀ : List ℕ) (few₀ : (e : ℕ) → getD known₀ e 0 ≤ 1) where
-  -- what holds of marks and known entries during a sweep that knew these at its start
-  pub record Learning (ms known : List ℕ) (changed : Bool) : Type 0 where
-    pub marking : Marking M xs given ms
-    pub table : length known ≡ mostEntries
-    pub knows : Knows M xs given known
-    pub keeps : (e : ℕ) → getD known₀ e 0 ≡ 1 → getD known e 0 ≡ 1
-    pub low-known : (e : ℕ) → getD known e 0 ≤ 1
-    pub risen : changed ≡ true → (Risen given ms) ⊎ (Risen known₀ known)
+-- a known entry shows the place after t
+pub applied : {M : Mealy} {xs given : List ℕ} → Commands mostSequence (M .k) xs
+    → (t : ℕ) → t < length xs → From M xs given t → Witness M xs given (placeEntry M xs t) → From M xs given (t + 1)
+applied {M} {xs} {given} commands t tl ft h =
+    let low = commands .low in
+    let e = digits-one (M .k) _ _ _ _ (low (h .place) (h .inside)) (low t tl) (h .entry) in
+    let pair : Paired M xs given (h .place + 1) (t + 1) = step (h .place) t (tops (h .before) ft (e .0)) (h .inside) tl (e .1) refl refl in
+    paired-carries pair (h .after)
 
-  -- a known entry shows the place after t
-  applied : (t : ℕ) → t < length xs → From M xs given t → Witness M xs given (entryAt M xs t) → From M xs given (t + 1)
-  applied t tl ft h =
-      let e = entry-one (M .k) _ _ _ _ (low (h .place) (h .inside)) (low t tl) (h .entry) in
-      paired-carries M xs given (step (h .place) t (tops (h .before) ft (e .0)) (h .inside) tl (e .1) refl refl) (h .after)
-
-  module _ {ms known : List ℕ} {e t : ℕ} {changed : Bool} (tl : t < length xs) (el : e < mostEntries) (at : entryAt M xs t ≡ e)
-      (h : Learning ms known changed) where
+module _ {M : Mealy} {apply : Bool} {xs given known₀ : List ℕ} (asked : Sweepable M apply xs given known₀) where
+  module _ {ms known : List ℕ} {e t : ℕ} {changed : Bool} (tl : t < length xs) (el : e < mostEntries) (at : placeEntry M xs t ≡ e)
+      (h : Learning M xs given known₀ ms known changed) where
     -- a new entry
-    learns-one : (getD ms t 0 ≡ 0 → ⊥) → (getD ms (t + 1) 0 ≡ 0 → ⊥) → getD known e 0 ≡ 0 → Learning ms (set known e 1) true
+    learns-one : (getD ms t 0 ≡ 0 → ⊥) → (getD ms (t + 1) 0 ≡ 0 → ⊥) → getD known e 0 ≡ 0 → Learning M xs given known₀ ms (set known e 1) true
     learns-one n n′ z =
         let g = h .marking in
         let inside : e < length known = omega (arith, h .table) in
@@ -62,39 +51,40 @@ module _ (M : Mealy) (xs given : List ℕ) (few : (p : ℕ) → getD given p 0 �
                 place = t;
                 inside = tl;
                 entry = at ∙ sym (q .0);
-                before = g .sound t (bit-one (getD ms t 0) (g .few t) n);
-                after = g .sound (t + 1) (bit-one (getD ms (t + 1) 0) (g .few (t + 1)) n′);
+                before = g .sound t (bit-one (g .bits t) n);
+                after = g .sound (t + 1) (bit-one (g .bits (t + 1)) n′);
               })
               (λ (q : (x ≡ e → ⊥) × (getD (set known e 1) x 0 ≡ getD known x 0)). h .knows x (λ z. y (q .1 ∙ z)))
-              (set-at known e 1 x inside);
+              (set-cases known e 1 x inside);
           keeps = λ x y. set-keeps known e x inside (h .keeps x y);
-          low-known = λ x.
+          known-bits = λ x.
               ⊎-elim (λ (q : (x ≡ e) × (getD (set known e 1) x 0 ≡ 1)). omega (arith, q .1))
-              (λ (q : (x ≡ e → ⊥) × (getD (set known e 1) x 0 ≡ getD known x 0)). omega (arith, q .1, h .low-known x))
-              (set-at known e 1 x inside);
-          risen = λ q. inr (record { place = e; was = was-zero known₀ known few₀ (h .keeps) e z; is = getD-set-same known e 1 0 inside });
+              (λ (q : (x ≡ e → ⊥) × (getD (set known e 1) x 0 ≡ getD known x 0)). omega (arith, q .1, h .known-bits x))
+              (set-cases known e 1 x inside);
+          risen = λ q. inr (record { place = e; was = was-zero known₀ known (asked .known-bits) (h .keeps) e z; is = getD-set-same known e 1 0 inside });
         }
 
     -- a known entry applied
-    applies-one : (getD ms t 0 ≡ 0 → ⊥) → getD ms (t + 1) 0 ≡ 0 → (getD known e 0 ≡ 0 → ⊥) → Learning (set ms (t + 1) 1) known true
+    applies-one : (getD ms t 0 ≡ 0 → ⊥) → getD ms (t + 1) 0 ≡ 0 → (getD known e 0 ≡ 0 → ⊥) → Learning M xs given known₀ (set ms (t + 1) 1) known true
     applies-one n z y =
         let g = h .marking in
-        let ft = g .sound t (bit-one (getD ms t 0) (g .few t) n) in
-        let fn = applied t tl ft (rw at (h .knows e y)) in
+        let ft = g .sound t (bit-one (g .bits t) n) in
+        let known-at : Witness M xs given (placeEntry M xs t) = rw at (h .knows e y) in
+        let fn = applied (asked .closable .commands) t tl ft known-at in
         record {
-          marking = marking-more M xs given ms (t + 1) (omega arith) fn g;
+          marking = marking-more (omega arith) fn g;
           table = h .table;
           knows = h .knows;
           keeps = h .keeps;
-          low-known = h .low-known;
+          known-bits = h .known-bits;
           risen = λ q. inl (record {
             place = t + 1;
-            was = was-zero given ms few (g .above) (t + 1) z;
+            was = was-zero given ms (asked .closable .bits) (g .above) (t + 1) z;
             is = getD-set-same ms (t + 1) 1 0 (omega (arith, g .long));
           });
         }
 
-    pub learning : {apply : Bool} {ms′ known′ : List ℕ} {changed′ : Bool} → Learnt apply ms known e t changed ms′ known′ changed′ → Learning ms′ known′ changed′
+    pub learning : {ms′ known′ : List ℕ} {changed′ : Bool} → Learnt apply ms known e t changed ms′ known′ changed′ → Learning M xs given known₀ ms′ known′ changed′
     learning (Learnt.unmarked z me ke ce) = rw (me, ke, ce) h
     learning (Learnt.knew n y me ke ce) = rw (me, ke, ce) h
     learning (Learnt.unknown z y me ke ce) = rw (me, ke, ce) h

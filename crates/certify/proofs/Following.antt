@@ -1,5 +1,6 @@
 -- Following the commands of a marked place is sound: what it marks lies in the closure of the marks that it was given, and the two places that it follows
 -- stay paired.
+-- Assumes nothing.
 use Prim.Native.Nat.{ℕ, _+_, _≤_}
 use mathlib.Core.Path.{_≡_, refl, sym, ap, _∙_}
 use mathlib.Core.List.{List}
@@ -10,8 +11,8 @@ use Rattle.machine.specs.Machine.Laws.{state-next}
 use Rattle.certify.specs.declared.propagation.Step.{Step}
 use Rattle.certify.specs.declared.propagation.Step.the-variants.{Stop, On}
 use Rattle.certify.specs.Recognition.{rule1}
-use Rattle.certify.specs.Folding.{From, Marking, Paired, tops, step, Propagable}
-use Rattle.certify.specs.Propagation.{Restarted, Equalised, Followed}
+use Rattle.certify.specs.Folding.{From, Marking, Paired, tops, step}
+use Rattle.certify.specs.Propagation.{Restarted, Equalised, Followed, Propagable}
 use Rattle.certify.proofs.Paired.{paired-sym, paired-trans, paired-state, paired-past}
 use Rattle.certify.proofs.Growing.{marking-same}
 use Rattle.certify.proofs.Marking.{marking-more, both-in}
@@ -48,19 +49,19 @@ module _ {M : Mealy} {xs g : List ℕ} where
 
     -- before the first command
     pub propagation-starts : {a : Step} → length g ≡ length xs + 1 → Restarted root p s₀ a → Propagating M xs g g a
-    propagation-starts l h = record { marking = marking-same l (asked .few); continues = restarts (rule1 (asked .marked)) (asked .state) h }
+    propagation-starts l h = record { marking = marking-same l (asked .bits); continues = restarts (rule1 (asked .marked)) (asked .state) h }
 
     -- two paired places get equal marks
     equalises : {ms ms′ : List ℕ} {r i s : ℕ} {a : Step} → r ≤ length xs → i ≤ length xs → Marking M xs g ms → Representative M xs g r i s
         → Equalised ms root r i s ms′ a → Propagating M xs g ms′ a
     equalises rl il h t (Equalised.on e d) = record { marking = rw e h; continues = goes-on t d }
     equalises rl il h t (Equalised.stop e d) = record { marking = rw e h; continues = stopped d }
-    equalises {r = r} rl il h t (Equalised.first n e d) =
-        let f = both-in M xs g h (t .pair) n in
-        record { marking = rw e (marking-more M xs g _ r rl (f .0) h); continues = restarts (f .0) (t .state ∙ sym (paired-state M xs g (t .pair))) d }
-    equalises {i = i} rl il h t (Equalised.second n e d) =
-        let f = both-in M xs g h (t .pair) n in
-        record { marking = rw e (marking-more M xs g _ i il (f .1) h); continues = restarts (f .1) (t .state) d }
+    equalises rl il h t (Equalised.first n e d) =
+        let f = both-in h (t .pair) n in
+        record { marking = rw e (marking-more rl (f .0) h); continues = restarts (f .0) (t .state ∙ sym (paired-state (t .pair))) d }
+    equalises rl il h t (Equalised.second n e d) =
+        let f = both-in h (t .pair) n in
+        record { marking = rw e (marking-more il (f .1) h); continues = restarts (f .1) (t .state) d }
 
     -- one command further
     pub propagation-on : {ms ms′ : List ℕ} {r i s : ℕ} {a a′ : Step} → Propagating M xs g ms a → a ≡ On r i s
@@ -69,10 +70,10 @@ module _ {M : Mealy} {xs g : List ℕ} where
     propagation-on {r = r} {i = i} {s = s} h d (Followed.steps v s′ il vl path same e q) =
         let t = h .continues r i s d in
         let pair : Paired M xs g v i =
-        paired-trans M xs g (paired-sym M xs g (paired-past M xs g alt (asked .folds .links) path)) (t .pair) in
+        paired-trans (paired-sym (paired-past (asked .folds .links) path)) (t .pair) in
         equalises (omega arith) (omega arith) (h .marking)
         (record {
           pair = step v i pair vl il same refl refl;
-          state = e ∙ sym (asked .follows .states s _) ∙ ap (λ (x : ℕ). M .next x (getD xs i 0)) (t .state) ∙ sym (state-next M xs i il);
+          state = e ∙ sym (asked .next-table .states s _) ∙ ap (λ (x : ℕ). M .next x (getD xs i 0)) (t .state) ∙ sym (state-next M xs i il);
         })
         q

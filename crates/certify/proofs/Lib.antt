@@ -1,14 +1,17 @@
 mod Alternatives
 mod Answering
+mod Behind
 mod Ends
 mod Entries
 mod Following
 mod Growing
+mod Known
 mod Loop
 mod Marking
 mod Merging
 mod Paired
 mod Represented
+mod SequenceLoading
 mod Settling
 mod Tables
 mod Turn

@@ -1,5 +1,6 @@
 -- Soundness of folding: two places are paired where they are one, or equally many equal commands after two places of one state that belong
 -- to the closure. Paired places have one state, and if one of them belongs to the closure, so does the other, by rule 2.
+-- Assumes nothing.
 use Prim.Native.Nat.{ℕ, _+_, _≤_, _<_}
 use mathlib.Core.Path.{_≡_, sym, ap, ap₂, _∙_}
 use mathlib.Core.List.{List}
@@ -21,7 +22,21 @@ commands-equal xs p q m pl ql h =
     (λ i l. let k : i < m = omega (arith, simp length-take at l) in
     getD-take m (drop p xs) i 0 k ∙ getD-drop p xs i 0 ∙ h i k ∙ sym (getD-drop q xs i 0) ∙ sym (getD-take m (drop q xs) i 0 k))
 
-module _ (M : Mealy) (xs given : List ℕ) where
+-- two places m commands after two of one state in the closure, the commands equal
+record Run (M : Mealy) (xs given : List ℕ) (a b : ℕ) : Type 0 where
+  p : ℕ
+  q : ℕ
+  m : ℕ
+  p-in : From M xs given p
+  q-in : From M xs given q
+  states : stateAt M xs p ≡ stateAt M xs q
+  a-at : a ≡ p + m
+  b-at : b ≡ q + m
+  a-inside : 1 ≤ m → a ≤ length xs
+  b-inside : 1 ≤ m → b ≤ length xs
+  commands : (i : ℕ) → i < m → getD xs (p + i) 0 ≡ getD xs (q + i) 0
+
+module _ {M : Mealy} {xs given : List ℕ} where
   pub paired-sym : {a b : ℕ} → Paired M xs given a b → Paired M xs given b a
   paired-sym (same e) = same (sym e)
   paired-sym (tops ha hb e) = tops hb ha (sym e)
@@ -33,21 +48,7 @@ module _ (M : Mealy) (xs given : List ℕ) where
   paired-state (step p q h pl ql e ea eb) =
       ap (stateAt M xs) ea ∙ state-next M xs p pl ∙ ap₂ (M .next) (paired-state h) e ∙ sym (state-next M xs q ql) ∙ sym (ap (stateAt M xs) eb)
 
-  -- two places m commands after two of one state in the closure, the commands equal
-  record Run (a b : ℕ) : Type 0 where
-    p : ℕ
-    q : ℕ
-    m : ℕ
-    p-in : From M xs given p
-    q-in : From M xs given q
-    states : stateAt M xs p ≡ stateAt M xs q
-    a-at : a ≡ p + m
-    b-at : b ≡ q + m
-    a-inside : 1 ≤ m → a ≤ length xs
-    b-inside : 1 ≤ m → b ≤ length xs
-    commands : (i : ℕ) → i < m → getD xs (p + i) 0 ≡ getD xs (q + i) 0
-
-  run-on : {a b a′ b′ : ℕ} → Run a b → a < length xs → b < length xs → getD xs a 0 ≡ getD xs b 0 → a′ ≡ a + 1 → b′ ≡ b + 1 → Run a′ b′
+  run-on : {a b a′ b′ : ℕ} → Run M xs given a b → a < length xs → b < length xs → getD xs a 0 ≡ getD xs b 0 → a′ ≡ a + 1 → b′ ≡ b + 1 → Run M xs given a′ b′
   run-on {a} {b} r al bl e ea eb = record {
     p = r .p;
     q = r .q;
@@ -65,7 +66,7 @@ module _ (M : Mealy) (xs given : List ℕ) where
         (eq-or-lt-of-le {n = i} {m = r .m} (omega arith));
   }
 
-  paired-run : {a b : ℕ} → Paired M xs given a b → (a ≡ b) ⊎ (Run a b)
+  paired-run : {a b : ℕ} → Paired M xs given a b → (a ≡ b) ⊎ (Run M xs given a b)
   paired-run (same e) = inl e
   paired-run {a} {b} (tops ha hb e) = inr (record {
     p = a;
@@ -81,9 +82,9 @@ module _ (M : Mealy) (xs given : List ℕ) where
     commands = λ i l. let y : ⊥ = omega arith in absurd y;
   })
   paired-run (step p q h pl ql e ea eb) =
-      ⊎-elim (λ (s : p ≡ q). inl (omega arith)) (λ (r : Run p q). inr (run-on r pl ql e ea eb)) (paired-run h)
+      ⊎-elim (λ (s : p ≡ q). inl (omega arith)) (λ (r : Run M xs given p q). inr (run-on r pl ql e ea eb)) (paired-run h)
 
-  run-carries : {a b : ℕ} → Run a b → From M xs given a → From M xs given b
+  run-carries : {a b : ℕ} → Run M xs given a b → From M xs given a → From M xs given b
   run-carries {a} {b} r ha =
       ⊎-elim (λ (z : 0 ≡ r .m). let e : b ≡ r .q = omega (arith, r .b-at) in rw e (r .q-in))
       (λ (l : 0 < r .m).
@@ -95,7 +96,7 @@ module _ (M : Mealy) (xs given : List ℕ) where
 
   -- rule 2 carries membership over
   pub paired-carries : {a b : ℕ} → Paired M xs given a b → From M xs given a → From M xs given b
-  paired-carries {a} {b} h ha = ⊎-elim (λ (e : a ≡ b). rw (← e) ha) (λ (r : Run a b). run-carries r ha) (paired-run h)
+  paired-carries {a} {b} h ha = ⊎-elim (λ (e : a ≡ b). rw (← e) ha) (λ (r : Run M xs given a b). run-carries r ha) (paired-run h)
 
   pub paired-trans : {a b c : ℕ} → Paired M xs given a b → Paired M xs given b c → Paired M xs given a c
   paired-trans (same e) k = rw e k
@@ -108,7 +109,7 @@ module _ (M : Mealy) (xs given : List ℕ) where
       step p r (paired-trans h (rw same-q k)) pl rl (e ∙ (rw same-q d)) ea dc
 
   -- the places along a chain of alternatives, where each is paired with the next
-  pub paired-past : (alt : List ℕ) → ((v : ℕ) → (getD alt v 0 ≡ 0 → ⊥) → Paired M xs given v (getD alt v 0))
+  pub paired-past : {alt : List ℕ} → ((v : ℕ) → (getD alt v 0 ≡ 0 → ⊥) → Paired M xs given v (getD alt v 0))
       → {c r v : ℕ} → Past xs alt c r v → Paired M xs given r v
-  paired-past alt h (here e) = same e
-  paired-past alt h (past o n k) = paired-trans (h _ n) (paired-past alt h k)
+  paired-past h (here e) = same e
+  paired-past h (past o n k) = paired-trans (h _ n) (paired-past h k)

@@ -1,12 +1,14 @@
 -- Completeness of folding: where a sweep changed nothing, marks that have equal states and equal commands after them go on equally, because
--- they have one representative. Over any commands x, states st, marks ms and tables alt and root.
+-- they have one representative. Over any commands xs, states st, marks ms and tables alt and root.
+-- Assumes nothing.
 use Prim.Native.Nat.{ℕ, zero, suc, _+_, _≤_, _<_}
 use mathlib.Core.Path.{_≡_, refl, sym, ap, _∙_}
 use mathlib.Core.List.{List}
-use mathlib.Core.Logic.{_⊎_, ⊎-elim}
+use mathlib.Core.Logic.{⊎-elim}
 use native.Mathlib.Omega.{arith}
 use native.Mathlib.Nat.{eq-or-lt-of-le}
 use lib.ListN.{length, getD}
+use Rattle.certify.specs.Marks.{Bits}
 use Rattle.certify.specs.Folding.{Past, here, past}
 
 -- ---- chains lead to one place
@@ -95,7 +97,7 @@ module _ (xs : List ℕ) (st : ℕ → ℕ) (ms alt root : List ℕ) where
 
   -- ---- a sweep that changed nothing: each place that does not stand between two marked ones has been walked to, and one command after
   -- two marked places of one state leads to equal marks
-  module _ (few : (p : ℕ) → getD ms p 0 ≤ 1)
+  module _ (bits : Bits ms)
       (walked : (i : ℕ) → i < length xs → (getD ms i 0 ≡ 1 → getD ms (i + 1) 0 ≡ 1 → ⊥) → Walked i)
       (single : (a b : ℕ) → a < length xs → b < length xs → getD ms a 0 ≡ 1 → getD ms b 0 ≡ 1 → st a ≡ st b → getD xs a 0 ≡ getD xs b 0
       → getD ms (a + 1) 0 ≡ 1 → getD ms (b + 1) 0 ≡ 1)
@@ -140,7 +142,7 @@ module _ (xs : List ℕ) (st : ℕ → ℕ) (ms alt root : List ℕ) where
           let q = walked b bl (λ x y. na (single b a bl al mb ma (sym (h .states)) (sym c) y)) in
           let e : getD root (st b) 0 ≡ p .r + 1 = rw (← h .states) (rep-top (p .rep) ma) in
           walked-alike p q (omega (arith, rep-top (q .rep) mb)))
-          (eq-or-lt-of-le (few (a + 1)))
+          (eq-or-lt-of-le (bits (a + 1)))
 
       unmarked-on : getD ms a 0 ≡ 0 → Alike (a + 1) (b + 1)
       unmarked-on z =
@@ -150,7 +152,7 @@ module _ (xs : List ℕ) (st : ℕ → ℕ) (ms alt root : List ℕ) where
           walked-alike p q (rep-one (p .rep) (one .1) ∙ rep-one (one .2) (q .rep))
 
       alike-on : Alike (a + 1) (b + 1)
-      alike-on = ⊎-elim (λ (e : getD ms a 0 ≡ 1). marked-on e) (λ (l : getD ms a 0 < 1). unmarked-on (omega arith)) (eq-or-lt-of-le (few a))
+      alike-on = ⊎-elim (λ (e : getD ms a 0 ≡ 1). marked-on e) (λ (l : getD ms a 0 < 1). unmarked-on (omega arith)) (eq-or-lt-of-le (bits a))
 
     alike-along : (a b m : ℕ) → a + m ≤ length xs → b + m ≤ length xs → ((i : ℕ) → i < m → getD xs (a + i) 0 ≡ getD xs (b + i) 0) → Alike a b → Alike (a + m) (b + m)
     alike-along a b zero al bl e h =

@@ -1,135 +1,131 @@
 -- Sweeping until nothing changes: what holds between two sweeps, that it ends, and what it shows in the end.
-use Prim.Native.Nat.{ℕ, _+_, _-_, _≤_, _<_}
+-- Assumes nothing.
+use Prim.Native.Nat.{ℕ, zero, _+_, _-_, _≤_, _<_}
 use mathlib.Core.Path.{_≡_, sym, ap, _∙_}
 use mathlib.Core.Bool.{Bool, true, false, true≢false}
 use mathlib.Core.List.{List}
-use mathlib.Core.Logic.{_⊎_, ⊎-elim}
+use mathlib.Core.Logic.{⊎-elim}
 use native.Mathlib.Omega.{arith}
-use lib.Dec.{ltb}
-use lib.ListN.{length, getD}
-use borrow.Author.Tests.{ltb-true, ltb-false}
+use lib.ListN.{length, getD, replicate, length-replicate}
+use Rattle.sheet.specs.Tests.{true-or-false}
+use Rattle.machine.specs.Numbers.{less-or-not}
 use Rattle.machine.specs.Limits.{mostEntries}
 use Rattle.machine.specs.Machine.{Mealy, stateAt}
-use Rattle.certify.specs.Marks.{mark, count}
-use Rattle.certify.specs.Marks.Laws.{true-or-false, count-most, count-below, count-same}
+use Rattle.certify.specs.Recognition.Laws.{closure-in, closure-more}
+use Rattle.certify.specs.Marks.{mark, Bits, count}
+use Rattle.certify.specs.Marks.Laws.{count-most, count-below, count-same}
 use Rattle.certify.specs.Marks.Agreement.{Shown, closed-complete}
 use Rattle.certify.specs.Folding.{MarkedIn, Marking, Risen}
-use Rattle.certify.specs.Sweep.{entryAt, Knows, Sweepable, Swept}
-use Rattle.certify.specs.Closing.{Closable, Closed}
-use Rattle.certify.proofs.Ends.{Fresh}
-use Rattle.certify.proofs.Growing.{from-more, from-flat, marking-flat, marking-same}
+use Rattle.certify.specs.Sweep.{placeEntry, Knows, Closable, Sweepable, Swept, Closed}
+use Rattle.certify.proofs.Growing.{marking-flat, marking-same}
+use Rattle.certify.proofs.Tables.{zeros}
 
 -- a cell more has 1
 count-rises : (a b : List ℕ) → length a ≡ length b → ((p : ℕ) → getD a p 0 ≡ 1 → getD b p 0 ≡ 1) → Risen a b → count a < count b
 count-rises a b l h r =
-    ⊎-elim (λ (e : ltb (count a) (count b) ≡ true). ltb-true _ _ e)
-    (λ (e : ltb (count a) (count b) ≡ false).
-    let z : ⊥ = omega (arith, r .was, count-same a b l h (ltb-false (count a) (count b) e) (r .place) (r .is)) in absurd z)
-    (true-or-false (ltb (count a) (count b)))
+    ⊎-elim (λ (e : count a < count b). e)
+    (λ (e : count b ≤ count a). let z : ⊥ = omega (arith, r .was, count-same a b l h e (r .place) (r .is)) in absurd z)
+    (less-or-not (count a) (count b))
 
-module _ (M : Mealy) (xs given : List ℕ) where
-  -- what holds between two sweeps
-  pub record Settling (ms known : List ℕ) (apply changed : Bool) : Type 0 where
-    pub asked : Closable M xs given
-    pub marking : Marking M xs given ms
-    pub table : length known ≡ mostEntries
-    pub low : (e : ℕ) → getD known e 0 ≤ 1
-    pub knows : Knows M xs given known
-    pub fresh : apply ≡ false → (e : ℕ) → getD known e 0 ≡ 0
-    pub closed : changed ≡ false → (r : ℕ) → r ≤ length xs → Shown xs (stateAt M xs) ms r → getD ms r 0 ≡ 1
-    pub all : changed ≡ false → (i : ℕ) → i < length xs → getD ms i 0 ≡ 1 → getD ms (i + 1) 0 ≡ 1 → getD known (entryAt M xs i) 0 ≡ 0 → ⊥
+-- what holds between two sweeps
+pub record Settling (M : Mealy) (xs given ms known : List ℕ) (apply changed : Bool) : Type 0 where
+  pub asked : Closable M xs given
+  pub marking : Marking M xs given ms
+  pub table : length known ≡ mostEntries
+  pub known-bits : Bits known
+  pub knows : Knows M xs given known
+  pub fresh : apply ≡ false → (e : ℕ) → getD known e 0 ≡ 0
+  pub closed : changed ≡ false → (r : ℕ) → r ≤ length xs → Shown xs (stateAt M xs) ms r → getD ms r 0 ≡ 1
+  pub all : changed ≡ false → (i : ℕ) → i < length xs → getD ms i 0 ≡ 1 → getD ms (i + 1) 0 ≡ 1 → getD known (placeEntry M xs i) 0 ≡ 0 → ⊥
 
-  pub settling-starts : {known : List ℕ} → Closable M xs given → Fresh mostEntries known → Settling given known false true
-  settling-starts h f = record {
-    asked = h;
-    marking = marking-same (h .long) (h .few);
-    table = f .long;
-    low = λ e. omega (arith, f .zero e);
-    knows = λ e n. absurd (n (f .zero e));
-    fresh = λ q. f .zero;
-    closed = λ q. absurd (true≢false q);
-    all = λ q. absurd (true≢false q);
+pub settling-starts : {M : Mealy} {xs given : List ℕ} → Closable M xs given → Settling M xs given given (replicate mostEntries 0) false true
+settling-starts h = record {
+  asked = h;
+  marking = marking-same (h .long) (h .bits);
+  table = length-replicate mostEntries zero;
+  known-bits = λ e. omega (arith, zeros mostEntries e);
+  knows = λ e n. absurd (n (zeros mostEntries e));
+  fresh = λ q. zeros mostEntries;
+  closed = λ q. absurd (true≢false q);
+  all = λ q. absurd (true≢false q);
+}
+
+module _ {M : Mealy} {xs given ms known : List ℕ} {apply changed : Bool} (h : Settling M xs given ms known apply changed) where
+  knows-more : Knows M xs ms known
+  knows-more e n =
+      let w = h .knows e n in
+      record {
+        place = w .place;
+        inside = w .inside;
+        entry = w .entry;
+        before = closure-more (h .marking .above) (w .before);
+        after = closure-more (h .marking .above) (w .after);
+      }
+
+  pub settling-sweepable : Sweepable M apply xs ms known
+  settling-sweepable = record {
+    closable = record { proper = h .asked .proper; commands = h .asked .commands; long = h .marking .long; bits = h .marking .bits };
+    table = h .table;
+    knows = knows-more;
+    known-bits = h .known-bits;
+    fresh = h .fresh;
   }
 
-  module _ {ms known : List ℕ} {apply changed : Bool} (h : Settling ms known apply changed) where
-    knows-more : Knows M xs ms known
-    knows-more e n =
-        let w = h .knows e n in
+  module _ {ms′ known′ : List ℕ} {changed′ : Bool} (s : Swept M xs ms known ms′ known′ changed′) where
+    knows-flat : Knows M xs given known′
+    knows-flat e n =
+        let w = s .knows e n in
         record {
           place = w .place;
           inside = w .inside;
           entry = w .entry;
-          before = from-more M xs given ms (h .marking .above) (w .before);
-          after = from-more M xs given ms (h .marking .above) (w .after);
+          before = closure-in (h .marking .sound) (w .before);
+          after = closure-in (h .marking .sound) (w .after);
         }
 
-    pub settling-sweepable : Sweepable M apply xs ms known
-    settling-sweepable = record {
-      proper = h .asked .proper;
-      commands = h .asked .commands;
+    pub settling-on : Settling M xs given ms′ known′ true changed′
+    settling-on = record {
+      asked = h .asked;
+      marking = marking-flat (h .marking) (s .marking);
+      table = s .table;
+      known-bits = s .known-bits;
+      knows = knows-flat;
+      fresh = λ q. absurd (true≢false q);
+      closed = λ f. rw (s .stays f .0) (s .closed f);
+      all = λ f. rw (s .stays f .0) (s .all f);
+    }
+
+    -- the places without a mark and the entries that are not known become fewer, or the last change is over
+    pub settling-less : changed ≡ true
+        → (length xs + 1 - count ms′) + (mostEntries - count known′) + mark changed′ < (length xs + 1 - count ms) + (mostEntries - count known) + mark changed
+    settling-less t =
+        let lm : length ms ≡ length ms′ = h .marking .long ∙ sym (s .marking .long) in
+        let lk : length known ≡ length known′ = h .table ∙ sym (s .table) in
+        let m = count-below ms ms′ lm (s .marking .above) in
+        let k = count-below known known′ lk (s .keeps) in
+        let cm = count-most ms′ in
+        let ck = count-most known′ in
+        let one : mark changed ≡ 1 = ap mark t in
+        ⊎-elim (λ (f : changed′ ≡ true).
+        let two : mark changed′ ≡ 1 = ap mark f in
+        ⊎-elim (λ (r : Risen ms ms′).
+        omega (arith, count-rises ms ms′ lm (s .marking .above) r, s .marking .long, s .table))
+        (λ (r : Risen known known′).
+        omega (arith, count-rises known known′ lk (s .keeps) r, s .marking .long, s .table))
+        (s .rises f))
+        (λ (f : changed′ ≡ false).
+        let two : mark changed′ ≡ 0 = ap mark f in
+        omega (arith, ap count (s .stays f .0), ap count (s .stays f .1)))
+        (true-or-false changed′)
+
+  pub settled-closed : changed ≡ false → Closed M xs given ms known
+  settled-closed f = record {
+    exact = record {
       long = h .marking .long;
-      few = h .marking .few;
-      table = h .table;
-      knows = knows-more;
-      low = h .low;
-      fresh = h .fresh;
-    }
-
-    module _ {ms′ known′ : List ℕ} {changed′ : Bool} (s : Swept M xs ms known ms′ known′ changed′) where
-      knows-flat : Knows M xs given known′
-      knows-flat e n =
-          let w = s .knows e n in
-          record {
-            place = w .place;
-            inside = w .inside;
-            entry = w .entry;
-            before = from-flat M xs given ms (h .marking .sound) (w .before);
-            after = from-flat M xs given ms (h .marking .sound) (w .after);
-          }
-
-      pub settling-on : Settling ms′ known′ true changed′
-      settling-on = record {
-        asked = h .asked;
-        marking = marking-flat M xs given ms (h .marking) (s .marking);
-        table = s .table;
-        low = s .low;
-        knows = knows-flat;
-        fresh = λ q. absurd (true≢false q);
-        closed = λ f. rw (s .stays f .0) (s .closed f);
-        all = λ f. rw (s .stays f .0) (s .all f);
-      }
-
-      -- the places without a mark and the entries that are not known become fewer, or the last change is over
-      pub settling-less : changed ≡ true
-          → (length xs + 1 - count ms′) + (mostEntries - count known′) + mark changed′ < (length xs + 1 - count ms) + (mostEntries - count known) + mark changed
-      settling-less t =
-          let lm : length ms ≡ length ms′ = h .marking .long ∙ sym (s .marking .long) in
-          let lk : length known ≡ length known′ = h .table ∙ sym (s .table) in
-          let m = count-below ms ms′ lm (s .marking .above) in
-          let k = count-below known known′ lk (s .keeps) in
-          let cm = count-most ms′ in
-          let ck = count-most known′ in
-          let one : mark changed ≡ 1 = ap mark t in
-          ⊎-elim (λ (f : changed′ ≡ true).
-          let two : mark changed′ ≡ 1 = ap mark f in
-          ⊎-elim (λ (r : Risen ms ms′).
-          omega (arith, count-rises ms ms′ lm (s .marking .above) r, s .marking .long, s .table))
-          (λ (r : Risen known known′).
-          omega (arith, count-rises known known′ lk (s .keeps) r, s .marking .long, s .table))
-          (s .rises f))
-          (λ (f : changed′ ≡ false).
-          let two : mark changed′ ≡ 0 = ap mark f in
-          omega (arith, ap count (s .stays f .0), ap count (s .stays f .1)))
-          (true-or-false changed′)
-
-    pub settled-closed : changed ≡ false → Closed M xs given ms known
-    settled-closed f = record {
-      exact = record {
-        long = h .marking .long;
-        bits = h .marking .few;
-        sound = h .marking .sound;
-        complete = closed-complete xs (stateAt M xs) (MarkedIn given) ms (h .marking .long) (λ p l e. h .marking .above p e) (h .closed f);
-      };
-      knows = h .knows;
-      all = h .all f;
-    }
+      bits = h .marking .bits;
+      sound = h .marking .sound;
+      complete = closed-complete xs (stateAt M xs) (MarkedIn given) ms (h .marking .long) (λ p l e. h .marking .above p e) (h .closed f);
+    };
+    knows = h .knows;
+    all = h .all f;
+  }

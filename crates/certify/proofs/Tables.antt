@@ -1,17 +1,25 @@
 -- The tables of a sweep: chains of alternatives and representatives of states, and what going on from place t leaves of them.
-use Prim.Native.Nat.{ℕ, _+_, _≤_, _<_}
+-- Assumes nothing.
+use Prim.Native.Nat.{ℕ, zero, suc, _+_, _≤_, _<_}
 use mathlib.Core.Path.{_≡_, refl, sym, ap, _∙_}
 use mathlib.Core.List.{List}
-use mathlib.Core.Logic.{_⊎_, ⊎-elim}
+use mathlib.Core.Logic.{⊎-elim}
 use native.Mathlib.Omega.{arith}
-use lib.ListN.{length, getD, set, length-set}
+use lib.Arith.{lt-of-le-ne}
+use lib.ListN.{length, getD, set, replicate, length-set}
 use lib.Seq.{getD-set-other}
 use Rattle.machine.specs.Limits.{mostSequence}
 use Rattle.machine.specs.Machine.{Mealy, stateAt}
-use Rattle.certify.specs.Folding.{From, Marking, Paired, same, tops, step, Past, here, past, Rising, Folds}
-use Rattle.certify.specs.Sweep.{Rooted, Advanced, found, added, Onward}
-use Rattle.certify.proofs.Marking.{bit-one, less, set-at}
+use Rattle.certify.specs.Folding.{From, Marking, Paired, same, tops, step, Past, here, past, Rising, byteStates, Rooted, Advanced, found, added, Folds}
+use Rattle.certify.specs.Sweep.{Onward}
+use Rattle.certify.proofs.Marking.{bit-one, set-cases}
 use Rattle.certify.proofs.Paired.{paired-sym, paired-trans, paired-past}
+
+-- ---- a table of zeros
+pub zeros : (n i : ℕ) → getD (replicate n zero) i 0 ≡ 0
+zeros zero i = refl
+zeros (suc n) zero = refl
+zeros (suc n) (suc i) = zeros n i
 
 -- ---- the tables grow
 pub roots-grow : {root root′ : List ℕ} {s t r : ℕ} → Rooted root s t root′ r → (x : ℕ) → (getD root x 0 ≡ 0 → ⊥) → getD root′ x 0 ≡ getD root x 0
@@ -26,7 +34,7 @@ links-grow {xs} {alt} {alt′} {r} {t} (added v k o z ae ce) x n =
 
 -- v is below t where they have different commands
 pub below : (xs : List ℕ) (v t : ℕ) → v ≤ t → (getD xs v 0 ≡ getD xs t 0 → ⊥) → v < t
-below xs v t l o = less v t l (λ e. o (ap (λ (i : ℕ). getD xs i 0) e))
+below xs v t l o = lt-of-le-ne l (λ e. o (ap (λ (i : ℕ). getD xs i 0) e))
 
 module _ (M : Mealy) (xs given : List ℕ) where
   -- ---- each alternative is paired with the next, a later place below t
@@ -43,7 +51,7 @@ module _ (M : Mealy) (xs given : List ℕ) where
 
   -- ---- the representative of a state is a place of it below t, in the closure
   pub record Topped (root : List ℕ) (t : ℕ) : Type 0 where
-    pub long : length root ≡ 256
+    pub long : length root ≡ byteStates
     pub tops : (s r : ℕ) → getD root s 0 ≡ r + 1 → (r < t) × (From M xs given r) × (stateAt M xs r ≡ s)
 
   pub topped-more : {root : List ℕ} {t : ℕ} → Topped root t → Topped root (t + 1)
@@ -72,7 +80,7 @@ module _ (M : Mealy) (xs given : List ℕ) where
     advanced : {alt′ : List ℕ} {r cur : ℕ} → Topped root (t + 1) → r ≤ t → Paired M xs given r t → Advanced xs alt r t alt′ cur → Gone alt′ root t cur
     advanced {alt′} {r} {cur} g rl pr (found v k e ae ce) =
         let vl = past-low h k rl in
-        let pv = paired-trans M xs given (paired-sym M xs given (paired-past M xs given alt (λ u n. h .links u n .2) k)) pr in
+        let pv = paired-trans (paired-sym (paired-past (λ u n. h .links u n .2) k)) pr in
         record {
           linked = rw ae (linked-more h);
           topped = g;
@@ -81,7 +89,7 @@ module _ (M : Mealy) (xs given : List ℕ) where
         }
     advanced {alt′} {r} {cur} g rl pr (added v k o z ae ce) =
         let vt = below xs v t (past-low h k rl) o in
-        let pv = paired-trans M xs given (paired-sym M xs given (paired-past M xs given alt (λ u n. h .links u n .2) k)) pr in
+        let pv = paired-trans (paired-sym (paired-past (λ u n. h .links u n .2) k)) pr in
         let inside : v < length alt = omega (arith, h .long) in
         record {
           linked = rw ae (record {
@@ -90,7 +98,7 @@ module _ (M : Mealy) (xs given : List ℕ) where
                 ⊎-elim (λ (q : (u ≡ v) × (getD (set alt v t) u 0 ≡ t)). rw (q .1, q .0) (vt, omega arith, pv))
                 (λ (q : (u ≡ v → ⊥) × (getD (set alt v t) u 0 ≡ getD alt u 0)).
                 let l = h .links u (λ y. n (q .1 ∙ y)) in rw (q .1) (l .0, omega (arith, l .1), l .2))
-                (set-at alt v t u inside);
+                (set-cases alt v t u inside);
           });
           topped = g;
           low = omega arith;
@@ -103,7 +111,7 @@ module _ (M : Mealy) (xs given : List ℕ) where
     pub low : r ≤ t
     pub pair : Paired M xs given r t
 
-  rooted : {root root′ : List ℕ} {s t r : ℕ} → Topped root t → s < 256 → s ≡ stateAt M xs t → From M xs given t → Rooted root s t root′ r → Represents root′ t r
+  rooted : {root root′ : List ℕ} {s t r : ℕ} → Topped root t → s < byteStates → s ≡ stateAt M xs t → From M xs given t → Rooted root s t root′ r → Represents root′ t r
   rooted {root} {root′} {s} {t} k sl se ft (Rooted.first z re e) =
       let inside : s < length root = omega (arith, k .long) in
       record {
@@ -114,7 +122,7 @@ module _ (M : Mealy) (xs given : List ℕ) where
               let yt : y ≡ t = omega (arith, q .1) in rw yt (omega arith, ft, sym se ∙ sym (q .0)))
               (λ (q : (x ≡ s → ⊥) × (getD (set root s (t + 1)) x 0 ≡ getD root x 0)).
               let l = k .tops x y (sym (q .1) ∙ d) in (omega (arith, l .0), l .1, l .2))
-              (set-at root s (t + 1) x inside);
+              (set-cases root s (t + 1) x inside);
         });
         low = omega arith;
         pair = same e;
@@ -124,12 +132,12 @@ module _ (M : Mealy) (xs given : List ℕ) where
       record { topped = rw re (topped-more k); low = omega (arith, l .0); pair = tops (l .1) ft (l .2 ∙ se) }
 
   pub gone : {ms alt root alt′ root′ : List ℕ} {s t cur cur′ : ℕ} → t < length xs → length xs ≤ mostSequence → Marking M xs given ms
-      → Linked alt t → Topped root t → s < 256 → s ≡ stateAt M xs t → cur ≤ t → Paired M xs given cur t
+      → Linked alt t → Topped root t → s < byteStates → s ≡ stateAt M xs t → cur ≤ t → Paired M xs given cur t
       → Onward xs ms alt root s t cur alt′ root′ cur′ → Gone alt′ root′ t cur′
   gone tl few g h k sl se cl pc (Onward.unmarked z re a) = rw re (advanced tl few h (topped-more k) cl pc a)
   gone tl few g h k sl se cl pc (Onward.between n n′ ae re ce) =
       rw (ae, re) (record { linked = linked-more h; topped = topped-more k; low = omega arith; pair = same ce })
   gone {ms} {alt} {root} {alt′} {root′} {s} {t} tl few g h k sl se cl pc (Onward.marked n z r o a) =
-      let ft = g .sound t (bit-one (getD ms t 0) (g .few t) n) in
+      let ft = g .sound t (bit-one (g .bits t) n) in
       let q = rooted k sl se ft o in
       advanced tl few h (q .topped) (q .low) (q .pair) a

@@ -1,61 +1,150 @@
--- Where the word stands: the comparison command by command, and the marks that it gives.
+-- Where the word stands: the first places, one pass for each command of the word, and the marks that all of them leave.
+-- Assumes nothing.
 use Prim.Native.Nat.{ℕ, _+_, _-_, _≤_, _<_}
-use mathlib.Core.Path.{_≡_, sym, ap, _∙_}
-use mathlib.Core.Bool.{Bool}
+use mathlib.Core.Path.{_≡_, refl, sym, ap, _∙_}
+use mathlib.Core.Bool.{Bool, cond}
 use mathlib.Core.List.{List}
-use mathlib.Core.Logic.{⊎-elim}
+use mathlib.Core.Logic.{_⊎_, inl, inr, ⊎-elim}
 use native.Mathlib.Omega.{arith}
-use native.Mathlib.Nat.{eq-or-lt-of-le}
+use borrow.Author.Count.{below-more}
+use borrow.Author.Tests.{eq-eqb, ne-eqb, lt-ltb, le-ltb}
+use lib.Arith.{lt-of-le-ne}
+use lib.Dec.{ltb, eqb}
 use lib.ListN.{length, getD, set, take, drop, length-set, length-take, length-drop}
 use lib.Seq.{ext-getD, getD-take, getD-drop}
+use Rattle.machine.specs.Numbers.{equal-or-not, less-or-not}
 use Rattle.certify.specs.Recognition.{Stands}
-use Rattle.certify.specs.Marks.{tabulate, mark, stands}
-use Rattle.certify.specs.Marks.Laws.{tabulate-length, tabulate-at}
-use Rattle.certify.proofs.Marking.{less, set-at}
+use Rattle.certify.specs.Marks.{mark, marksBy, stands}
+use Rattle.certify.specs.Marks.Laws.{marks-by-length, marks-by-at}
+use Rattle.certify.specs.Marks.Agreement.{true-stands, stands-fails}
+use Rattle.certify.specs.Word.{Begun, Passed}
+use Rattle.certify.proofs.Marking.{set-cases}
 
-module _ (w xs : List ℕ) (p : ℕ) where
-  -- all commands agree
-  pub agrees : length w ≤ length xs - p → p ≤ length xs → ((i : ℕ) → i < length w → getD xs (p + i) 0 ≡ getD w i 0) → Stands w xs p
-  agrees l pl h = record {
-    inside = omega arith;
-    stands = ext-getD 0 (take (length w) (drop p xs)) w (simp (length-take, length-drop) (omega arith))
-        (λ i k. let il : i < length w = omega (arith, simp length-take at k) in getD-take (length w) (drop p xs) i 0 il ∙ getD-drop p xs i 0 ∙ h i il);
+-- ---- the first places: one more is written
+pub begun-on : (marks : List ℕ) (p v count : ℕ) → p < length marks → ((q : ℕ) → q < p → getD marks q 0 ≡ mark (ltb q count)) → v ≡ mark (ltb p count)
+    → (q : ℕ) → q < p + 1 → getD (set marks p v) q 0 ≡ mark (ltb q count)
+begun-on marks p v count pl h ve q ql =
+    ⊎-elim (λ (k : (q ≡ p) × (getD (set marks p v) q 0 ≡ v)). k .1 ∙ ve ∙ ap (λ (x : ℕ). mark (ltb x count)) (sym (k .0)))
+    (λ (k : (q ≡ p → ⊥) × (getD (set marks p v) q 0 ≡ getD marks q 0)). k .1 ∙ h q (lt-of-le-ne (omega arith) (k .0)))
+    (set-cases marks p v q pl)
+
+-- ---- a pass
+pub passed-none : (xs : List ℕ) (further c : ℕ) (marks : List ℕ) → Passed xs further c 0 marks marks
+passed-none xs further c marks = record { long = refl; cells = λ p l. let z : ⊥ = omega arith in absurd z; rest = λ p l. refl }
+
+pub passed-on : {xs : List ℕ} {further c p v : ℕ} {before now : List ℕ} → Passed xs further c p before now → p < length now
+    → v ≡ cond (eqb (getD xs (further + p) 0) c) (getD now p 0) 0 → Passed xs further c (p + 1) before (set now p v)
+passed-on {xs} {further} {c} {p} {v} {before} {now} h l e = record {
+  long = length-set now p v ∙ h .long;
+  cells = λ q ql.
+      ⊎-elim (λ (k : (q ≡ p) × (getD (set now p v) q 0 ≡ v)).
+      k .1 ∙ e ∙ ap (λ (m : ℕ). cond (eqb (getD xs (further + p) 0) c) m 0) (h .rest p (omega arith))
+      ∙ ap (λ (x : ℕ). cond (eqb (getD xs (further + x) 0) c) (getD before x 0) 0) (sym (k .0)))
+      (λ (k : (q ≡ p → ⊥) × (getD (set now p v) q 0 ≡ getD now q 0)). k .1 ∙ h .cells q (lt-of-le-ne (omega arith) (k .0)))
+      (set-cases now p v q l);
+  rest = λ q ql.
+      ⊎-elim (λ (k : (q ≡ p) × (getD (set now p v) q 0 ≡ v)). let z : ⊥ = omega (arith, k .0) in absurd z)
+      (λ (k : (q ≡ p → ⊥) × (getD (set now p v) q 0 ≡ getD now q 0)). k .1 ∙ h .rest q (omega arith))
+      (set-cases now p v q l);
+}
+
+-- ---- all passes
+-- the sequence has the whole word's length behind p, and there the first j commands of the word
+pub record Begins (w xs : List ℕ) (j p : ℕ) : Type 0 where
+  pub inside : p + length w ≤ length xs
+  pub agree : (i : ℕ) → i < j → getD xs (p + i) 0 ≡ getD w i 0
+
+-- a mark that tells whether they stand there
+abbrev pub Tells : List ℕ → List ℕ → ℕ → ℕ → ℕ → Type 0
+Tells w xs j p v = ((v ≡ 1) × Begins w xs j p) ⊎ ((v ≡ 0) × (Begins w xs j p → ⊥))
+
+-- what the loop over the word's commands keeps
+pub record Written (w xs marks : List ℕ) (j : ℕ) : Type 0 where
+  pub upto : j ≤ length w
+  pub long : length marks ≡ length xs + 1
+  pub cells : (p : ℕ) → p ≤ length xs → Tells w xs j p (getD marks p 0)
+
+module _ (w xs : List ℕ) where
+  -- a place with room for the word, and one without
+  begun-tells : (count p v : ℕ) → count ≡ length xs + 1 - length w → v ≡ mark (ltb p count) → Tells w xs 0 p v
+  begun-tells count p v ce ve =
+      ⊎-elim (λ (l : p < count).
+      inl (ve ∙ ap mark (lt-ltb p count l), record { inside = omega (arith, ce); agree = λ i il. let z : ⊥ = omega arith in absurd z }))
+      (λ (l : count ≤ p). inr (ve ∙ ap mark (le-ltb p count l), λ b. omega (arith, ce, b .inside)))
+      (less-or-not p count)
+
+  pub written-starts : {before marks : List ℕ} {count : ℕ} → length before ≡ length xs + 1 → count ≡ length xs + 1 - length w → Begun count before marks → Written w xs marks 0
+  written-starts {before} {marks} {count} l ce h = record {
+    upto = omega arith;
+    long = h .long ∙ l;
+    cells = λ p pl. begun-tells count p _ ce (h .cells p (omega (arith, l)));
   }
 
-  -- one does not
-  pub differs : (i : ℕ) → i < length w → (getD xs (p + i) 0 ≡ getD w i 0 → ⊥) → Stands w xs p → ⊥
-  differs i l n h =
-      n (sym (getD-take (length w) (drop p xs) i 0 l ∙ getD-drop p xs i 0) ∙ ap (λ (m : List ℕ). getD m i 0) (h .stands))
+  module _ (j p v v′ : ℕ) where
+    -- a pass comes to p: the mark stays where the command is the word's
+    on-inside : v′ ≡ cond (eqb (getD xs (j + p) 0) (getD w j 0)) v 0 → Tells w xs j p v → Tells w xs (j + 1) p v′
+    on-inside e h = ⊎-elim agrees differs (equal-or-not (getD xs (j + p) 0) (getD w j 0))
+      where
+        here : getD xs (j + p) 0 ≡ getD xs (p + j) 0
+        here = ap (λ (x : ℕ). getD xs x 0) (omega arith)
 
-  -- the sequence ends inside the word
-  pub too-short : length xs - p < length w → Stands w xs p → ⊥
-  too-short l h = omega (arith, h .inside)
+        fewer : Begins w xs (j + 1) p → Begins w xs j p
+        fewer b = record { inside = b .inside; agree = λ i l. b .agree i (omega arith) }
 
-  -- one command more
-  pub agrees-on : (i : ℕ) → ((j : ℕ) → j < i → getD xs (p + j) 0 ≡ getD w j 0) → getD xs (p + i) 0 ≡ getD w i 0
-      → (j : ℕ) → j < i + 1 → getD xs (p + j) 0 ≡ getD w j 0
-  agrees-on i h e j l =
-      ⊎-elim (λ (q : j ≡ i). rw q e) (λ (k : j < i). h j k) (eq-or-lt-of-le {n = j} {m = i} (omega arith))
+        agrees : getD xs (j + p) 0 ≡ getD w j 0 → Tells w xs (j + 1) p v′
+        agrees q =
+            let same : v′ ≡ v = e ∙ ap (λ (b : Bool). cond b v 0) (eq-eqb _ _ q) in
+            ⊎-elim (λ (k : (v ≡ 1) × Begins w xs j p).
+            inl (same ∙ k .0, record { inside = k .1 .inside; agree = below-more (λ i. getD xs (p + i) 0 ≡ getD w i 0) j (k .1 .agree) (sym here ∙ q) }))
+            (λ (k : (v ≡ 0) × (Begins w xs j p → ⊥)). inr (same ∙ k .0, λ b. k .1 (fewer b)))
+            h
 
--- what the loop over the places keeps
-pub record Marked (w xs marks : List ℕ) (p : ℕ) : Type 0 where
-  pub place : p ≤ length xs + 1
-  pub long : length marks ≡ length xs + 1
-  pub cells : (q : ℕ) → q < p → getD marks q 0 ≡ mark (stands w xs q)
+        differs : (getD xs (j + p) 0 ≡ getD w j 0 → ⊥) → Tells w xs (j + 1) p v′
+        differs n = inr (e ∙ ap (λ (b : Bool). cond b v 0) (ne-eqb _ _ n), λ b. n (here ∙ b .agree j (omega arith)))
 
-pub marked-on : (w xs marks : List ℕ) (p : ℕ) → Marked w xs marks p → p ≤ length xs → {b : Bool} {v : ℕ} → v ≡ mark b → b ≡ stands w xs p → Marked w xs (set marks p v) (p + 1)
-marked-on w xs marks p h l {b} {v} ve be =
-    let inside : p < length marks = omega (arith, h .long) in
-    record {
-      place = omega arith;
-      long = length-set marks p v ∙ h .long;
-      cells = λ q ql.
-          ⊎-elim (λ (k : (q ≡ p) × (getD (set marks p v) q 0 ≡ v)). k .1 ∙ ve ∙ ap mark be ∙ ap (λ (x : ℕ). mark (stands w xs x)) (sym (k .0)))
-          (λ (k : (q ≡ p → ⊥) × (getD (set marks p v) q 0 ≡ getD marks q 0)). k .1 ∙ h .cells q (less q p (omega arith) (k .0)))
-          (set-at marks p v q inside);
-    }
+    -- no pass comes to p: the word has no room there
+    on-outside : length xs + 1 - length w ≤ p → v′ ≡ v → Tells w xs j p v → Tells w xs (j + 1) p v′
+    on-outside l e h =
+        ⊎-elim (λ (k : (v ≡ 1) × Begins w xs j p). let z : ⊥ = omega (arith, k .1 .inside) in absurd z)
+        (λ (k : (v ≡ 0) × (Begins w xs j p → ⊥)). inr (e ∙ k .0, λ b. omega (arith, b .inside)))
+        h
 
-pub marked-all : (w xs marks : List ℕ) (p : ℕ) → Marked w xs marks p → length xs < p → marks ≡ tabulate (length xs + 1) (λ q. mark (stands w xs q))
-marked-all w xs marks p h l =
-    ext-getD 0 marks (tabulate (length xs + 1) (λ q. mark (stands w xs q))) (h .long ∙ sym (tabulate-length _ _))
-    (λ q ql. let k : q < length xs + 1 = omega (arith, h .long) in h .cells q (omega arith) ∙ sym (tabulate-at (length xs + 1) (λ x. mark (stands w xs x)) q k))
+  pub written-on : {marks marks′ : List ℕ} {j count c : ℕ} → Written w xs marks j → j < length w → count ≡ length xs + 1 - length w → c ≡ getD w j 0
+      → Passed xs j c count marks marks′ → Written w xs marks′ (j + 1)
+  written-on {marks} {marks′} {j} {count} {c} h l ce e s = record {
+    upto = omega arith;
+    long = s .long ∙ h .long;
+    cells = λ p pl.
+        ⊎-elim (λ (k : p < count).
+        on-inside j p _ _ (s .cells p k ∙ ap (λ (x : ℕ). cond (eqb (getD xs (j + p) 0) x) (getD marks p 0) 0) e) (h .cells p pl))
+        (λ (k : count ≤ p). on-outside j p _ _ (omega (arith, ce)) (s .rest p k) (h .cells p pl))
+        (less-or-not p count);
+  }
+
+  -- the whole word: what is written is where it stands
+  whole-stands : (p : ℕ) → Begins w xs (length w) p → Stands w xs p
+  whole-stands p b = record {
+    inside = b .inside;
+    stands = ext-getD 0 (take (length w) (drop p xs)) w (simp (length-take, length-drop) (omega (arith, b .inside)))
+        (λ i k. let il : i < length w = omega (arith, simp length-take at k) in getD-take (length w) (drop p xs) i 0 il ∙ getD-drop p xs i 0 ∙ b .agree i il);
+  }
+
+  stands-whole : (p : ℕ) → Stands w xs p → Begins w xs (length w) p
+  stands-whole p h = record {
+    inside = h .inside;
+    agree = λ i l. sym (getD-take (length w) (drop p xs) i 0 l ∙ getD-drop p xs i 0) ∙ ap (λ (m : List ℕ). getD m i 0) (h .stands);
+  }
+
+  told : (p v : ℕ) → Tells w xs (length w) p v → v ≡ mark (stands w xs p)
+  told p v h =
+      ⊎-elim (λ (k : (v ≡ 1) × Begins w xs (length w) p). k .0 ∙ sym (ap mark (true-stands w xs p (whole-stands p (k .1)))))
+      (λ (k : (v ≡ 0) × (Begins w xs (length w) p → ⊥)). k .0 ∙ ap mark (stands-fails w xs p (λ s. k .1 (stands-whole p s))))
+      h
+
+  pub written-all : {marks : List ℕ} {j : ℕ} → Written w xs marks j → length w ≤ j → marks ≡ marksBy xs (stands w xs)
+  written-all {marks} {j} h l =
+      let whole : j ≡ length w = omega (arith, h .upto) in
+      ext-getD 0 marks (marksBy xs (stands w xs)) (h .long ∙ sym (marks-by-length xs (stands w xs)))
+      (λ q ql.
+      let k : q ≤ length xs = omega (arith, h .long) in
+      told q _ (rw (← whole) (h .cells q k)) ∙ sym (marks-by-at xs (stands w xs) q k))

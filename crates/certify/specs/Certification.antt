@@ -1,19 +1,20 @@
 -- Certifying (document 01, "Causes" and "Recognition"): causes 1 to 7 and 9, the open number, which is also judging's cause 11, the answer, and
 -- what is written. Shut are `verified`, `openCause`, `cause11`, `outcome`, `certification` and `marksAfter`: what judging may know of them are the
--- service's contract and the laws in Certification.Laws and Certification.Places. Certification.Program has the laws of the program's own
--- functions, and in Certification.Twin the starred sequences are computed.
+-- service's contract and the laws in Certification.Laws and Certification.Places. Certification.Program has the open number by a table
+-- of known entries, as the program finds it, and in Certification.Twin the starred sequences are computed.
 use Prim.Native.Nat.{ℕ, _+_, _*_}
 use mathlib.Core.Path.{_≡_}
 use mathlib.Core.Bool.{Bool, true, false, not, _&&_}
 use mathlib.Core.List.{List, [], _∷_, _++_}
 use lib.Dec.{ltb, eqb}
-use lib.ListN.{length, getD, drop}
+use lib.ListN.{length, getD}
 use Rattle.sheet.specs.declared.check.Check.{Check}
 use Rattle.sheet.specs.declared.check.Check.the-variants.{Clear, Refused}
 use Rattle.sheet.specs.declared.record.Record.{Record}
 use Rattle.sheet.specs.declared.reader.Needs.{Needs}
-use Rattle.sheet.specs.Check.{refusal_with_if_, _else_, firstCause, first}
+use Rattle.sheet.specs.Check.{refusal_with_if_, _else_, firstCause, first, refusedOr, unlessRefused}
 use Rattle.sheet.specs.Reader.{the, content}
+use Rattle.sheet.specs.Writing.{written}
 use Rattle.machine.specs.Limits.{mostSequence}
 use Rattle.machine.specs.Machine.{Mealy, stateAt}
 use Rattle.machine.specs.Causes.{commandsCause, machineIn, loadCauses}
@@ -53,11 +54,15 @@ pub verified : Mealy → List ℕ → List ℕ → ℕ → ℕ → Bool
 verified M xs ms s c =
     any (length xs) (λ i. eqb (stateAt M xs i) s && (eqb (getD xs i 0) c && (marked ms i && marked ms (i + 1))))
 
+-- "not certified" because of one entry, of marks
+abbrev pub entryCause : Mealy → List ℕ → List ℕ → ℕ → ℕ → Check
+entryCause M xs ms s c = refusal 11 with 1 + (s * M .k + c) if not (verified M xs ms s c)
+
 -- "not certified", with the open number: "0 if place 0 is not recognised, else 1+s·k+command for the least entry not verified", of marks
 pub openCause : Mealy → List ℕ → List ℕ → Check
 openCause M xs ms =
     (refusal 11 with 0 if not (marked ms 0))
-    else first (M .n) (λ s. first (M .k) (λ c. refusal 11 with 1 + (s * M .k + c) if not (verified M xs ms s c)))
+    else first (M .n) (λ s. first (M .k) (entryCause M xs ms s))
 
 -- cause 11, "not certified", by the sequence's own marks: judging refuses with it, certifying answers open with the same number
 pub cause11 : Mealy → List ℕ → List ℕ → Check
@@ -73,28 +78,18 @@ pub outcome : Mealy → List ℕ → List ℕ → Answer
 outcome M w xs = answerOf (cause11 M w xs) (count (marks M w xs))
 
 -- ---- the service
--- a refusal with its number and place, or else the answer
-abbrev pub refusedOr : Check → Answer → Answer
-refusedOr Clear a = a
-refusedOr (Refused number place) a = RefusedAnswer number place
-
 -- what certifying answers to a sheet and a room for marks
 pub certification : ℕ → List ℕ → Answer
-certification room s = refusedOr (firstCause (certifyCauses certifyNeeds room s)) (outcome (machineIn s) (content 2 s) (content 3 s))
+certification room s = refusedOr RefusedAnswer (firstCause (certifyCauses certifyNeeds room s)) (outcome (machineIn s) (content 2 s) (content 3 s))
 
 -- how marks are kept in a buffer: "marks 0 to N hold 1 for recognised, 0 otherwise; later bytes are unchanged"
 unfoldable pub kept : List ℕ → List ℕ → List ℕ
-kept ms buffer = ms ++ drop (length ms) buffer
-
--- a refusal leaves "all buffers" as they were
-abbrev pub keptUnless : Check → List ℕ → List ℕ → List ℕ
-keptUnless Clear ms buffer = kept ms buffer
-keptUnless (Refused number place) ms buffer = buffer
+kept ms buffer = written ms buffer
 
 -- the lent buffer after certifying
 pub marksAfter : List ℕ → List ℕ → List ℕ
 marksAfter s buffer =
-    keptUnless (firstCause (certifyCauses certifyNeeds (length buffer) s)) (marks (machineIn s) (content 2 s) (content 3 s)) buffer
+    unlessRefused (firstCause (certifyCauses certifyNeeds (length buffer) s)) (kept (marks (machineIn s) (content 2 s) (content 3 s)) buffer) buffer
 
 -- what certifying a sheet promises: its answer, and every byte of the lent buffer
 pub record Certifies (s before after : List ℕ) (a : Answer) : Type 0 where

@@ -1,11 +1,12 @@
--- What the certifier's own functions promise each other about folding places. Nothing here has to be believed: the service's contract does
--- not name it.
-use Prim.Native.Nat.{ℕ, _+_, _*_, _≤_, _<_}
+-- What the certifier's own functions promise each other about folding places and the tables for it. Nothing here has to be believed: the
+-- service's contract does not name it.
+use Prim.Native.Nat.{ℕ, _+_, _*_, _<_}
 use mathlib.Core.Path.{_≡_}
 use mathlib.Core.List.{List}
-use lib.ListN.{length, getD}
+use lib.ListN.{length, getD, set}
 use Rattle.machine.specs.Machine.{Mealy, stateAt}
 use Rattle.certify.specs.Recognition.{Closure}
+use Rattle.certify.specs.Marks.{Bits}
 
 -- the marks of a list, as rule 1's places
 abbrev pub MarkedIn : List ℕ → ℕ → Type 0
@@ -18,7 +19,7 @@ From M xs given = Closure xs (stateAt M xs) (MarkedIn given)
 -- a mark of 0 or 1 for each place, between the given ones and their closure
 pub record Marking (M : Mealy) (xs given ms : List ℕ) : Type 0 where
   pub long : length ms ≡ length xs + 1
-  pub few : (p : ℕ) → getD ms p 0 ≤ 1
+  pub bits : Bits ms
   pub above : (p : ℕ) → getD given p 0 ≡ 1 → getD ms p 0 ≡ 1
   pub sound : (p : ℕ) → getD ms p 0 ≡ 1 → From M xs given p
 
@@ -50,21 +51,27 @@ pub record Reached (xs alt : List ℕ) (c r v : ℕ) : Type 0 where
   pub inside : v < length xs
   pub last : (getD xs v 0 ≡ c → ⊥) → getD alt v 0 ≡ 0
 
+-- as many states as a byte can name: the length of root
+abbrev pub byteStates : ℕ
+byteStates = 256
+
+-- the place that represents state s, which becomes t where there is none yet; root holds place + 1, 0 for none
+pub data Rooted (root : List ℕ) (s t : ℕ) (root′ : List ℕ) (r : ℕ) : Type 0 where
+  first : getD root s 0 ≡ 0 → root′ ≡ set root s (t + 1) → r ≡ t → Rooted root s t root′ r
+  again : getD root s 0 ≡ r + 1 → root′ ≡ root → Rooted root s t root′ r
+
+-- one further than the alternative of r that has t's command; t becomes the last one where there is none
+pub data Advanced (xs alt : List ℕ) (r t : ℕ) (alt′ : List ℕ) (cur : ℕ) : Type 0 where
+  found : (v : ℕ) → Past xs alt (getD xs t 0) r v → getD xs v 0 ≡ getD xs t 0 → alt′ ≡ alt → cur ≡ v + 1 → Advanced xs alt r t alt′ cur
+  added : (v : ℕ) → Past xs alt (getD xs t 0) r v → (getD xs v 0 ≡ getD xs t 0 → ⊥) → getD alt v 0 ≡ 0 → alt′ ≡ set alt v t → cur ≡ t + 1
+      → Advanced xs alt r t alt′ cur
+
 -- tables that fold places: alternatives are paired, and root holds for a state a place of it in the closure, plus 1, or 0 for none
 pub record Folds (M : Mealy) (xs given alt root : List ℕ) : Type 0 where
   pub links : (v : ℕ) → (getD alt v 0 ≡ 0 → ⊥) → Paired M xs given v (getD alt v 0)
   pub roots : (s r : ℕ) → getD root s 0 ≡ r + 1 → (r < length xs) × (From M xs given r) × (stateAt M xs r ≡ s)
 
 -- the machine's next states, of a table
-pub record Follows (M : Mealy) (k : ℕ) (next : List ℕ) : Type 0 where
+pub record NextTable (M : Mealy) (k : ℕ) (next : List ℕ) : Type 0 where
   pub commands : M .k ≡ k
   pub states : (s c : ℕ) → M .next s c ≡ getD next (s * k + c) 0
-
--- ---- following the commands of a place
--- what is asked: tables that fold places, and a marked place p of state s
-pub record Propagable (M : Mealy) (xs ms next alt root : List ℕ) (k p s : ℕ) : Type 0 where
-  pub follows : Follows M k next
-  pub folds : Folds M xs ms alt root
-  pub few : (q : ℕ) → getD ms q 0 ≤ 1
-  pub marked : getD ms p 0 ≡ 1
-  pub state : s ≡ stateAt M xs p

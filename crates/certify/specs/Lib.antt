@@ -2,7 +2,7 @@ pub mod Recognition
 pub mod Marks
 pub mod Certification
 pub mod Loading
+pub mod Word
 pub mod Folding
 pub mod Propagation
 pub mod Sweep
-pub mod Closing

@@ -6,7 +6,7 @@ use mathlib.Core.List.{List}
 use Rattle.sheet.specs.declared.check.Check.the-variants.{Clear}
 use Rattle.sheet.specs.declared.reader.Needs.{Needs}
 use Rattle.sheet.specs.Check.{firstCause}
-use Rattle.sheet.specs.Reader.{part, content}
+use Rattle.sheet.specs.Reader.{content}
 use Rattle.machine.specs.Limits.{mostSequence}
 use Rattle.machine.specs.declared.loading.Loaded.{Loaded}
 use Rattle.machine.specs.Machine.{meaning, Proper, Commands}
@@ -17,8 +17,6 @@ use Rattle.certify.specs.Certification.{markBytes, certifyCauses}
 pub record SequenceLoaded (n : Needs) (room : ℕ) (s : List ℕ) (l : Loaded) : Type 0 where
   -- the first refusal, or Clear
   pub check : l .check ≡ firstCause (certifyCauses n room s)
-  -- where the word stands
-  pub word : l .word ≡ part 2 s
   -- where nothing is refused: the machine is the sheet's and within its limits, the sequence is one of its commands, and its marks fit
   pub machine : l .check ≡ Clear → meaning (l .machine) ≡ machineIn s
   pub proper : l .check ≡ Clear → Proper (meaning (l .machine))

@@ -1,7 +1,7 @@
 -- The recognised places as marks, computed: one byte for each of the places 0 to N, 1 for recognised and 0 otherwise. Marks.Agreement shows
 -- that they are exactly those of Recognition, so only `count` has to be read besides. A small name is what is computed, the same name with a
 -- capital is the statement (`stands` and Stands, `closure` and Closure). Shut are `stands`, `shown`, `grown`, `settled`, `closure` and `marks`.
-use Prim.Native.Nat.{ℕ, zero, suc, _+_, _-_}
+use Prim.Native.Nat.{ℕ, zero, suc, _+_, _-_, _≤_}
 use mathlib.Core.Bool.{Bool, true, false, _&&_, _||_}
 use mathlib.Core.List.{List, [], _∷_}
 use lib.Dec.{leb, eqb}
@@ -26,6 +26,14 @@ tabulate (suc n) f = f 0 ∷ tabulate n (λ i. f (suc i))
 abbrev pub mark : Bool → ℕ
 mark true = 1
 mark false = 0
+
+-- one mark for each of the places 0 to N, by a test
+unfoldable pub marksBy : List ℕ → (ℕ → Bool) → List ℕ
+marksBy xs f = tabulate (length xs + 1) (λ p. mark (f p))
+
+-- every mark is 0 or 1
+abbrev pub Bits : List ℕ → Type 0
+Bits ms = (p : ℕ) → getD ms p 0 ≤ 1
 
 -- whether the mark of a place is 1
 abbrev pub marked : List ℕ → ℕ → Bool
@@ -55,7 +63,7 @@ shown xs state ms r = any (length xs) (λ p. any r (λ q. follows xs state ms p 
 
 -- these marks, and those that one use of rule 2 adds
 pub grown : List ℕ → (ℕ → ℕ) → List ℕ → List ℕ
-grown xs state ms = tabulate (length xs + 1) (λ r. mark (marked ms r || shown xs state ms r))
+grown xs state ms = marksBy xs (λ r. marked ms r || shown xs state ms r)
 
 -- growing until no more marks are 1, at most f times
 pub settled : ℕ → List ℕ → (ℕ → ℕ) → List ℕ → List ℕ
@@ -66,7 +74,7 @@ settled (suc f) xs state ms =
 
 -- the marks of the places that rule 1 gives, grown by rule 2; N+1 times are enough: settled-stable, in Marks.Agreement
 pub closure : List ℕ → (ℕ → ℕ) → (ℕ → Bool) → List ℕ
-closure xs state base = settled (length xs + 1) xs state (tabulate (length xs + 1) (λ p. mark (base p)))
+closure xs state base = settled (length xs + 1) xs state (marksBy xs base)
 
 -- "marks 0 to N hold 1 for recognised, 0 otherwise"
 pub marks : Mealy → List ℕ → List ℕ → List ℕ

@@ -1,13 +1,13 @@
 // The tables that fold places which must stand in one state of any unit that gives the right
 // answers. A marked place before an unmarked one is represented by the first such place of its
-// state. From a representative, the next place is represented by the one after the alternative that has the same
-// command: alternatives are places that are represented alike and have different commands.
+// state. From a representative, the next place is represented by the one after the alternative that
+// has the same command: alternatives are places that are represented alike and have different
+// commands.
 ghost use mathlib.Core.Path.{_≡_};
 ghost use Prim.Native.Nat.{_+_, _≤_, _<_};
 ghost use lib.ListN.{length};
 ghost use Rattle.machine.specs.Limits.{mostSequence};
-ghost use Rattle.certify.specs.Folding.{Rising, Reached};
-ghost use Rattle.certify.specs.Sweep.{Rooted, Advanced};
+ghost use Rattle.certify.specs.Folding.{Rising, Reached, Rooted, Advanced};
 use machine::Machine;
 
 // As many states as a byte can name, so that no state is out of range.

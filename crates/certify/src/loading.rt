@@ -1,5 +1,4 @@
-// Causes 1 to 7 and 9 of a sheet, its machine, and where its word stands: what every service that
-// certifies begins with.
+// Causes 1 to 7 and 9 of a sheet, and its machine: what every service that certifies begins with.
 ghost use Rattle.certify.specs.Loading.{SequenceLoaded};
 use machine::Loaded;
 use machine::Machine;
@@ -24,10 +23,5 @@ pub fn load_sequence(sheet: &[u8], needs: Needs, room: usize) -> Loaded
     let bytes = xs.len() + 1;
     let nine = refuse(9, bytes, room < bytes);
     let check = first_of(earlier, first_of(seven, nine));
-    let word = loaded.word;
-    Loaded {
-        check,
-        machine,
-        word,
-    }
+    Loaded { check, machine }
 }

@@ -1,27 +1,16 @@
 // The number of recognised places, and the open number.
 ghost use mathlib.Core.Path.{_≡_};
 ghost use Prim.Native.Nat.{_+_, _≤_, _<_};
-ghost use lib.Dec.{eqb};
 ghost use lib.ListN.{length};
 ghost use Rattle.sheet.specs.Check.{first};
 ghost use Rattle.machine.specs.Limits.{mostEntries};
-ghost use Rattle.certify.specs.Marks.{mark};
 ghost use Rattle.certify.specs.Marks.{count as countOf};
-ghost use Rattle.certify.specs.Closing.{unknownAt, openBy};
+ghost use Rattle.certify.specs.Certification.Program.{unknownAt, openBy};
+use crate::word::bit;
 use machine::Machine;
 use sheet::Check;
 use sheet::first_of;
 use sheet::refuse;
-
-// 1 for a mark of 1, else 0.
-fn one(m: u8) -> usize
-    ensures { λ r. ⌜ r ≡ mark (eqb m 1) ⌝ }
-{
-    if m == 1 {
-        return 1;
-    }
-    0
-}
 
 // How many marks are 1.
 pub fn count(marks: &[u8]) -> usize
@@ -30,7 +19,7 @@ pub fn count(marks: &[u8]) -> usize
     let mut n = 0;
     let mut i = 0;
     while i < marks.len() {
-        n += one(marks[i]);
+        n += bit(marks[i] == 1) as usize;
         i += 1;
     }
     n

@@ -1,14 +1,15 @@
 -- From the checks and certifying's answer to judging's.
+-- Assumes nothing.
 use Prim.Native.Nat.{ℕ, _≤_}
 use mathlib.Core.Path.{_≡_, sym, ap₂, _∙_}
 use mathlib.Core.List.{List}
-use native.Mathlib.Omega.{arith}
 use lib.Dec.{ltb}
 use lib.ListN.{length}
 use Rattle.sheet.specs.declared.check.Check.{Check}
 use Rattle.sheet.specs.declared.check.Check.the-variants.{Clear, Refused}
 use Rattle.sheet.specs.declared.record.Record.{Record}
 use Rattle.sheet.specs.Check.{refusal_with_if_, _else_, firstCause}
+use Rattle.sheet.specs.Check.Laws.{clear-refused}
 use Rattle.sheet.specs.Reader.{the, content}
 use Rattle.machine.specs.Machine.{Mealy}
 use Rattle.machine.specs.Causes.{machineIn}
@@ -19,15 +20,14 @@ use Rattle.certify.specs.Certification.Laws.{certified-clear, answer-certified,
 use Rattle.judge.specs.declared.answer.Answer.{Answer}
 use Rattle.judge.specs.declared.answer.Answer.the-variants.{Pass, Wrong, Unfinished, Refused as RefusedAnswer}
 use Rattle.judge.specs.Judging.{judgeNeeds, cause10, judgeCauses, verdict, Judges, Identity, valuesOf}
-use Rattle.judge.specs.Judging.Laws.{judge-causes-are, certifying-clear, few-answers, judgement-refused, judgement-open, judgement-verdict, marks-refused, marks-clear, pass-identity}
+use Rattle.judge.specs.Judging.Laws.{cause10-is, judge-causes-are, certifying-clear, few-answers, judgement-refused, judgement-open, judgement-verdict, judged-refused, judged-clear, pass-identity}
 
 -- ---- the checks
 module _ (room : ℕ) (s : List ℕ) {r : Record} {xs ys : List ℕ} (re : r ≡ the 4 s) (xe : xs ≡ content 3 s) (ye : ys ≡ content 4 s) where
   pub checks-are : {earlier ten c : Check} → earlier ≡ firstCause (certifyCauses judgeNeeds room s)
       → ten ≡ (refusal 10 with r .start if ltb (length xs) (length ys)) → c ≡ (earlier else ten) → c ≡ firstCause (judgeCauses room s)
-  unfolding cause10
   checks-are ee te ce =
-      let ten-is : (refusal 10 with r .start if ltb (length xs) (length ys)) ≡ cause10 (the 4 s) (content 3 s) (content 4 s) = rw (re, xe, ye) in
+      let ten-is : (refusal 10 with r .start if ltb (length xs) (length ys)) ≡ cause10 (the 4 s) (content 3 s) (content 4 s) = rw (re, xe, ye) (cause10-is (the 4 s) (content 3 s) (content 4 s)) in
       ce ∙ ap₂ _else_ ee (te ∙ ten-is) ∙ sym (judge-causes-are room s)
 
   pub few-here : {c : Check} → c ≡ firstCause (judgeCauses room s) → c ≡ Clear → length ys ≤ length xs
@@ -42,7 +42,7 @@ module _ (s before : List ℕ) {c : Check} (ce : c ≡ firstCause (judgeCauses (
   pub judges-refused : {n p : ℕ} → c ≡ Refused n p → Judges s before before (RefusedAnswer n p)
   judges-refused e = record {
     answer = sym (judgement-refused (length before) s (sym ce ∙ e));
-    marks = sym (marks-refused s before (sym ce ∙ e));
+    marks = sym (judged-refused s before (sym ce ∙ e));
   }
 
   module _ (e : c ≡ Clear) where
@@ -52,15 +52,12 @@ module _ (s before : List ℕ) {c : Check} (ce : c ≡ firstCause (judgeCauses (
     module _ {after : List ℕ} {b : Certification} (h : Certifies s before after b) where
       -- certifying does not refuse here
       pub judges-never : {n p : ℕ} → b ≡ RefusedThere n p → ⊥
-      judges-never q = differ (sym (certifying-clear (length before) s clear) ∙ answer-refused (length before) s (sym (h .answer) ∙ q))
-        where
-          differ : {n p : ℕ} → Clear ≡ Refused n p → ⊥
-          differ e = let z : _≡_ {A = ℕ} 0 1 = cc in omega arith
+      judges-never q = clear-refused (certifying-clear (length before) s clear) (answer-refused (length before) s (sym (h .answer) ∙ q))
 
       pub judges-open : {n v : ℕ} → b ≡ Open n v → Judges s before after (RefusedAnswer 11 v)
       judges-open q = record {
         answer = sym (judgement-open (length before) s clear (answer-open (length before) s (sym (h .answer) ∙ q) .1 .0));
-        marks = h .marks ∙ sym (marks-clear s before clear);
+        marks = h .marks ∙ sym (judged-clear s before clear);
       }
 
       pub judges-certified : {n : ℕ} {M : Mealy} {xs ys : List ℕ} {a : Answer} → b ≡ Certified n → M ≡ machineIn s → xs ≡ content 3 s → ys ≡ content 4 s
@@ -69,7 +66,7 @@ module _ (s before : List ℕ) {c : Check} (ce : c ≡ firstCause (judgeCauses (
           let shown = answer-certified (length before) s (sym (h .answer) ∙ q) in
           record {
             answer = ae ∙ (rw (me, xe, ye) (sym (judgement-verdict (length before) s clear (certified-clear (machineIn s) (content 2 s) (content 3 s) (shown .1 .0)))));
-            marks = h .marks ∙ sym (marks-clear s before clear);
+            marks = h .marks ∙ sym (judged-clear s before clear);
           }
 
 -- ---- the numbers for each answer

@@ -1,24 +1,20 @@
 -- How the loop of `compare` runs along the answers, and what its three ends show.
+-- Assumes nothing.
 use Prim.Native.Nat.{ℕ, _+_, _*_, _≤_, _<_}
 use mathlib.Core.Path.{_≡_, sym, ap, _∙_}
 use mathlib.Core.List.{List}
 use native.Mathlib.Omega.{arith}
 use lib.ListN.{length, getD}
 use lib.Seq.{ext-getD}
-use Rattle.machine.specs.Limits.{mostEntries, mostSequence}
-use Rattle.machine.specs.Machine.{Mealy, tabled, answers, stateAt, Proper, Commands}
-use Rattle.machine.specs.Machine.Laws.{tabled-commands, tabled-start, tabled-next, tabled-answer, answers-length, answer-at, state-start, state-next, state-stays}
-use Rattle.machine.specs.Causes.Laws.{proper-entry}
-use Rattle.machine.specs.Numbers.{below-more}
+use borrow.Author.Count.{below-more}
+use Rattle.machine.specs.declared.machine.Machine.{Machine}
+use Rattle.machine.specs.Limits.{mostEntries}
+use Rattle.machine.specs.Machine.{Mealy, meaning, answers, stateAt}
+use Rattle.machine.specs.Machine.Laws.{meaning-commands, meaning-start, tabled-next, tabled-answer, answers-length, answer-at, state-start, state-next, state-stays, proper-entry}
 use Rattle.judge.specs.declared.answer.Answer.the-variants.{Pass, Wrong, Unfinished}
 use Rattle.judge.specs.Judging.{verdict}
+use Rattle.judge.specs.Comparison.{Comparable}
 use Rattle.judge.specs.Judging.Verdict.{Right, passed, wrong, unfinished, judged-verdict}
-
--- what the comparison asks of a machine's two columns, a sequence and the answers
-pub record Asked (M : Mealy) (xs ys : List ℕ) : Type 0 where
-  pub proper : Proper M
-  pub commands : Commands mostSequence (M .k) xs
-  pub few : length ys ≤ length xs
 
 -- the answers before i are right, and s is the state there
 pub record Compared (M : Mealy) (xs ys : List ℕ) (i s : ℕ) : Type 0 where
@@ -26,41 +22,41 @@ pub record Compared (M : Mealy) (xs ys : List ℕ) (i s : ℕ) : Type 0 where
   pub state : s ≡ stateAt M xs i
   pub right : Right M xs ys i
 
-module _ (n k start : ℕ) (next answer xs ys : List ℕ) where
+module _ (m : Machine) (xs ys : List ℕ) where
   abbrev M : Mealy
-  M = tabled n k start next answer
+  M = meaning m
 
-  pub compared-start : {s : ℕ} → s ≡ start → Compared M xs ys 0 s
+  pub compared-start : {s : ℕ} → s ≡ m .start → Compared M xs ys 0 s
   compared-start e = record {
     inside = omega arith;
-    state = e ∙ sym (tabled-start n k start next answer) ∙ sym (state-start M xs);
+    state = e ∙ sym (meaning-start m) ∙ sym (state-start M xs);
     right = λ i l. absurd (omega arith);
   }
 
-  module _ (h : Asked M xs ys) {i s : ℕ} (c : Compared M xs ys i s) where
-    module _ (l : i < length ys) {e : ℕ} (at : e ≡ s * k + getD xs i 0) where
+  module _ (h : Comparable M xs ys) {i s : ℕ} (c : Compared M xs ys i s) where
+    module _ (l : i < length ys) {e : ℕ} (at : e ≡ s * m .k + getD xs i 0) where
       inside-sequence : i < length xs
       inside-sequence = omega (arith, h .few)
 
       pub entry-inside : e < mostEntries
       entry-inside =
-          let q : e ≡ s * M .k + getD xs i 0 = at ∙ ap (λ (x : ℕ). s * x + getD xs i 0) (sym (tabled-commands n k start next answer)) in
+          let q : e ≡ s * M .k + getD xs i 0 = at ∙ ap (λ (x : ℕ). s * x + getD xs i 0) (sym (meaning-commands m)) in
           let sl : s < M .n = rw (c .state) (state-stays M (h .proper) xs (h .commands .low) i) in
           omega (arith, proper-entry M (h .proper) s (getD xs i 0) sl (h .commands .low i inside-sequence))
 
-      specified-is : {v : ℕ} → v ≡ getD answer e 0 → v ≡ getD (answers M (M .start) xs) i 0
+      specified-is : {v : ℕ} → v ≡ getD (m .answer) e 0 → v ≡ getD (answers M (M .start) xs) i 0
       specified-is ve =
-          tabled-answer n k start next answer s (getD xs i 0) ve at ∙ ap (λ (x : ℕ). M .answer x (getD xs i 0)) (c .state) ∙ sym (answer-at M xs i inside-sequence)
+          tabled-answer (m .n) (m .k) (m .start) (m .next) (m .answer) s (getD xs i 0) ve at ∙ ap (λ (x : ℕ). M .answer x (getD xs i 0)) (c .state) ∙ sym (answer-at M xs i inside-sequence)
 
       -- an answer that differs
-      pub compared-wrong : {v g : ℕ} → v ≡ getD answer e 0 → g ≡ getD ys i 0 → (v ≡ g → ⊥) → Wrong i v g ≡ verdict M xs ys
+      pub compared-wrong : {v g : ℕ} → v ≡ getD (m .answer) e 0 → g ≡ getD ys i 0 → (v ≡ g → ⊥) → Wrong i v g ≡ verdict M xs ys
       compared-wrong ve ge d = judged-verdict M xs ys (h .few) (wrong l (c .right) d (specified-is ve) ge)
 
       -- one that is right
-      pub compared-next : {v g t : ℕ} → v ≡ getD answer e 0 → g ≡ getD ys i 0 → v ≡ g → t ≡ getD next e 0 → Compared M xs ys (i + 1) t
+      pub compared-next : {v g t : ℕ} → v ≡ getD (m .answer) e 0 → g ≡ getD ys i 0 → v ≡ g → t ≡ getD (m .next) e 0 → Compared M xs ys (i + 1) t
       compared-next {v} {g} ve ge q te = record {
         inside = omega arith;
-        state = tabled-next n k start next answer s (getD xs i 0) te at ∙ ap (λ (x : ℕ). M .next x (getD xs i 0)) (c .state) ∙ sym (state-next M xs i inside-sequence);
+        state = tabled-next (m .n) (m .k) (m .start) (m .next) (m .answer) s (getD xs i 0) te at ∙ ap (λ (x : ℕ). M .next x (getD xs i 0)) (c .state) ∙ sym (state-next M xs i inside-sequence);
         right = below-more (λ j. getD (answers M (M .start) xs) j 0 ≡ getD ys j 0) i (c .right) (sym (specified-is ve) ∙ q ∙ ge);
       }
 

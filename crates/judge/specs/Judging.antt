@@ -8,10 +8,9 @@ use mathlib.Core.List.{List, [], _∷_, _++_}
 use lib.Dec.{ltb, eqb}
 use lib.ListN.{length, getD}
 use Rattle.sheet.specs.declared.check.Check.{Check}
-use Rattle.sheet.specs.declared.check.Check.the-variants.{Clear, Refused}
 use Rattle.sheet.specs.declared.record.Record.{Record}
 use Rattle.sheet.specs.declared.reader.Needs.{Needs}
-use Rattle.sheet.specs.Check.{refusal_with_if_, firstCause}
+use Rattle.sheet.specs.Check.{refusal_with_if_, firstCause, refusedOr, unlessRefused}
 use Rattle.sheet.specs.Reader.{the, content}
 use Rattle.machine.specs.Machine.{Mealy, answers, stateAt}
 use Rattle.machine.specs.Causes.{machineIn}
@@ -56,25 +55,15 @@ unfoldable pub verdict : Mealy → List ℕ → List ℕ → Answer
 verdict M xs ys = resultAt M xs ys (agreed (answers M (M .start) xs) ys)
 
 -- ---- the service
--- a refusal with its number and place, or else the answer
-abbrev pub refusedOr : Check → Answer → Answer
-refusedOr Clear a = a
-refusedOr (Refused number place) a = RefusedAnswer number place
-
 -- what judging answers to a sheet and a room for marks: cause 11, "not certified", comes last
 unfoldable pub judgement : ℕ → List ℕ → Answer
 judgement room s =
-    refusedOr (firstCause (judgeCauses room s))
-    (refusedOr (cause11 (machineIn s) (content 2 s) (content 3 s)) (verdict (machineIn s) (content 3 s) (content 4 s)))
-
--- what is written where nothing is refused, and what was there where something is
-abbrev pub changedUnless : Check → List ℕ → List ℕ → List ℕ
-changedUnless Clear after before = after
-changedUnless (Refused number place) after before = before
+    refusedOr RefusedAnswer (firstCause (judgeCauses room s))
+    (refusedOr RefusedAnswer (cause11 (machineIn s) (content 2 s) (content 3 s)) (verdict (machineIn s) (content 3 s) (content 4 s)))
 
 -- the lent buffer after judging: "The marks are as after certifying", for the results and for refusal 11
 unfoldable pub judgedMarks : List ℕ → List ℕ → List ℕ
-judgedMarks s buffer = changedUnless (firstCause (judgeCauses (length buffer) s)) (marksAfter s buffer) buffer
+judgedMarks s buffer = unlessRefused (firstCause (judgeCauses (length buffer) s)) (marksAfter s buffer) buffer
 
 -- what judging promises of a sheet: its answer, and every byte of the lent buffer
 pub record Judges (s before after : List ℕ) (a : Answer) : Type 0 where

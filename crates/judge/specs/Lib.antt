@@ -1,2 +1,3 @@
 pub mod Unit
 pub mod Judging
+pub mod Comparison

@@ -1,10 +1,8 @@
 // The answers given, compared with the specified ones.
 ghost use mathlib.Core.Path.{_≡_};
-ghost use Prim.Native.Nat.{_≤_};
-ghost use lib.ListN.{length};
-ghost use Rattle.machine.specs.Limits.{mostSequence};
-ghost use Rattle.machine.specs.Machine.{meaning, Proper, Commands};
+ghost use Rattle.machine.specs.Machine.{meaning};
 ghost use Rattle.judge.specs.Judging.{verdict};
+ghost use Rattle.judge.specs.Comparison.{Comparable};
 use crate::answer::Answer;
 use machine::Machine;
 use machine::entry_at;
@@ -12,9 +10,7 @@ use machine::entry_at;
 // Runs the machine along the sequence as far as there are answers, and stops at the first that
 // differs.
 pub fn compare(m: Machine, xs: &[u8], ys: &[u8]) -> Answer
-    requires { ⌜ Proper (meaning m) ⌝ }
-    requires { ⌜ Commands mostSequence (meaning m .k) (now xs) ⌝ }
-    requires { ⌜ length (now ys) ≤ length (now xs) ⌝ }
+    requires { ⌜ Comparable (meaning m) (now xs) (now ys) ⌝ }
     ensures { λ r. ⌜ r ≡ verdict (meaning m) (now (xs .entry)) (now (ys .entry)) ⌝ }
 {
     let next = m.next;

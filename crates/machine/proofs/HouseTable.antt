@@ -10,7 +10,7 @@ use native.Mathlib.Nat.{le-of-suc-le-suc, not-suc-le-zero, eq-or-lt-of-le}
 use lib.Dec.{eqb}
 use lib.ListN.{length, getD, List·getD-eq-default}
 use borrow.Author.Tests.{eqb-true}
-use Rattle.sheet.specs.Check.Laws.{both-true}
+use Rattle.sheet.specs.Tests.{both-true}
 use Rattle.machine.specs.declared.house.Entry.{Entry}
 use Rattle.machine.specs.House.{houseTable, houseEntry}
 
@@ -27,29 +27,29 @@ every-at (suc n) f e i l =
     (λ (q : i < n). every-at n f (both-true (f n) (every n f) e .1) i q)
     (eq-or-lt-of-le (le-of-suc-le-suc l))
 
-abbrev pub nexts : List ℕ
-nexts = 0 ∷ 1 ∷ 2 ∷ 0 ∷ 1 ∷ 0 ∷ 3 ∷ 1 ∷ 2 ∷ 2 ∷ 2 ∷ 0 ∷ 3 ∷ 3 ∷ 3 ∷ 1 ∷ []
+abbrev pub nextColumn : List ℕ
+nextColumn = 0 ∷ 1 ∷ 2 ∷ 0 ∷ 1 ∷ 0 ∷ 3 ∷ 1 ∷ 2 ∷ 2 ∷ 2 ∷ 0 ∷ 3 ∷ 3 ∷ 3 ∷ 1 ∷ []
 
-abbrev pub answers : List ℕ
-answers = 31 ∷ 6 ∷ 6 ∷ 21 ∷ 2 ∷ 6 ∷ 6 ∷ 21 ∷ 31 ∷ 21 ∷ 21 ∷ 6 ∷ 2 ∷ 21 ∷ 21 ∷ 6 ∷ []
+abbrev pub answerColumn : List ℕ
+answerColumn = 31 ∷ 6 ∷ 6 ∷ 21 ∷ 2 ∷ 6 ∷ 6 ∷ 21 ∷ 31 ∷ 21 ∷ 21 ∷ 6 ∷ 2 ∷ 21 ∷ 21 ∷ 6 ∷ []
 
-entryAt : ℕ → Entry
-entryAt e = houseEntry (e / 4) (e % 4)
+houseCell : ℕ → Entry
+houseCell e = houseEntry (e / 4) (e % 4)
 
 right : ℕ → Bool
-right e = eqb (getD nexts e 0) (entryAt e .next) && eqb (getD answers e 0) (entryAt e .answer)
+right e = eqb (getD nextColumn e 0) (houseCell e .next) && eqb (getD answerColumn e 0) (houseCell e .answer)
 
 all-right : every 16 right ≡ true
-unfolding every right entryAt houseEntry
+unfolding every right houseCell houseEntry
 all-right = refl
 
 -- the entries of the constant tables are those of the document's table
-pub house-inside : (s c : ℕ) → s ≤ 3 → c ≤ 3 → record { next = getD nexts (s * 4 + c) 0; answer = getD answers (s * 4 + c) 0 } ≡ houseEntry s c
-unfolding right entryAt
+pub house-inside : (s c : ℕ) → s ≤ 3 → c ≤ 3 → record { next = getD nextColumn (s * 4 + c) 0; answer = getD answerColumn (s * 4 + c) 0 } ≡ houseEntry s c
+unfolding right houseCell
 house-inside s c p q =
     let e = s * 4 + c in
-    let t = both-true (eqb (getD nexts e 0) (entryAt e .next)) (eqb (getD answers e 0) (entryAt e .answer)) (every-at 16 right all-right e (omega arith)) in
-    let h : record { next = getD nexts e 0; answer = getD answers e 0 } ≡ houseEntry (e / 4) (e % 4) =
+    let t = both-true (eqb (getD nextColumn e 0) (houseCell e .next)) (eqb (getD answerColumn e 0) (houseCell e .answer)) (every-at 16 right all-right e (omega arith)) in
+    let h : record { next = getD nextColumn e 0; answer = getD answerColumn e 0 } ≡ houseEntry (e / 4) (e % 4) =
     ap₂ (λ (x y : ℕ). record { next = x; answer = y }) (eqb-true _ _ (t .0)) (eqb-true _ _ (t .1)) in
     h ∙ ap₂ houseEntry (omega arith) (omega arith)
 

@@ -1,6 +1,6 @@
 mod Columns
 mod HouseTable
 mod LoadChecks
-mod Numbers
 mod Pairs
+mod Products
 mod Runs

@@ -12,15 +12,15 @@ use Rattle.sheet.specs.declared.reader.Needs.{Needs}
 use Rattle.sheet.specs.Check.{refusal_with_if_, _else_, firstCause, first}
 use Rattle.sheet.specs.Check.Laws.{else-clear, else-refused}
 use Rattle.sheet.specs.Format.{header}
-use Rattle.sheet.specs.Reader.{sheetCauses, needed, the, part, content}
+use Rattle.sheet.specs.Reader.{sheetCauses, needed, the, content}
 use Rattle.sheet.specs.Reader.Laws.{the-inside}
 use Rattle.machine.specs.declared.machine.Machine.{Machine}
 use Rattle.machine.specs.Limits.{mostWord}
 use Rattle.machine.specs.Machine.{Mealy, meaning}
-use Rattle.machine.specs.Machine.Laws.{tabled-commands}
-use Rattle.machine.specs.Causes.{outside, cause3, cause4, cause5, commandsCause, cause6, machineIn, held, machineCauses, wordCauses, loadCauses}
-use Rattle.machine.specs.Causes.Laws.{byteCause, commands-cause-is}
-use Rattle.machine.specs.Causes.Lists.{machine-causes-are, word-causes-are, word-causes-none, load-causes-are, clear-table, kind-reads, held-is, machine-proper, word-distinguishes}
+use Rattle.machine.specs.Machine.Laws.{meaning-commands}
+use Rattle.machine.specs.Causes.{outside, cause3, cause4, byteCause, cause5, commandsCause, cause6, machineIn, held, machineCauses, wordCauses, loadCauses}
+use Rattle.machine.specs.Causes.Laws.{commands-cause-is}
+use Rattle.machine.specs.Causes.Lists.{machine-causes-are, word-causes-are, word-causes-none, load-causes-are, clear-table, kind-reads, held-is, load-proper, word-distinguishes}
 use Rattle.machine.specs.declared.loading.Loaded.{Loaded}
 use Rattle.machine.specs.Loading.{LoadedFrom}
 
@@ -48,7 +48,7 @@ table-are n s ke re pe te fe ie ce =
 -- causes 5 and 6, of the machine that the program holds
 module _ (s : List ℕ) (m : Machine) (h : meaning m ≡ machineIn s) where
   commands-same : m .k ≡ machineIn s .k
-  commands-same = sym (tabled-commands (m .n) (m .k) (m .start) (m .next) (m .answer)) ∙ ap (λ (x : Mealy). x .k) h
+  commands-same = sym (meaning-commands m) ∙ ap (λ (x : Mealy). x .k) h
 
   five-is : {c : Check} → c ≡ commandsCause 5 mostWord (m .k) (the 2 s) (content 2 s) → c ≡ cause5 (machineIn s .k) (the 2 s) (content 2 s)
   five-is ce = ce ∙ ap (λ (x : ℕ). commandsCause 5 mostWord x (the 2 s) (content 2 s)) commands-same
@@ -93,13 +93,12 @@ module _ (n : Needs) (s : List ℕ) {t : Check} (te : t ≡ firstCause (machineC
       ∙ sym (load-causes-are n s)
 
 -- all that loading promises
-pub loaded-from : (n : Needs) (s : List ℕ) (l : Loaded) → l .check ≡ firstCause (loadCauses n s) → meaning (l .machine) ≡ held s → l .word ≡ part 2 s → LoadedFrom n s l
-loaded-from n s l ce he we = record {
+pub loaded-from : (n : Needs) (s : List ℕ) (l : Loaded) → l .check ≡ firstCause (loadCauses n s) → meaning (l .machine) ≡ held s → LoadedFrom n s l
+loaded-from n s l ce he = record {
   check = ce;
-  word = we;
   reads = λ k m e. kind-reads n s (clear-table n s (sym ce ∙ e)) k m;
   machine = λ e. he ∙ held-is n s (clear-table n s (sym ce ∙ e));
-  proper = λ e. machine-proper n s (clear-table n s (sym ce ∙ e));
+  proper = λ e. load-proper n s (sym ce ∙ e);
   distinguishes = λ t e. word-distinguishes n s t (sym ce ∙ e);
   holds = he;
 }

@@ -6,8 +6,8 @@ use mathlib.Core.List.{List}
 use Rattle.sheet.specs.declared.check.Check.{Check}
 use Rattle.sheet.specs.Check.{first}
 use Rattle.machine.specs.Machine.{tabled}
-use Rattle.machine.specs.Causes.{cause6}
-use Rattle.machine.specs.Causes.Separation.{pairCause, pairs-tabled, cause6-rows}
+use Rattle.machine.specs.Causes.{pairCause, cause6}
+use Rattle.machine.specs.Causes.Separation.{pairs-tabled, cause6-rows}
 
 -- the first cause at a pair that begins with i
 pub rowCause : (n k : ℕ) (next answer w : List ℕ) (i : ℕ) → Check

@@ -3,15 +3,13 @@
 use Prim.Native.Nat.{ℕ, _+_, _≤_, _<_}
 use mathlib.Core.Path.{_≡_, refl, sym, ap, ap₂, _∙_}
 use mathlib.Core.Bool.{Bool, true, false, _&&_}
-use mathlib.Core.List.{List, [], _∷_}
+use mathlib.Core.List.{List, []}
 use native.Mathlib.Omega.{arith}
-use native.Mathlib.Numerals.{add-one}
 use lib.Dec.{eqb}
 use lib.ListN.{length, getD, drop, drop-of-length-le}
-use lib.Seq.{drop-cons}
 use borrow.Author.Tests.{eq-eqb, ne-eqb}
 use Rattle.machine.specs.Machine.{Mealy, answers}
-use Rattle.machine.specs.Machine.Laws.{answers-cons, answers-none}
+use Rattle.machine.specs.Machine.Laws.{answers-rest, answers-none}
 use Rattle.machine.specs.Causes.{same}
 
 module _ (M : Mealy) (w : List ℕ) (i j : ℕ) where
@@ -35,9 +33,7 @@ module _ (M : Mealy) (w : List ℕ) (i j : ℕ) where
     rest = same (answers M (M .next s (getD w p 0)) (drop (p + 1) w)) (answers M (M .next t (getD w p 0)) (drop (p + 1) w))
 
     split : p < length w → same (answers M s (drop p w)) (answers M t (drop p w)) ≡ (eqb (M .answer s (getD w p 0)) (M .answer t (getD w p 0)) && rest)
-    split l =
-        ap (λ (x : List ℕ). same (answers M s x) (answers M t x)) (drop-cons w p 0 l ∙ ap (λ (x : ℕ). getD w p 0 ∷ drop x w) (sym (add-one p)))
-        ∙ ap₂ same (answers-cons M s (getD w p 0) (drop (p + 1) w)) (answers-cons M t (getD w p 0) (drop (p + 1) w))
+    split l = ap₂ same (answers-rest M s w p l) (answers-rest M t w p l)
 
     pub alike-differs : p < length w → {x y : ℕ} → x ≡ M .answer s (getD w p 0) → y ≡ M .answer t (getD w p 0) → (x ≡ y → ⊥)
         → false ≡ same (answers M i w) (answers M j w)

@@ -11,8 +11,8 @@ use Rattle.sheet.specs.declared.reader.Needs.{Needs}
 use Rattle.sheet.specs.Check.{refusal_with_if_, _else_, first}
 use Rattle.sheet.specs.Format.{offset}
 use Rattle.sheet.specs.Reader.{sheetCauses, needed, the, content}
-use Rattle.machine.specs.Limits.{mostStates, mostCommands, mostEntries, mostWord}
-use Rattle.machine.specs.Machine.{Mealy, pairAt, machineOf, answers}
+use Rattle.machine.specs.Limits.{mostStates, mostCommands, mostMachine, mostWord}
+use Rattle.machine.specs.Machine.{Mealy, pairAt, machineOf, tabled, answers}
 pub mod Laws
 pub mod Lists
 pub mod Places
@@ -36,6 +36,11 @@ cause4 r p =
     let k = getD p 1 0 in
     first (n * k) (λ e. refusal 4 with offset r (pairAt e) if leb n (getD p (pairAt e) 0))
 
+-- a byte that is the bound or more: the cause at byte from + stride · i of a part that starts at base in the sheet. The code looks for causes 4, 5 and 7
+-- by this one; it is theirs by cause4-is and commands-cause-is, in Causes.Laws
+unfoldable pub byteCause : ℕ → ℕ → List ℕ → ℕ → ℕ → ℕ → ℕ → Check
+byteCause number base p from stride bound i = refusal number with base + (from + stride * i) if leb bound (getD p (from + stride * i) 0)
+
 -- causes 5 and 7: "start of record 2 if the length is outside limits; else offset of the first command k or above"
 unfoldable pub commandsCause : ℕ → ℕ → ℕ → Record → List ℕ → Check
 commandsCause number most k r w =
@@ -53,10 +58,17 @@ same [] (y ∷ ys) = false
 same (x ∷ xs) [] = false
 same (x ∷ xs) (y ∷ ys) = eqb x y && same xs ys
 
--- "word does not separate": "16i+j, least i, then least j above i, whose answers to the word are equal"
+-- whether two states answer a word alike, of a table's two columns; the number of states and the start play no part
+abbrev pub agrees : ℕ → List ℕ → List ℕ → List ℕ → ℕ → ℕ → Bool
+agrees k next answer w i j = same (answers (tabled 0 k 0 next answer) i w) (answers (tabled 0 k 0 next answer) j w)
+
+-- the cause at a pair of states: "16i+j", "j above i, whose answers to the word are equal"
+abbrev pub pairCause : Mealy → List ℕ → ℕ → ℕ → Check
+pairCause M w i j = refusal 6 with 16 * i + j if (ltb i j && same (answers M i w) (answers M j w))
+
+-- "word does not separate": "least i, then least j"
 unfoldable pub cause6 : Mealy → List ℕ → Check
-cause6 M w =
-    first (M .n) (λ i. first (M .n) (λ j. refusal 6 with 16 * i + j if (ltb i j && same (answers M i w) (answers M j w))))
+cause6 M w = first (M .n) (λ i. first (M .n) (pairCause M w i))
 
 -- the machine of a sheet
 unfoldable pub machineIn : List ℕ → Mealy
@@ -65,7 +77,7 @@ machineIn s = machineOf (content 1 s)
 -- the machine that the program holds for any sheet: that of at most as many bytes as the largest machine has. It is the sheet's machine
 -- where cause 3 is absent: held-is, in Causes.Lists
 unfoldable pub held : List ℕ → Mealy
-held s = machineOf (take (2 + 2 * mostEntries) (content 1 s))
+held s = machineOf (take mostMachine (content 1 s))
 
 -- causes 1 to 4, for a service on a machine and the kinds that it needs besides
 unfoldable pub machineCauses : Needs → List ℕ → List Check

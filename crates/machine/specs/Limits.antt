@@ -1,7 +1,8 @@
 -- The limits of the machine record (document 01, "The sheet"). The code names them once, as constants of the type Machine, and
 -- `Machine::limits` shows that both are the same.
-use Prim.Native.Nat.{ℕ, _+_, _*_}
+use Prim.Native.Nat.{ℕ, _+_, _*_, _≤_}
 use mathlib.Core.Path.{_≡_, refl}
+use native.Mathlib.Nat.{mul-le-mul}
 use Rattle.sheet.specs.Format.{longest, header}
 use Rattle.machine.specs.declared.machine.Limits.{Limits}
 
@@ -25,10 +26,18 @@ mostSequence = 20355
 abbrev pub mostEntries : ℕ
 mostEntries = mostStates * mostCommands
 
+-- the most bytes of the machine's payload, "n, k, then n·k pairs"
+abbrev pub mostMachine : ℕ
+mostMachine = 2 + 2 * mostEntries
+
 -- the four together
 abbrev pub limits : Limits
 limits = record { states = mostStates; commands = mostCommands; word = mostWord; sequence = mostSequence }
 
 -- the longest sheet is that of the largest machine, word, sequence and answers
-pub longest-is : longest ≡ header + (2 + 2 * mostEntries) + (header + mostWord) + (header + mostSequence) + (header + mostSequence)
+pub longest-is : longest ≡ (header + mostMachine) + (header + mostWord) + (header + mostSequence) + (header + mostSequence)
 longest-is = refl
+
+-- few states and commands have few entries
+pub entries-few : (n k : ℕ) → n ≤ mostStates → k ≤ mostCommands → n * k ≤ mostEntries
+entries-few n k p q = mul-le-mul {n₁ = n} {m₁ = k} {n₂ = mostStates} {m₂ = mostCommands} p q

@@ -1,4 +1,4 @@
--- What a service that needs the machine begins with: the first refusal of causes 1 to 6, or the machine and where its word stands.
+-- What a service that needs the machine begins with: the first refusal of causes 1 to 6, or the machine.
 use Prim.Native.Nat.{ℕ}
 use mathlib.Core.Path.{_≡_}
 use mathlib.Core.Bool.{true}
@@ -6,7 +6,7 @@ use mathlib.Core.List.{List, List·Memᴰ}
 use Rattle.sheet.specs.declared.check.Check.the-variants.{Clear}
 use Rattle.sheet.specs.declared.reader.Needs.{Needs}
 use Rattle.sheet.specs.Check.{firstCause}
-use Rattle.sheet.specs.Reader.{needed, part, content, Reads}
+use Rattle.sheet.specs.Reader.{needed, content, Reads}
 use Rattle.machine.specs.declared.loading.Loaded.{Loaded}
 use Rattle.machine.specs.Machine.{meaning, Proper, Distinguishes}
 use Rattle.machine.specs.Causes.{machineIn, held, loadCauses}
@@ -15,8 +15,6 @@ use Rattle.machine.specs.Causes.{machineIn, held, loadCauses}
 pub record LoadedFrom (n : Needs) (s : List ℕ) (l : Loaded) : Type 0 where
   -- the first refusal, or Clear
   pub check : l .check ≡ firstCause (loadCauses n s)
-  -- where the word stands
-  pub word : l .word ≡ part 2 s
   -- where nothing is refused: each needed record is read, the machine is the sheet's and within its limits, and a needed word separates
   pub reads : (k : ℕ) → List·Memᴰ k (needed n) → l .check ≡ Clear → Reads k s
   pub machine : l .check ≡ Clear → meaning (l .machine) ≡ machineIn s

@@ -1,5 +1,4 @@
-// Causes 1 to 6 of a sheet, its machine, and where its word stands: what every service on a machine
-// begins with.
+// Causes 1 to 6 of a sheet, and its machine: what every service on a machine begins with.
 ghost use mathlib.Core.Path.{_≡_};
 ghost use Rattle.sheet.specs.Check.{firstCause};
 ghost use Rattle.machine.specs.Machine.{meaning};
@@ -13,20 +12,16 @@ use crate::separation::separation;
 use sheet::Check;
 use sheet::MACHINE_KIND;
 use sheet::Needs;
-use sheet::Part;
 use sheet::WORD_KIND;
 use sheet::checks;
 use sheet::first_of;
-use sheet::part_of;
 use sheet::read;
 use sheet::record_of;
 
-// The first refusal of causes 1 to 6, or clear; the machine; the part of the sheet that holds the
-// word.
+// The first refusal, or clear, and the machine.
 pub struct Loaded {
     pub check: Check,
     pub machine: Machine,
-    pub word: Part,
 }
 
 // Causes 1 to 4.
@@ -81,10 +76,5 @@ pub fn load_sheet(sheet: &[u8], needs: Needs) -> Loaded
 {
     let machine = Machine::load(read(sheet, MACHINE_KIND));
     let check = all_checks(sheet, needs, machine);
-    let word = part_of(sheet, WORD_KIND);
-    Loaded {
-        check,
-        machine,
-        word,
-    }
+    Loaded { check, machine }
 }

@@ -2,7 +2,7 @@
 ghost use mathlib.Core.Path.{_≡_};
 ghost use Prim.Native.Nat.{ℕ, _+_, _*_, _≤_, _<_};
 ghost use lib.ListN.{getD, take};
-ghost use Rattle.machine.specs.Limits.{mostEntries};
+ghost use Rattle.machine.specs.Limits.{mostEntries, mostMachine};
 ghost use Rattle.machine.specs.Limits.{limits as theLimits};
 ghost use Rattle.machine.specs.Machine.{machineOf, meaning};
 use sheet::byte;
@@ -39,7 +39,7 @@ impl Machine {
 
     // The machine of a payload, of which it reads at most as many bytes as the largest machine has.
     pub fn load(p: &[u8]) -> Machine
-        ensures { λ m. ⌜ meaning m ≡ machineOf (take (2 + 2 * mostEntries) (now (p .entry))) ⌝ }
+        ensures { λ m. ⌜ meaning m ≡ machineOf (take mostMachine (now (p .entry))) ⌝ }
     {
         let next = column(p, 2);
         let answer = column(p, 3);

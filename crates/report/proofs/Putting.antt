@@ -1,6 +1,6 @@
--- Pieces of a line put one behind the other, the loop that copies, and a whole line.
+-- Pieces of a line put one behind the other, and a whole line.
 -- Assumes nothing.
-use Prim.Native.Nat.{ℕ, _+_, _≤_}
+use Prim.Native.Nat.{ℕ, _≤_}
 use mathlib.Core.Path.{_≡_, refl, sym, ap, ap₂, subst, _∙_}
 use mathlib.Core.List.{List, [], _∷_, _++_}
 use native.Mathlib.Omega.{arith}
@@ -8,11 +8,12 @@ use native.Mathlib.Nat.{zero-add}
 use lib.ListN.{length, take, drop, length-append}
 use lib.Seq.{paste, paste-zero, length-paste, take-length, length-take-le}
 use Rattle.io.specs.Counts.{Counts}
-use Rattle.sheet.specs.Pasting.{paste-both, Copying, copying-done}
-use Rattle.report.specs.Phrases.{phrase}
+use Rattle.sheet.specs.Pasting.{paste-both}
+use Rattle.report.specs.Phrases.{longestPhrase, phrase}
 use Rattle.report.specs.Phrases.Laws.{phrase-is}
 use Rattle.report.specs.Pieces.{Puts}
-use Rattle.report.specs.Lines.{spaced, Prints}
+use Rattle.report.specs.Lines.{spaced}
+use Rattle.report.specs.Printing.{Prints}
 
 -- nothing
 pub puts-none : (before : List ℕ) (at : ℕ) → at ≤ length before → Puts before at [] before at
@@ -41,8 +42,8 @@ puts-counts {before} {after} {at} {end} xs h =
 
 -- ---- a phrase
 -- the phrase of a number that a text holds at its start
-pub held : {number n s size : ℕ} {bs text : List ℕ} → bs ≡ text → s ≡ size → number ≡ n → take size text ≡ phrase n → size ≤ length text → size ≤ 22
-    → (take s bs ≡ phrase number) × (Counts s bs × (s ≤ 22))
+pub held : {number n s size : ℕ} {bs text : List ℕ} → bs ≡ text → s ≡ size → number ≡ n → take size text ≡ phrase n → size ≤ length text → size ≤ longestPhrase
+    → (take s bs ≡ phrase number) × (Counts s bs × (s ≤ longestPhrase))
 held {number} {n} {s} {size} {bs} {text} e f g h l m =
     let low : s ≤ length bs = omega (arith, f, l, ap length e) in
     (ap₂ (λ (k : ℕ) (xs : List ℕ). take k xs) f e ∙ phrase-is g h, ((low, sym (length-take-le s bs low)), omega (arith, f, m)))
@@ -68,7 +69,3 @@ prints-line {before} {after} {end} line h = record {
 -- the same line
 pub prints-same : {before after line same : List ℕ} {size : ℕ} → same ≡ line → Prints line before after size → Prints same before after size
 prints-same {before} {after} {line} {same} {size} e h = subst (λ (l : List ℕ). Prints l before after size) (sym e) h
-
--- ---- the loop that copies
-pub copying-end : {before : List ℕ} {at : ℕ} {xs now : List ℕ} {i end : ℕ} → Copying before at xs now i → length xs ≤ i → end ≡ at + i → Puts before at xs now end
-copying-end h l e = record { ends = omega (arith, h .inside); inside = omega (arith, h .fits, h .inside); written = copying-done h l }

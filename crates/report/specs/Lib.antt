@@ -2,4 +2,5 @@ pub mod Text
 pub mod Phrases
 pub mod Lines
 pub mod Pieces
+pub mod Printing
 pub mod Sheets

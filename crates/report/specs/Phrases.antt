@@ -21,6 +21,10 @@ phrases =
     ∷ bytes "not certified"
     ∷ []
 
+-- the bytes of the longest phrase
+abbrev pub longestPhrase : ℕ
+longestPhrase = 22
+
 -- "the cause phrase that belongs to the refusal number"; "Numbers above 11, which later requests add, have no phrase", and 0 is no refusal
 unfoldable pub phrase : ℕ → List ℕ
 phrase number = getD ([] ∷ phrases) number []

@@ -17,6 +17,10 @@ abbrev pub lastDigit : Bool → ℕ → (ℕ → List ℕ) → List ℕ
 lastDigit true n front = (48 + n) ∷ []
 lastDigit false n front = front (n / 10) ++ ((48 + n % 10) ∷ [])
 
+-- the most digits of a 64-bit number
+abbrev pub mostDigits : ℕ
+mostDigits = 20
+
 -- a number in decimal, of at most so many digits
 unfoldable pub decimalWithin : ℕ → ℕ → List ℕ
 decimalWithin zero n = []

@@ -1,10 +1,9 @@
 // The output lines. A line stands at the start of the buffer, and its length is answered; later
 // bytes stay as they were.
-ghost use Prim.Native.Nat.{_≤_};
-ghost use lib.ListN.{length};
-ghost use Rattle.report.specs.Lines.{Prints, lineSize, passLine, wrongLine, unfinishedLine, judgeLine, certifiedLine, openLine, certifyLine, refusalLine};
+ghost use Rattle.report.specs.Lines.{passLine, wrongLine, unfinishedLine, judgeLine, certifiedLine, openLine, certifyLine, refusalLine};
+ghost use Rattle.report.specs.Printing.{Prints};
 use crate::pieces::put;
-use crate::pieces::put_counted;
+use crate::pieces::put_labelled;
 use crate::pieces::put_phrase;
 use certify::Answer as Certification;
 use judge::Answer as Judgement;
@@ -12,65 +11,53 @@ use judge::Answer as Judgement;
 // The bytes of a buffer for a line: no line has more.
 pub const LINE: usize = 96;
 
-fn refused(number: u8, place: usize, out: &mut [u8]) -> usize
-    requires { ⌜ lineSize ≤ length (now out) ⌝ }
-    ensures { λ r. ⌜ Prints (refusalLine number place) (now (out .entry)) (now (out .exit)) r ⌝ }
-{
-    let a = put_counted(b"REFUSED ", number as u64, 0, out);
-    let b = put_counted(b" at ", place as u64, a, out);
-    let c = put_phrase(number, b, out);
-    put(b"\n", c, out)
-}
-
-fn passed(size: usize, end: u8, out: &mut [u8]) -> usize
-    requires { ⌜ lineSize ≤ length (now out) ⌝ }
-    ensures { λ r. ⌜ Prints (passLine size end) (now (out .entry)) (now (out .exit)) r ⌝ }
-{
-    let a = put_counted(b"PASS ", size as u64, 0, out);
-    let b = put_counted(b" end ", end as u64, a, out);
-    put(b"\n", b, out)
-}
-
-fn wrong(place: usize, specified: u8, given: u8, out: &mut [u8]) -> usize
-    requires { ⌜ lineSize ≤ length (now out) ⌝ }
-    ensures { λ r. ⌜ Prints (wrongLine place specified given) (now (out .entry)) (now (out .exit)) r ⌝ }
-{
-    let a = put_counted(b"WRONG at ", place as u64, 0, out);
-    let b = put_counted(b" want ", specified as u64, a, out);
-    let c = put_counted(b" got ", given as u64, b, out);
-    put(b"\n", c, out)
-}
-
-fn unfinished(number: usize, out: &mut [u8]) -> usize
-    requires { ⌜ lineSize ≤ length (now out) ⌝ }
-    ensures { λ r. ⌜ Prints (unfinishedLine number) (now (out .entry)) (now (out .exit)) r ⌝ }
-{
-    let a = put_counted(b"UNFINISHED ", number as u64, 0, out);
-    put(b"\n", a, out)
-}
-
-fn certified(recognised: usize, out: &mut [u8]) -> usize
-    requires { ⌜ lineSize ≤ length (now out) ⌝ }
-    ensures { λ r. ⌜ Prints (certifiedLine recognised) (now (out .entry)) (now (out .exit)) r ⌝ }
-{
-    let a = put_counted(b"CERTIFIED ", recognised as u64, 0, out);
-    put(b"\n", a, out)
-}
-
-fn still_open(recognised: usize, number: usize, out: &mut [u8]) -> usize
-    requires { ⌜ lineSize ≤ length (now out) ⌝ }
-    ensures { λ r. ⌜ Prints (openLine recognised number) (now (out .entry)) (now (out .exit)) r ⌝ }
-{
-    let a = put_counted(b"OPEN ", number as u64, 0, out);
-    let b = put_counted(b" recognised ", recognised as u64, a, out);
-    put(b"\n", b, out)
-}
-
 // A refusal: number, place and phrase.
 pub fn refusal_line(number: u8, place: usize, out: &mut [u8; LINE]) -> usize
     ensures { λ r. ⌜ Prints (refusalLine number place) (now (out .entry)) (now (out .exit)) r ⌝ }
 {
-    refused(number, place, out)
+    let a = put_labelled(b"REFUSED ", number as u64, 0, out);
+    let b = put_labelled(b" at ", place as u64, a, out);
+    let c = put_phrase(number, b, out);
+    put(b"\n", c, out)
+}
+
+fn passed(size: usize, end: u8, out: &mut [u8; LINE]) -> usize
+    ensures { λ r. ⌜ Prints (passLine size end) (now (out .entry)) (now (out .exit)) r ⌝ }
+{
+    let a = put_labelled(b"PASS ", size as u64, 0, out);
+    let b = put_labelled(b" end ", end as u64, a, out);
+    put(b"\n", b, out)
+}
+
+fn wrong(place: usize, specified: u8, given: u8, out: &mut [u8; LINE]) -> usize
+    ensures { λ r. ⌜ Prints (wrongLine place specified given) (now (out .entry)) (now (out .exit)) r ⌝ }
+{
+    let a = put_labelled(b"WRONG at ", place as u64, 0, out);
+    let b = put_labelled(b" want ", specified as u64, a, out);
+    let c = put_labelled(b" got ", given as u64, b, out);
+    put(b"\n", c, out)
+}
+
+fn unfinished(number: usize, out: &mut [u8; LINE]) -> usize
+    ensures { λ r. ⌜ Prints (unfinishedLine number) (now (out .entry)) (now (out .exit)) r ⌝ }
+{
+    let a = put_labelled(b"UNFINISHED ", number as u64, 0, out);
+    put(b"\n", a, out)
+}
+
+fn certified(recognised: usize, out: &mut [u8; LINE]) -> usize
+    ensures { λ r. ⌜ Prints (certifiedLine recognised) (now (out .entry)) (now (out .exit)) r ⌝ }
+{
+    let a = put_labelled(b"CERTIFIED ", recognised as u64, 0, out);
+    put(b"\n", a, out)
+}
+
+fn still_open(recognised: usize, number: usize, out: &mut [u8; LINE]) -> usize
+    ensures { λ r. ⌜ Prints (openLine recognised number) (now (out .entry)) (now (out .exit)) r ⌝ }
+{
+    let a = put_labelled(b"OPEN ", number as u64, 0, out);
+    let b = put_labelled(b" recognised ", recognised as u64, a, out);
+    put(b"\n", b, out)
 }
 
 // What judging answers.
@@ -85,7 +72,7 @@ pub fn judge_line(answer: Judgement, out: &mut [u8; LINE]) -> usize
             given,
         } => wrong(place, specified, given, out),
         Judgement::Unfinished { number } => unfinished(number, out),
-        Judgement::Refused { number, place } => refused(number, place, out),
+        Judgement::Refused { number, place } => refusal_line(number, place, out),
     }
 }
 
@@ -96,6 +83,6 @@ pub fn certify_line(answer: Certification, out: &mut [u8; LINE]) -> usize
     match answer {
         Certification::Certified { recognised } => certified(recognised, out),
         Certification::Open { recognised, number } => still_open(recognised, number, out),
-        Certification::Refused { number, place } => refused(number, place, out),
+        Certification::Refused { number, place } => refusal_line(number, place, out),
     }
 }

@@ -4,18 +4,18 @@ ghost use Prim.Native.Nat.{_≤_};
 ghost use mathlib.Core.Path.{_≡_};
 ghost use lib.ListN.{take};
 ghost use Rattle.io.specs.Counts.{Counts};
-ghost use Rattle.report.specs.Phrases.{phrase};
+ghost use Rattle.report.specs.Phrases.{longestPhrase, phrase};
 
 // The bytes of the longest phrase.
-const LONGEST: usize = 22;
+const PHRASE: usize = 22;
 
 pub struct Phrase {
-    pub bytes: [u8; LONGEST],
+    pub bytes: [u8; PHRASE],
     pub size: usize,
 }
 
 // A text with its own length.
-fn text(bytes: [u8; LONGEST], size: usize) -> Phrase
+fn text(bytes: [u8; PHRASE], size: usize) -> Phrase
     ensures { λ r. ⌜ r .bytes ≡ bytes ⌝ }
     ensures { λ r. ⌜ r .size ≡ size ⌝ }
 {
@@ -27,7 +27,7 @@ fn text(bytes: [u8; LONGEST], size: usize) -> Phrase
 pub fn phrase_of(number: u8) -> Phrase
     ensures { λ r. ⌜ take (r .size) (r .bytes) ≡ phrase number ⌝ }
     ensures { λ r. ⌜ Counts (r .size) (r .bytes) ⌝ }
-    ensures { λ r. ⌜ r .size ≤ 22 ⌝ }
+    ensures { λ r. ⌜ r .size ≤ longestPhrase ⌝ }
 {
     match number {
         1 => text(*b"sheet cut or too long ", 21),

@@ -2,8 +2,8 @@
 ghost use Prim.Native.Nat.{_+_, _≤_};
 ghost use mathlib.Core.List.{_++_};
 ghost use lib.ListN.{length};
-ghost use Rattle.report.specs.Text.{decimal};
-ghost use Rattle.report.specs.Phrases.{phrase};
+ghost use Rattle.report.specs.Text.{mostDigits, decimal};
+ghost use Rattle.report.specs.Phrases.{longestPhrase, phrase};
 ghost use Rattle.report.specs.Lines.{spaced};
 ghost use Rattle.report.specs.Pieces.{Puts};
 use crate::phrases::phrase_of;
@@ -16,18 +16,13 @@ pub fn put(text: &[u8], at: usize, out: &mut [u8]) -> usize
     requires { ⌜ at + length (now text) ≤ length (now out) ⌝ }
     ensures { λ r. ⌜ Puts (now (out .entry)) at (now (text .entry)) (now (out .exit)) r ⌝ }
 {
-    let mut i = 0;
-    while i < text.len() {
-        out[at + i] = text[i];
-        i += 1;
-    }
-    at + i
+    sheet::put(text, at, out)
 }
 
 fn put_decimal(n: u64, at: usize, out: &mut [u8]) -> usize
-    requires { ⌜ at + 20 ≤ length (now out) ⌝ }
+    requires { ⌜ at + mostDigits ≤ length (now out) ⌝ }
     ensures { λ r. ⌜ Puts (now (out .entry)) at (decimal n) (now (out .exit)) r ⌝ }
-    ensures { λ r. ⌜ r ≤ at + 20 ⌝ }
+    ensures { λ r. ⌜ r ≤ at + mostDigits ⌝ }
 {
     let mut digits = [0u8; DIGITS];
     let size = io::decimal(n, &mut digits);
@@ -35,10 +30,10 @@ fn put_decimal(n: u64, at: usize, out: &mut [u8]) -> usize
 }
 
 // A text, then a number.
-pub fn put_counted(text: &[u8], n: u64, at: usize, out: &mut [u8]) -> usize
-    requires { ⌜ at + length (now text) + 20 ≤ length (now out) ⌝ }
+pub fn put_labelled(text: &[u8], n: u64, at: usize, out: &mut [u8]) -> usize
+    requires { ⌜ at + length (now text) + mostDigits ≤ length (now out) ⌝ }
     ensures { λ r. ⌜ Puts (now (out .entry)) at (now (text .entry) ++ decimal n) (now (out .exit)) r ⌝ }
-    ensures { λ r. ⌜ r ≤ at + length (now (text .entry)) + 20 ⌝ }
+    ensures { λ r. ⌜ r ≤ at + length (now (text .entry)) + mostDigits ⌝ }
 {
     let next = put(text, at, out);
     put_decimal(n, next, out)
@@ -46,9 +41,9 @@ pub fn put_counted(text: &[u8], n: u64, at: usize, out: &mut [u8]) -> usize
 
 // The phrase of a refusal number with a space before it, or nothing.
 pub fn put_phrase(number: u8, at: usize, out: &mut [u8]) -> usize
-    requires { ⌜ at + 23 ≤ length (now out) ⌝ }
+    requires { ⌜ at + (longestPhrase + 1) ≤ length (now out) ⌝ }
     ensures { λ r. ⌜ Puts (now (out .entry)) at (spaced (phrase number)) (now (out .exit)) r ⌝ }
-    ensures { λ r. ⌜ r ≤ at + 23 ⌝ }
+    ensures { λ r. ⌜ r ≤ at + (longestPhrase + 1) ⌝ }
 {
     let p = phrase_of(number);
     let bytes = p.bytes;

@@ -3,7 +3,8 @@ ghost use Prim.Native.Nat.{_+_};
 ghost use Rattle.machine.specs.Limits.{mostSequence};
 ghost use Rattle.certify.specs.Certification.{certification};
 ghost use Rattle.judge.specs.Judging.{judgement};
-ghost use Rattle.report.specs.Lines.{Prints, judgeLine, certifyLine};
+ghost use Rattle.report.specs.Lines.{judgeLine, certifyLine};
+ghost use Rattle.report.specs.Printing.{Prints};
 use crate::lines::LINE;
 use crate::lines::certify_line;
 use crate::lines::judge_line;
@@ -14,7 +15,7 @@ use sheet::LONGEST;
 
 // The bytes of a buffer for the sheet that is read: one more than the longest sheet has, so that a
 // longer one is seen to be too long.
-pub const ROOM: usize = LONGEST + 1;
+pub const INPUT: usize = LONGEST + 1;
 
 // A mark for each place of the longest sequence.
 const MARKS: usize = Machine::SEQUENCE + 1;

@@ -5,8 +5,8 @@ ghost use lib.ListN.{length};
 ghost use Rattle.machine.specs.Limits.{mostSequence};
 ghost use Rattle.sheet.specs.Format.{longest, end};
 ghost use Rattle.sheet.specs.Reader.{the};
-ghost use Rattle.report.specs.Lines.{Prints};
-ghost use Rattle.report.specs.Sheets.{withSequence, sheetRoom, Makes};
+ghost use Rattle.report.specs.Printing.{Prints};
+ghost use Rattle.report.specs.Sheets.{withSequence, Makes};
 use crate::pieces::put;
 use build::Answer;
 use build::build;
@@ -19,7 +19,7 @@ use sheet::header_of;
 use sheet::record_of;
 
 // The bytes of a buffer for a sheet: no sheet that is made has more.
-pub const SHEET: usize = LONGEST + HEADER + Machine::SEQUENCE;
+pub const BUILT_SHEET: usize = LONGEST + HEADER + Machine::SEQUENCE;
 
 // The length of the sheet that was made, or a refusal's number and place.
 pub enum Made {
@@ -28,11 +28,10 @@ pub enum Made {
 }
 
 // Puts records 1 and 2 and a sequence into a buffer; gives the length of it all.
-fn compose(sheet: &[u8], xs: &[u8], out: &mut [u8]) -> usize
+fn compose(sheet: &[u8], xs: &[u8], out: &mut [u8; BUILT_SHEET]) -> usize
     requires { ⌜ end (the 2 (now sheet)) ≤ length (now sheet) ⌝ }
     requires { ⌜ length (now sheet) ≤ longest ⌝ }
     requires { ⌜ length (now xs) ≤ mostSequence ⌝ }
-    requires { ⌜ sheetRoom ≤ length (now out) ⌝ }
     ensures { λ r. ⌜ Prints (withSequence (now (sheet .entry)) (now (xs .entry))) (now (out .entry)) (now (out .exit)) r ⌝ }
 {
     let word = record_of(sheet, WORD_KIND);
@@ -45,7 +44,7 @@ fn compose(sheet: &[u8], xs: &[u8], out: &mut [u8]) -> usize
 
 // Builds the sequence of a sheet and makes the sheet that carries it. A refusal writes nothing;
 // bytes behind the sheet stay as they were.
-pub fn build_sheet(sheet: &[u8], out: &mut [u8; SHEET]) -> Made
+pub fn build_sheet(sheet: &[u8], out: &mut [u8; BUILT_SHEET]) -> Made
     ensures { λ r. ⌜ Makes (now (sheet .entry)) (now (out .entry)) (now (out .exit)) r ⌝ }
 {
     let mut sequence = [0u8; Machine::SEQUENCE];

@@ -4,6 +4,11 @@ ghost use Rattle.certify.specs.Certification.Places.{Fits};
 ghost use Rattle.rig.specs.Result.{packed};
 use certify::Values;
 
+// What one of class (2^40) and of place (2^16) counts in the number.
+const CLASS: u64 = 1_099_511_627_776;
+
+const PLACE: u64 = 65_536;
+
 // Class, place, a and b, each in its own bits.
 pub fn pack(v: Values) -> u64
     requires { ⌜ Fits v ⌝ }
@@ -13,5 +18,5 @@ pub fn pack(v: Values) -> u64
     let place = v.place as u64;
     let a = v.a as u64;
     let b = v.b as u64;
-    class * 1099511627776 + place * 65536 + a * 256 + b
+    class * CLASS + place * PLACE + a * 256 + b
 }

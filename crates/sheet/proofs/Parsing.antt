@@ -1,7 +1,7 @@
 -- What the loop of `parse` keeps at its head, and how each way through a turn keeps it.
 -- Assumes nothing.
 use Prim.Native.Nat.{ℕ, _+_, _≤_, _<_}
-use mathlib.Core.Path.{_≡_, refl, sym, ap, _∙_, subst₃}
+use mathlib.Core.Path.{_≡_, sym, ap, _∙_, subst₃}
 use mathlib.Core.List.{List}
 use native.Mathlib.Omega.{arith}
 use lib.ListN.{length}
@@ -11,8 +11,8 @@ use Rattle.sheet.specs.declared.record.Found.{Found}
 use Rattle.sheet.specs.declared.record.Found.the-variants.{Missing}
 use Rattle.sheet.specs.declared.record.Record.{Record}
 use Rattle.sheet.specs.declared.record.Kind.{Kind}
-use Rattle.sheet.specs.Format.{recordAt, kindOf, rank, end, causeAt, Parsed, ended, _before_, parse, parsed, ofKind, _or_, find}
-use Rattle.sheet.specs.Format.Laws.{rankAt, end-is, clear-inside, parse-end, parse-stopped, parse-record, or-missing, missing-or, or-assoc, find-none, find-cons}
+use Rattle.sheet.specs.Format.{header, recordAt, kindOf, rank, rankAt, end, causeAt, Parsed, ended, _before_, parse, parsed, ofKind, _or_, find}
+use Rattle.sheet.specs.Format.Laws.{end-is, clear-inside, parsed-is, parse-end, parse-stopped, parse-record, or-missing, missing-or, or-assoc, find-none, find-cons}
 
 pub record Head (s : List ℕ) (k at last : ℕ) (found : Found) : Type 0 where
   pub inside : at ≤ length s
@@ -25,8 +25,11 @@ pub record Answer (s : List ℕ) (k : ℕ) (c : Check) (found : Found) : Type 0 
   pub finds : found ≡ find k (parsed s .records)
 
 pub head-start : (s : List ℕ) (k : ℕ) → Head s k 0 0 Missing
-unfolding parsed
-head-start s k = record { inside = omega arith; stop = refl; finds = missing-or (find k (parse s 0 0 .records)) }
+head-start s k = record {
+  inside = omega arith;
+  stop = ap (λ (w : Parsed). w .stop) (sym (parsed-is s));
+  finds = missing-or (find k (parse s 0 0 .records)) ∙ ap (λ (w : Parsed). find k (w .records)) (sym (parsed-is s));
+}
 
 module _ {s : List ℕ} {k at last : ℕ} {found : Found} (h : Head s k at last found) where
   answer : (w : Parsed) → parse s at last ≡ w → find k (w .records) ≡ Missing → Answer s k (w .stop) found
@@ -67,10 +70,10 @@ pub record Turn (s : List ℕ) (k at last : ℕ) (found : Found) (r : Record) (g
 
 module _ {s : List ℕ} {k at last : ℕ} {found : Found} {r : Record} {g f : Found} {kd : Kind} {rk : ℕ}
     (h : Head s k at last found) (t : Turn s k at last found r g f kd rk) where
-  pub turn-inside : at + 6 + r .size ≤ length s
+  pub turn-inside : at + header + r .size ≤ length s
   turn-inside = omega (arith, clear-inside s at last (t .clear), end-is s at r (t .reads))
 
-  pub turn-next : Head s k (at + 6 + r .size) rk f
+  pub turn-next : Head s k (at + header + r .size) rk f
   turn-next =
       subst₃ (λ (a b : ℕ) (x : Found). Head s k a b x) (end-is s at r (t .reads))
       (ap (λ (x : Record). rank (kindOf (x .kind))) (sym (t .reads)) ∙ ap rank (sym (t .decodes)) ∙ sym (t .ranks))

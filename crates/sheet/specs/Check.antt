@@ -1,4 +1,4 @@
--- Checks and the order in which their causes count (document 01, "Causes, in the order they are checked").
+-- Checks, the order in which their causes count, and what a refusal leaves (document 01, "Causes, in the order they are checked").
 -- A check is Clear, or Refused with the refusal's number and its place. The laws stand in Check.Laws, bounds on places in Check.Places.
 use Prim.Native.Nat.{ℕ, zero, suc}
 use mathlib.Core.Bool.{Bool, true, false}
@@ -29,3 +29,15 @@ firstCause (c ∷ cs) = c else firstCause cs
 unfoldable pub first : ℕ → (ℕ → Check) → Check
 first zero f = Clear
 first (suc n) f = first n f else f n
+
+-- ---- what a refusal leaves, for every service that answers and writes
+-- the service's answer, or, where something is refused, its own answer of refused with "the number, the place"
+abbrev pub refusedOr : {A : Type 0} → (ℕ → ℕ → A) → Check → A → A
+refusedOr refused Clear answer = answer
+refusedOr refused (Refused number place) answer = refused number place
+
+-- the lent buffer: "a refusal other than judging's 11 writes nothing". It holds what the service writes, or, where something is refused, what was
+-- there before
+abbrev pub unlessRefused : Check → List ℕ → List ℕ → List ℕ
+unlessRefused Clear after before = after
+unlessRefused (Refused number place) after before = before

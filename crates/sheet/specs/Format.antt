@@ -52,24 +52,28 @@ rank Word = 2
 rank Sequence = 3
 rank Answers = 4
 
+-- the rank of the record at a place
+abbrev pub rankAt : List ℕ → ℕ → ℕ
+rankAt s at = rank (kindOf (recordAt s at .kind))
+
 -- cause 1 at a record: its "header or payload runs past the end"
 unfoldable pub cause1 : List ℕ → ℕ → Check
 cause1 s at = refusal 1 with at if (ltb (length s) (at + header) || ltb (length s) (end (recordAt s at)))
 
 -- cause 2 at a record: its "kind is not 1 to 4 or not above the one before"
 unfoldable pub cause2 : List ℕ → ℕ → ℕ → Check
-cause2 s at last = refusal 2 with at if leb (rank (kindOf (recordAt s at .kind))) last
+cause2 s at last = refusal 2 with at if leb (rankAt s at) last
 
 -- "checks 1 and 2 go record by record from the front, 1 before 2 at each"
 unfoldable pub causeAt : List ℕ → ℕ → ℕ → Check
 causeAt s at last = cause1 s at else cause2 s at last
 
--- the records from the front that are in order, and what stopped the reading: Clear at the sheet's end
+-- the records from the front that are in order, and what stopped the parsing: Clear at the sheet's end
 pub record Parsed : Type 0 where
   pub records : List Record
   pub stop : Check
 
--- nothing more is read
+-- nothing more is parsed
 abbrev pub ended : Check → Parsed
 ended c = record { records = []; stop = c }
 
@@ -78,18 +82,18 @@ infixr 15 _before_
 abbrev pub _before_ : Record → Parsed → Parsed
 r before w = record { records = r ∷ w .records; stop = w .stop }
 
--- one step of the reading: at the sheet's end it ends, at a cause it stops, else a record and what follows it
+-- one step of the parsing: at the sheet's end it ends, at a cause it stops, else a record and what follows it
 unfoldable pub onward : Bool → Check → Record → Parsed → Parsed
 onward false c r w = ended Clear
 onward true (Refused n p) r w = ended (Refused n p)
 onward true Clear r w = r before w
 
--- the reading from a place on, last being the rank of the record before. The first number bounds the steps, for the recursion; parse-end
+-- the parsing from a place on, last being the rank of the record before. The first number bounds the steps, for the recursion; parse-end
 -- and parse-on, in Format.Laws, are the equations of parse without it
 unfoldable pub parseFrom : ℕ → List ℕ → ℕ → ℕ → Parsed
 parseFrom zero s at last = ended Clear
 parseFrom (suc f) s at last =
-    let w : Parsed = parseFrom f s (end (recordAt s at)) (rank (kindOf (recordAt s at .kind))) in
+    let w : Parsed = parseFrom f s (end (recordAt s at)) (rankAt s at) in
     onward (ltb at (length s)) (causeAt s at last) (recordAt s at) w
 
 -- a record takes at least its header, so as many steps as there are bytes left are enough

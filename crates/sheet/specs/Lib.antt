@@ -1,3 +1,4 @@
+pub mod Tests
 pub mod Check
 pub mod Format
 pub mod Reader

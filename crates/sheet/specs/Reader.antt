@@ -41,6 +41,10 @@ unfoldable pub when : Bool → ℕ → List ℕ
 when true k = k ∷ []
 when false k = []
 
+-- cause 2 for a kind that may be needed
+unfoldable pub whenMissing : List ℕ → ℕ → Bool → Check
+whenMissing s k b = firstCause (map (missing s) (when b k))
+
 -- the kinds that a service on a machine needs: kind 1 always, the others as it says
 unfoldable pub needed : Needs → List ℕ
 needed n = 1 ∷ (when (n .word) 2 ++ (when (n .sequence) 3 ++ when (n .answers) 4))

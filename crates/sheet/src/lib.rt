@@ -1,4 +1,5 @@
-// The byte format of a sheet: records, kinds, checks 1 and 2, the reader, and a record's header.
+// The byte format of a sheet: records, kinds, checks 1 and 2, the reader, a record's header, and
+// bytes put into a buffer.
 mod check;
 mod parse;
 mod reader;
@@ -24,3 +25,4 @@ pub use record::SEQUENCE_KIND;
 pub use record::WORD_KIND;
 pub use record::byte;
 pub use writing::header_of;
+pub use writing::put;

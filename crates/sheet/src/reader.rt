@@ -4,9 +4,8 @@ ghost use Prim.Native.Nat.{_+_, _≤_};
 ghost use lib.ListN.{length};
 ghost use Rattle.sheet.specs.Check.{firstCause};
 ghost use Rattle.sheet.specs.Format.{parsed, find};
-ghost use Rattle.sheet.specs.Reader.{tooLong, isMissing, sheetCauses, needed, refusalOf, seen, handed};
+ghost use Rattle.sheet.specs.Reader.{tooLong, isMissing, whenMissing, sheetCauses, needed, refusalOf, seen, handed};
 ghost use Rattle.sheet.specs.Reader.{part as partOf, the as theOf};
-ghost use Rattle.sheet.specs.Reader.Laws.{whenMissing};
 use crate::check::Check;
 use crate::check::first_of;
 use crate::check::refuse;
@@ -52,7 +51,7 @@ fn is_missing(found: Found) -> bool
 }
 
 // Checks 1 and 2 of reading a kind, from what the parse found: length, records, wanted kind.
-fn outcome(sheet: &[u8], kind: u16, w: Parsed) -> Check
+fn refusal_by(sheet: &[u8], kind: u16, w: Parsed) -> Check
     requires { ⌜ (w .stop ≡ parsed (now sheet) .stop) × (w .found ≡ find kind (parsed (now sheet) .records)) ⌝ }
     ensures { λ r. ⌜ r ≡ refusalOf kind (now (sheet .entry)) ⌝ }
 {
@@ -68,7 +67,7 @@ pub fn refusal(sheet: &[u8], kind: u16) -> Check
     ensures { λ r. ⌜ r ≡ refusalOf kind (now (sheet .entry)) ⌝ }
 {
     let w = parse(sheet, kind);
-    outcome(sheet, kind, w)
+    refusal_by(sheet, kind, w)
 }
 
 // Cause 2 for a kind that may be needed.
@@ -114,7 +113,7 @@ pub fn part_of(sheet: &[u8], kind: u16) -> Part
 {
     let w = parse(sheet, kind);
     let found = w.found;
-    let check = outcome(sheet, kind, w);
+    let check = refusal_by(sheet, kind, w);
     let empty = Part { from: 0, size: 0 };
     match check {
         Check::Clear => match found {

@@ -5,10 +5,12 @@ use Prim.Native.Nat.{ℕ, _≤_}
 use mathlib.Core.Path.{_≡_}
 use mathlib.Core.List.{List, [], _∷_, _++_}
 use lib.ListN.{length, drop}
+use Rattle.sheet.specs.Writing.{headerOf}
 use Rattle.certify.specs.declared.answer.Answer.the-variants.{Certified, Open, Refused as NotCertified}
 use Rattle.certify.specs.Certification.{certification}
 use Rattle.build.specs.declared.service.Answer.the-variants.{Built, Refused as NotBuilt}
 use Rattle.build.specs.Building.{building, bufferAfter}
+use Rattle.judge.specs.declared.answer.Answer.{Answer}
 use Rattle.judge.specs.declared.answer.Answer.the-variants.{Pass, Wrong, Unfinished, Refused as NotJudged}
 use Rattle.judge.specs.Judging.{judgement}
 use Rattle.report.specs.Text.{bytes}
@@ -16,75 +18,76 @@ use Rattle.report.specs.Lines.{judgeLine}
 pub mod Shown
 
 -- ---- the sheets
--- a record of fewer than 256 bytes: "4 bytes payload length, 2 bytes kind, both little-endian, then the payload"
+-- a record: "4 bytes payload length, 2 bytes kind, both little-endian, then the payload"
 abbrev pub recordOf : ℕ → List ℕ → List ℕ
-recordOf kind payload = length payload ∷ 0 ∷ 0 ∷ 0 ∷ kind ∷ 0 ∷ payload
+recordOf kind payload = headerOf kind (length payload) ++ payload
 
--- machine and word, with a sequence, and with answers besides
+-- a table and a word, with a sequence, and with answers besides
 abbrev pub unitSheet : List ℕ → List ℕ → List ℕ
-unitSheet machine word = recordOf 1 machine ++ recordOf 2 word
+unitSheet table word = recordOf 1 table ++ recordOf 2 word
 
 abbrev pub sequenceSheet : List ℕ → List ℕ → List ℕ → List ℕ
-sequenceSheet machine word xs = unitSheet machine word ++ recordOf 3 xs
+sequenceSheet table word xs = unitSheet table word ++ recordOf 3 xs
 
 abbrev pub answersSheet : List ℕ → List ℕ → List ℕ → List ℕ → List ℕ
-answersSheet machine word xs ys = sequenceSheet machine word xs ++ recordOf 4 ys
+answersSheet table word xs ys = sequenceSheet table word xs ++ recordOf 4 ys
 
--- "The twin: n=2, k=2, word 0; state 0: 1/0, 0/5; state 1: 0/1, 1/5"
-abbrev pub twin : List ℕ
-twin = 2 ∷ 2 ∷ 1 ∷ 0 ∷ 0 ∷ 5 ∷ 0 ∷ 1 ∷ 1 ∷ 5 ∷ []
+-- the payload of record 1. "The twin: n=2, k=2, word 0; state 0: 1/0, 0/5; state 1: 0/1, 1/5"
+abbrev pub twinTable : List ℕ
+twinTable = 2 ∷ 2 ∷ 1 ∷ 0 ∷ 0 ∷ 5 ∷ 0 ∷ 1 ∷ 1 ∷ 5 ∷ []
 
 -- the same with "Entry (1, 0) leading to 1"
-abbrev pub disconnectedTwin : List ℕ
-disconnectedTwin = 2 ∷ 2 ∷ 1 ∷ 0 ∷ 0 ∷ 5 ∷ 1 ∷ 1 ∷ 1 ∷ 5 ∷ []
+abbrev pub disconnectedTable : List ℕ
+disconnectedTable = 2 ∷ 2 ∷ 1 ∷ 0 ∷ 0 ∷ 5 ∷ 1 ∷ 1 ∷ 1 ∷ 5 ∷ []
 
 -- "n=1, k=1, .. any answer"
-abbrev pub single : ℕ → List ℕ
-single answer = 1 ∷ 1 ∷ 0 ∷ answer ∷ []
+abbrev pub singleTable : ℕ → List ℕ
+singleTable answer = 1 ∷ 1 ∷ 0 ∷ answer ∷ []
 
 -- "Built: 0 0 0 0 0 0 1 0 0 0 1 0"
 abbrev pub builtTwin : List ℕ
 builtTwin = 0 ∷ 0 ∷ 0 ∷ 0 ∷ 0 ∷ 0 ∷ 1 ∷ 0 ∷ 0 ∷ 0 ∷ 1 ∷ 0 ∷ []
 
--- the twin's sheet with a sequence, and the built one's with answers
-abbrev pub twinSheet : List ℕ → List ℕ
-twinSheet xs = sequenceSheet twin (0 ∷ []) xs
+-- the twin's sheet with a sequence, and with answers to the built one
+abbrev pub twinWith : List ℕ → List ℕ
+twinWith xs = sequenceSheet twinTable (0 ∷ []) xs
 
-abbrev pub judgedSheet : List ℕ → List ℕ
-judgedSheet ys = answersSheet twin (0 ∷ []) builtTwin ys
+abbrev pub twinAnswered : List ℕ → List ℕ
+twinAnswered ys = answersSheet twinTable (0 ∷ []) builtTwin ys
+
+-- what judging answers to a sheet, and the line for it
+abbrev pub JudgedAs : ℕ → List ℕ → Answer → List ℕ → Type 0
+JudgedAs room s a line = (judgement room s ≡ a) × (judgeLine (judgement room s) ≡ line)
 
 -- ---- the collection
 pub record Starred : Type 0 where
   -- "Built: 0 0 0 0 0 0 1 0 0 0 1 0; certified, 13."
-  pub built : (room : ℕ) → 12 ≤ room → building room (unitSheet twin (0 ∷ [])) ≡ Built 12
-  pub built-bytes : (buffer : List ℕ) → 12 ≤ length buffer → bufferAfter (unitSheet twin (0 ∷ [])) buffer ≡ builtTwin ++ drop 12 buffer
-  pub built-certified : (room : ℕ) → 13 ≤ room → certification room (twinSheet builtTwin) ≡ Certified 13
+  pub built : (room : ℕ) → 12 ≤ room → building room (unitSheet twinTable (0 ∷ [])) ≡ Built 12
+  pub built-bytes : (buffer : List ℕ) → 12 ≤ length buffer → bufferAfter (unitSheet twinTable (0 ∷ [])) buffer ≡ builtTwin ++ drop 12 buffer
+  pub built-certified : (room : ℕ) → 13 ≤ room → certification room (twinWith builtTwin) ≡ Certified 13
   -- "0 0 1 0 1 0: open 2, 5 recognised." "0 0 1 0 1 0 0: certified, 8."
-  pub each-other : (room : ℕ) → 7 ≤ room → certification room (twinSheet (0 ∷ 0 ∷ 1 ∷ 0 ∷ 1 ∷ 0 ∷ [])) ≡ Open 5 2
-  pub longer : (room : ℕ) → 8 ≤ room → certification room (twinSheet (0 ∷ 0 ∷ 1 ∷ 0 ∷ 1 ∷ 0 ∷ 0 ∷ [])) ≡ Certified 8
+  pub each-other : (room : ℕ) → 7 ≤ room → certification room (twinWith (0 ∷ 0 ∷ 1 ∷ 0 ∷ 1 ∷ 0 ∷ [])) ≡ Open 5 2
+  pub longer : (room : ℕ) → 8 ≤ room → certification room (twinWith (0 ∷ 0 ∷ 1 ∷ 0 ∷ 1 ∷ 0 ∷ 0 ∷ [])) ≡ Certified 8
   -- "0: open 1, 1 recognised." "1 0 0: open 0, 2 recognised." "0 0 0: open 2, 4 recognised."
-  pub one : (room : ℕ) → 2 ≤ room → certification room (twinSheet (0 ∷ [])) ≡ Open 1 1
-  pub late : (room : ℕ) → 4 ≤ room → certification room (twinSheet (1 ∷ 0 ∷ 0 ∷ [])) ≡ Open 2 0
-  pub three : (room : ℕ) → 4 ≤ room → certification room (twinSheet (0 ∷ 0 ∷ 0 ∷ [])) ≡ Open 4 2
+  pub one : (room : ℕ) → 2 ≤ room → certification room (twinWith (0 ∷ [])) ≡ Open 1 1
+  pub late : (room : ℕ) → 4 ≤ room → certification room (twinWith (1 ∷ 0 ∷ 0 ∷ [])) ≡ Open 2 0
+  pub three : (room : ℕ) → 4 ≤ room → certification room (twinWith (0 ∷ 0 ∷ 0 ∷ [])) ≡ Open 4 2
   -- "Built sequence, answers 0 1 0 1 0 1 5 0 1 0 5 1: `PASS 12 end 0`."
-  pub passes : (room : ℕ) → 13 ≤ room → judgement room (judgedSheet (0 ∷ 1 ∷ 0 ∷ 1 ∷ 0 ∷ 1 ∷ 5 ∷ 0 ∷ 1 ∷ 0 ∷ 5 ∷ 1 ∷ [])) ≡ Pass 12 0
-  pub passes-line : judgeLine (Pass 12 0) ≡ bytes "PASS 12 end 0\n"
+  pub passes : (room : ℕ) → 13 ≤ room → JudgedAs room (twinAnswered (0 ∷ 1 ∷ 0 ∷ 1 ∷ 0 ∷ 1 ∷ 5 ∷ 0 ∷ 1 ∷ 0 ∷ 5 ∷ 1 ∷ [])) (Pass 12 0) (bytes "PASS 12 end 0\n")
   -- "The same with 6 at place 6: `WRONG at 6 want 5 got 6`." "First four only: `UNFINISHED 4`."
-  pub wrong-at : (room : ℕ) → 13 ≤ room → judgement room (judgedSheet (0 ∷ 1 ∷ 0 ∷ 1 ∷ 0 ∷ 1 ∷ 6 ∷ 0 ∷ 1 ∷ 0 ∷ 5 ∷ 1 ∷ [])) ≡ Wrong 6 5 6
-  pub wrong-line : judgeLine (Wrong 6 5 6) ≡ bytes "WRONG at 6 want 5 got 6\n"
-  pub unfinished-run : (room : ℕ) → 13 ≤ room → judgement room (judgedSheet (0 ∷ 1 ∷ 0 ∷ 1 ∷ [])) ≡ Unfinished 4
-  pub unfinished-line : judgeLine (Unfinished 4) ≡ bytes "UNFINISHED 4\n"
+  pub wrong-at : (room : ℕ) → 13 ≤ room → JudgedAs room (twinAnswered (0 ∷ 1 ∷ 0 ∷ 1 ∷ 0 ∷ 1 ∷ 6 ∷ 0 ∷ 1 ∷ 0 ∷ 5 ∷ 1 ∷ [])) (Wrong 6 5 6) (bytes "WRONG at 6 want 5 got 6\n")
+  pub unfinished-run : (room : ℕ) → 13 ≤ room → JudgedAs room (twinAnswered (0 ∷ 1 ∷ 0 ∷ 1 ∷ [])) (Unfinished 4) (bytes "UNFINISHED 4\n")
   -- "Thirteen answers: refusal 10 at 41."
   pub too-many : (room : ℕ) → 13 ≤ room → (a b c d e f g h i j k l m : ℕ)
-      → judgement room (judgedSheet (a ∷ b ∷ c ∷ d ∷ e ∷ f ∷ g ∷ h ∷ i ∷ j ∷ k ∷ l ∷ m ∷ [])) ≡ NotJudged 10 41
+      → judgement room (twinAnswered (a ∷ b ∷ c ∷ d ∷ e ∷ f ∷ g ∷ h ∷ i ∷ j ∷ k ∷ l ∷ m ∷ [])) ≡ NotJudged 10 41
   -- "Word 1: refusal 6 at 1."
-  pub no-separation-built : (room : ℕ) → building room (unitSheet twin (1 ∷ [])) ≡ NotBuilt 6 1
-  pub no-separation-certified : (room : ℕ) → certification room (sequenceSheet twin (1 ∷ []) builtTwin) ≡ NotCertified 6 1
-  pub no-separation-judged : (room : ℕ) → judgement room (answersSheet twin (1 ∷ []) builtTwin (0 ∷ [])) ≡ NotJudged 6 1
+  pub no-separation-built : (room : ℕ) → building room (unitSheet twinTable (1 ∷ [])) ≡ NotBuilt 6 1
+  pub no-separation-certified : (room : ℕ) → certification room (sequenceSheet twinTable (1 ∷ []) builtTwin) ≡ NotCertified 6 1
+  pub no-separation-judged : (room : ℕ) → judgement room (answersSheet twinTable (1 ∷ []) builtTwin (0 ∷ [])) ≡ NotJudged 6 1
   -- "Entry (1, 0) leading to 1: building refuses 8 at 1."
-  pub not-connected : (room : ℕ) → building room (unitSheet disconnectedTwin (0 ∷ [])) ≡ NotBuilt 8 1
+  pub not-connected : (room : ℕ) → building room (unitSheet disconnectedTable (0 ∷ [])) ≡ NotBuilt 8 1
   -- "n=1, k=1, word 0, any answer: built 0 0 0 0; 0 0 is certified, 0 is open 1."
-  pub single-built : (answer room : ℕ) → 4 ≤ room → building room (unitSheet (single answer) (0 ∷ [])) ≡ Built 4
-  pub single-bytes : (answer : ℕ) (buffer : List ℕ) → 4 ≤ length buffer → bufferAfter (unitSheet (single answer) (0 ∷ [])) buffer ≡ (0 ∷ 0 ∷ 0 ∷ 0 ∷ []) ++ drop 4 buffer
-  pub single-pair : (answer room : ℕ) → 3 ≤ room → certification room (sequenceSheet (single answer) (0 ∷ []) (0 ∷ 0 ∷ [])) ≡ Certified 3
-  pub single-short : (answer room : ℕ) → 2 ≤ room → certification room (sequenceSheet (single answer) (0 ∷ []) (0 ∷ [])) ≡ Open 1 1
+  pub single-built : (answer room : ℕ) → 4 ≤ room → building room (unitSheet (singleTable answer) (0 ∷ [])) ≡ Built 4
+  pub single-bytes : (answer : ℕ) (buffer : List ℕ) → 4 ≤ length buffer → bufferAfter (unitSheet (singleTable answer) (0 ∷ [])) buffer ≡ (0 ∷ 0 ∷ 0 ∷ 0 ∷ []) ++ drop 4 buffer
+  pub single-pair : (answer room : ℕ) → 3 ≤ room → certification room (sequenceSheet (singleTable answer) (0 ∷ []) (0 ∷ 0 ∷ [])) ≡ Certified 3
+  pub single-short : (answer room : ℕ) → 2 ≤ room → certification room (sequenceSheet (singleTable answer) (0 ∷ []) (0 ∷ [])) ≡ Open 1 1

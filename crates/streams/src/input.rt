@@ -1,9 +1,12 @@
-// Standard input, read to its end. What the bytes are no contract can say; it says how many count.
-ghost use Prim.Native.Nat.{_≤_};
+// Standard input, read to its end or until the buffer is full. What the bytes are no contract can
+// say; it says how many count.
+ghost use Prim.Native.Nat.{ℕ, _≤_};
 ghost use mathlib.Core.Path.{_≡_};
 ghost use lib.ListN.{length};
-ghost use Rattle.streams.specs.declared.input.Input.the-variants.{Failed as FailedInput};
-ghost use Rattle.streams.specs.Input.{Within, Reached, stepAfter};
+ghost use Rattle.io.specs.Counts.{Counts};
+ghost use Rattle.streams.specs.declared.input.Input.the-variants.{Read, Failed as FailedInput};
+ghost use Rattle.streams.specs.declared.input.Step.the-variants.{More};
+ghost use Rattle.streams.specs.Input.{stepAfter};
 use libc::EINTR;
 use libc::STDIN_FILENO;
 
@@ -41,7 +44,7 @@ fn step_after(moved: bool, ended: bool, interrupted: bool, size: usize, next: us
 // decides only where the read failed.
 fn read_more(buf: &mut [u8], size: usize) -> Step
     requires { ⌜ size ≤ length (now buf) ⌝ }
-    ensures { λ r. ⌜ Reached r (now (buf .exit)) ⌝ }
+    ensures { λ r. ⌜ ((count : ℕ) → r ≡ More count → Counts count (now (buf .exit))) ⌝ }
 {
     let rest = &mut buf[size..];
     let got = libc::read(STDIN_FILENO, rest);
@@ -62,7 +65,7 @@ fn failed() -> Input
 // it takes sees that an input is too long. Nothing behind that is read. A proved loop has to end,
 // so it counts its turns down, from a number that no run uses up; using it up would be a failure.
 pub fn read_input(buf: &mut [u8]) -> Input
-    ensures { λ r. ⌜ Within r (now (buf .exit)) ⌝ }
+    ensures { λ r. ⌜ ((count : ℕ) → r ≡ Read count → Counts count (now (buf .exit))) ⌝ }
 {
     let mut size = 0;
     let mut turns = u64::MAX;

@@ -1,5 +1,5 @@
-// Standard input read to its end, and bytes written, for the programs. A failure is told on standard
-// error.
+// Standard input read to its end or until the buffer is full, and bytes written, for the programs. A
+// failure is told on standard error.
 mod input;
 mod output;
 

@@ -1,7 +1,6 @@
--- `bench_build::answer` meets its contract: what was made is within the buffer.
+-- `bench_build::answer` has no contract: it ends and keeps within its buffer, since what was made is within it.
 -- Assumes nothing.
 use borrow.Author.Needs.{needs}
-use Rattle.report.specs.Sheets.Laws.{made-counts}
 use Rattle.bench_build.proofs.answer.Statement.{statement}
 use Rattle.bench_build.proofs.answer.Tie as tie
 
@@ -13,13 +12,11 @@ enum-known-made c = search needs
 
 array-share-prefix-out : tie.Need-array-share-prefix-out
 array-share-prefix-out c =
-    let bytes = made-counts _ (c .before .made .given .1) (c .before .before .before .build-sheet .ensures) in
-    bytes .0
+    c .before .before .before .build-sheet .ensures .within _ (c .before .made .given .1) .0
 
 slice-aggregate-write-output : tie.Need-slice-aggregate-write-output
 slice-aggregate-write-output c =
-    let bytes = made-counts _ (c .before .before .made .given .1) (c .before .before .before .before .build-sheet .ensures) in
-    bytes .1
+    c .before .before .before .before .build-sheet .ensures .within _ (c .before .before .made .given .1) .1
 
 write-output-requires : tie.Need-write-output-requires
 write-output-requires c κs = search needs

@@ -1,7 +1,6 @@
--- `bench_certify::main` meets its contract: what was read is within the buffer.
+-- `bench_certify::main` has no contract: it ends and keeps within its buffer, since what was read is within it.
 -- Assumes nothing.
 use borrow.Author.Needs.{needs}
-use Rattle.streams.specs.Input.Laws.{read-counts}
 use Rattle.bench_certify.proofs.main.Statement.{statement}
 use Rattle.bench_certify.proofs.main.Tie as tie
 
@@ -16,13 +15,11 @@ enum-known-input c = search needs
 
 array-share-prefix-sheet : tie.Need-array-share-prefix-sheet
 array-share-prefix-sheet c =
-    let bytes = read-counts _ (c .before .input .given .1) (c .before .before .before .before .read-input .ensures) in
-    bytes .0
+    c .before .before .before .before .read-input .ensures _ (c .before .input .given .1) .0
 
 slice-aggregate-answer : tie.Need-slice-aggregate-answer
 slice-aggregate-answer c =
-    let bytes = read-counts _ (c .before .before .input .given .1) (c .before .before .before .before .before .read-input .ensures) in
-    bytes .1
+    c .before .before .before .before .before .read-input .ensures _ (c .before .before .input .given .1) .1
 
 answer-requires : tie.Need-answer-requires
 answer-requires c κs = search needs

@@ -1,37 +1,36 @@
 -- The laws of the service: its answer and the lent buffer by the first cause; it succeeds exactly on what is buildable; and what an answer of
 -- built shows of the sequence.
-use Prim.Native.Nat.{ℕ, _+_, _-_, _≤_, _<_}
+use Prim.Native.Nat.{ℕ, _-_, _≤_, _<_}
 use mathlib.Core.Path.{_≡_, refl, sym, ap, _∙_}
 use mathlib.Core.Bool.{true}
-use mathlib.Core.List.{List, [], _∷_, _++_}
+use mathlib.Core.List.{List, [], _∷_}
 use native.Mathlib.Omega.{arith}
-use borrow.Author.Tests.{ltb-true, ltb-false, le-ltb}
-use lib.Dec.{ltb}
 use lib.ListN.{length, take, drop}
 use lib.Seq.{take-append-seam, drop-append-seam}
 use Rattle.sheet.specs.declared.check.Check.{Check}
 use Rattle.sheet.specs.declared.check.Check.the-variants.{Clear, Refused}
-use Rattle.sheet.specs.Check.{_else_, firstCause}
-use Rattle.sheet.specs.Check.Laws.{absent, clear-absent, present-test, both-clear, else-clear, else-refused, cause-cons, cause-one, cause-append}
+use Rattle.sheet.specs.Check.{_else_, firstCause, refusedOr}
+use Rattle.sheet.specs.Check.Laws.{both-clear, else-clear, else-refused, cause-two, cause-append}
 use Rattle.sheet.specs.Reader.{the, content}
+use Rattle.sheet.specs.Writing.{written}
 use Rattle.machine.specs.Limits.{mostWord, mostSequence}
 use Rattle.machine.specs.Machine.{Mealy, run, Proper, Commands}
 use Rattle.machine.specs.Causes.{cause6, machineIn, wordCauses, loadCauses}
 use Rattle.machine.specs.Causes.Laws.{clear-commands}
 use Rattle.machine.specs.Causes.Separation.{separates-clear}
-use Rattle.machine.specs.Causes.Lists.{word-causes-are, load-causes-are, machine-proper, clear-table, word-distinguishes}
+use Rattle.machine.specs.Causes.Lists.{word-causes-are, load-causes-are, machine-proper, load-proper, clear-table, word-distinguishes}
 use Rattle.certify.specs.declared.answer.Answer.the-variants.{Certified as CertifiedAnswer}
 use Rattle.certify.specs.Recognition.{Certified}
 use Rattle.certify.specs.Marks.{count, marks}
 use Rattle.certify.specs.Certification.{certifyNeeds, cause9, certifyCauses, outcome, certification}
-use Rattle.certify.specs.Certification.Laws.{cause9-is, certified-clear, outcome-clear, certification-clear}
+use Rattle.certify.specs.Certification.Laws.{room-clear, clear-room, room-refused, certified-clear, outcome-clear, certification-clear}
 use Rattle.build.specs.declared.service.Answer.the-variants.{Built, Refused as RefusedAnswer}
 use Rattle.build.specs.Sequence.{following, sequence, lengthBound}
 use Rattle.build.specs.Sequence.Laws.{Blocks, sequence-leads}
 use Rattle.build.specs.Sequence.Certified.{sequence-some, sequence-certified}
 use Rattle.build.specs.Sequence.Length.{sequence-length, sequence-low, longest-below}
-use Rattle.build.specs.Building.{buildNeeds, cause8, buildCauses, builtUnless, building, bufferAfter, Buildable}
-use Rattle.build.specs.Building.Laws.{clear-blocks, clear-connected, connected-clear, NotConnected, refused-unconnected}
+use Rattle.build.specs.Building.{buildNeeds, cause8, buildCauses, building, bufferAfter, Buildable}
+use Rattle.build.specs.Building.Connection.{clear-blocks, clear-connected, connected-clear, NotConnected, refused-unconnected}
 
 -- ---- the causes in order
 pub build-causes-are : (room : ℕ) (s : List ℕ) → firstCause (buildCauses room s)
@@ -41,7 +40,7 @@ build-causes-are room s =
     let eight = cause8 (machineIn s) (content 2 s) in
     let nine = cause9 room (length (sequence (machineIn s) (content 2 s))) in
     cause-append (loadCauses buildNeeds s) (eight ∷ nine ∷ [])
-    ∙ ap (λ (c : Check). firstCause (loadCauses buildNeeds s) else c) (cause-cons eight (nine ∷ []) ∙ ap (λ (c : Check). eight else c) (cause-one nine))
+    ∙ ap (λ (c : Check). firstCause (loadCauses buildNeeds s) else c) (cause-two eight nine)
 
 module _ (room : ℕ) (s : List ℕ) where
   -- the first cause is one of 1 to 6
@@ -68,9 +67,7 @@ module _ (room : ℕ) (s : List ℕ) where
     eight-clear = both-clear _ _ (parts-clear .1) .0
 
     pub room-enough : length (sequence (machineIn s) (content 2 s)) ≤ room
-    room-enough =
-        let n = length (sequence (machineIn s) (content 2 s)) in
-        ltb-false room n (clear-absent 9 n (ltb room n) (cause9-is room n ∙ both-clear _ _ (parts-clear .1) .1))
+    room-enough = clear-room _ _ (both-clear _ _ (parts-clear .1) .1)
 
   -- ---- the answer and the buffer
   pub building-refused : {a b : ℕ} → firstCause (buildCauses room s) ≡ Refused a b → building room s ≡ RefusedAnswer a b
@@ -81,11 +78,11 @@ module _ (room : ℕ) (s : List ℕ) where
   unfolding building
   building-clear e = rw e
 
-  built-by : (c : Check) (m : ℕ) {n : ℕ} → builtUnless c m ≡ Built n → (c ≡ Clear) × (n ≡ m)
+  built-by : (c : Check) (m : ℕ) {n : ℕ} → refusedOr RefusedAnswer c (Built m) ≡ Built n → (c ≡ Clear) × (n ≡ m)
   built-by Clear m e = (refl, cc)
   built-by (Refused a b) m e = let z : _≡_ {A = ℕ} 0 1 = cc in absurd (omega arith)
 
-  refused-by : (c : Check) (m : ℕ) {a b : ℕ} → builtUnless c m ≡ RefusedAnswer a b → c ≡ Refused a b
+  refused-by : (c : Check) (m : ℕ) {a b : ℕ} → refusedOr RefusedAnswer c (Built m) ≡ RefusedAnswer a b → c ≡ Refused a b
   refused-by Clear m e = let z : _≡_ {A = ℕ} 0 1 = cc in absurd (omega arith)
   refused-by (Refused a b) m e = cc
 
@@ -105,7 +102,7 @@ module _ (s buffer : List ℕ) where
   buffer-refused e = rw e
 
   pub buffer-clear : firstCause (buildCauses (length buffer) s) ≡ Clear
-      → bufferAfter s buffer ≡ sequence (machineIn s) (content 2 s) ++ drop (length (sequence (machineIn s) (content 2 s))) buffer
+      → bufferAfter s buffer ≡ written (sequence (machineIn s) (content 2 s)) buffer
   unfolding bufferAfter
   buffer-clear e = rw e
 
@@ -114,14 +111,13 @@ module _ (room : ℕ) (s : List ℕ) where
   pub clear-buildable : firstCause (buildCauses room s) ≡ Clear → Buildable room s
   clear-buildable e =
       let load = load-clear room s e in
-      let table = clear-table buildNeeds s load in
       let word : firstCause (wordCauses true s) ≡ Clear = both-clear _ _ (sym (load-causes-are buildNeeds s) ∙ load) .1 in
       let d = word-distinguishes buildNeeds s refl load in
       record {
-        machine = table;
+        machine = clear-table buildNeeds s load;
         word = both-clear _ _ (sym (word-causes-are s) ∙ word) .0;
         separates = d .separates;
-        connected = clear-connected (machineIn s) (content 2 s) (machine-proper buildNeeds s table) (d .commands) (eight-clear room s e);
+        connected = clear-connected (machineIn s) (content 2 s) (load-proper buildNeeds s load) (d .commands) (eight-clear room s e);
         fits = room-enough room s e;
       }
 
@@ -132,7 +128,7 @@ module _ (room : ℕ) (s : List ℕ) where
       let load : firstCause (loadCauses buildNeeds s) ≡ Clear = load-causes-are buildNeeds s ∙ (rw (h .machine, word) (else-clear Clear)) in
       let commands : Commands mostWord (machineIn s .k) (content 2 s) = clear-commands 5 mostWord (machineIn s .k) (the 2 s) (content 2 s) (h .word) in
       let eight = connected-clear (machineIn s) (content 2 s) (machine-proper buildNeeds s (h .machine)) commands (h .connected) in
-      room-cause room s load eight ∙ sym (cause9-is room (length (sequence (machineIn s) (content 2 s)))) ∙ absent 9 _ (le-ltb _ _ (h .fits))
+      room-cause room s load eight ∙ room-clear _ _ (h .fits)
 
   pub built-buildable : {n : ℕ} → building room s ≡ Built n → Buildable room s
   built-buildable e = clear-buildable (answer-built room s e .0)
@@ -161,16 +157,14 @@ pub data RefusedFor (room : ℕ) (s : List ℕ) (a b : ℕ) : Type 0 where
 module _ (room : ℕ) (s : List ℕ) where
   narrow-by : {a b : ℕ} → cause9 room (length (sequence (machineIn s) (content 2 s))) ≡ Refused a b → RefusedFor room s a b
   narrow-by {a} {b} e =
-      let n = length (sequence (machineIn s) (content 2 s)) in
-      let t = present-test 9 n (ltb room n) (cause9-is room n ∙ e) in
-      let above : room < n = ltb-true room n (t .0) in
-      narrow (t .1 .0) (t .1 .1) (omega (arith, t .1 .1))
+      let t = room-refused _ _ e in
+      narrow (t .0) (t .1 .0) (omega (arith, t .1))
 
   why : {a b : ℕ} → Which (firstCause (loadCauses buildNeeds s)) (cause8 (machineIn s) (content 2 s)) (cause9 room (length (sequence (machineIn s) (content 2 s)))) a b
       → RefusedFor room s a b
   why (one e) = early e
   why (two l e) =
-      let proper = machine-proper buildNeeds s (clear-table buildNeeds s l) in
+      let proper = load-proper buildNeeds s l in
       let r = refused-unconnected (machineIn s) (content 2 s) proper (word-distinguishes buildNeeds s refl l .commands) e in
       unconnected (r .0) (r .1)
   why (three l c e) = narrow-by e
@@ -211,10 +205,9 @@ sequence-built M w proper commands clear =
 pub always-fits : (room : ℕ) (s : List ℕ) → mostSequence ≤ room → firstCause (loadCauses buildNeeds s) ≡ Clear → cause8 (machineIn s) (content 2 s) ≡ Clear
     → firstCause (buildCauses room s) ≡ Clear
 always-fits room s l load eight =
-    let proper = machine-proper buildNeeds s (clear-table buildNeeds s load) in
+    let proper = load-proper buildNeeds s load in
     let xs = sequence-built (machineIn s) (content 2 s) proper (word-distinguishes buildNeeds s refl load .commands) eight in
-    let n = length (sequence (machineIn s) (content 2 s)) in
-    room-cause room s load eight ∙ sym (cause9-is room n) ∙ absent 9 n (le-ltb room n (omega (arith, xs .commands .few)))
+    room-cause room s load eight ∙ room-clear _ _ (omega (arith, xs .commands .few))
 
 -- an answer of built shows all that of the sequence
 pub built-shows : (room : ℕ) (s : List ℕ) {n : ℕ} → building room s ≡ Built n → BuiltSequence (machineIn s) (content 2 s) (sequence (machineIn s) (content 2 s)) n
@@ -222,7 +215,7 @@ built-shows room s e =
     let a = answer-built room s e in
     let load = load-clear room s (a .0) in
     let d = word-distinguishes buildNeeds s refl load in
-    rw (a .1) (sequence-built (machineIn s) (content 2 s) (machine-proper buildNeeds s (clear-table buildNeeds s load)) (d .commands) (eight-clear room s (a .0)))
+    rw (a .1) (sequence-built (machineIn s) (content 2 s) (load-proper buildNeeds s load) (d .commands) (eight-clear room s (a .0)))
 
 -- and of the buffer: its first bytes are the sequence, the later ones as they were
 pub built-buffer : (s buffer : List ℕ) {n : ℕ} → building (length buffer) s ≡ Built n

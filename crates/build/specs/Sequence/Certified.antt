@@ -11,14 +11,14 @@ use borrow.Author.Tests.{eqb-true, eqb-false}
 use lib.Dec.{eqb}
 use lib.ListN.{length, getD, take, drop, length-append}
 use lib.Seq.{take-append-seam, drop-append-seam, getD-append-seam}
+use borrow.Author.Count.{below-more}
 use Rattle.machine.specs.Machine.{Mealy, run, stateAt}
 use Rattle.machine.specs.Machine.Laws.{run-none, run-append, run-cons, state-split}
-use Rattle.machine.specs.Numbers.{below-more}
 use Rattle.certify.specs.Recognition.{Stands, Recognised, Verified, Certified}
 use Rattle.certify.specs.Recognition.Laws.{by-rule1, by-rule2}
-use Rattle.build.specs.Sequence.{following, T, nthState, round, opening, approach, test, stateTests, tests, sequence}
+use Rattle.build.specs.Sequence.{following, T, nthState, firstBlocks, opening, approach, test, stateTests, tests, sequence}
 use Rattle.build.specs.Sequence.Cycle.{following-below, gap, gap-below, nthState-next, nthState-at, nthState-below, nthState-start}
-use Rattle.build.specs.Sequence.Laws.{Blocks, round-none, round-more, test-is, approach-none, approach-here, approach-on, approach-reaches, round-leads, opening-is, state-tests-none, state-tests-more, tests-none, tests-more, sequence-is}
+use Rattle.build.specs.Sequence.Laws.{Blocks, first-blocks-none, first-blocks-more, test-is, approach-none, approach-here, approach-on, approach-reaches, first-blocks-lead, opening-is, state-tests-none, state-tests-more, tests-none, tests-more, sequence-is}
 
 module _ (M : Mealy) (w : List ℕ) (h : Blocks M w) where
   -- ---- what is found in a beginning of the sequence, and stays in it when more follows
@@ -67,17 +67,17 @@ module _ (M : Mealy) (w : List ℕ) (h : Blocks M w) where
   }
 
   -- ---- the opening
-  split-round : (i j : ℕ) → (after : List ℕ) × (round M w (suc (suc i) + j) ≡ round M w i ++ (T M w (nthState M i) ++ (T M w (nthState M (suc i)) ++ after)))
-  split-round i zero = ([], rw (add-zero, round-more M w (suc i), round-more M w i, append-nil, append-assoc))
-  split-round i (suc j) =
-      let o = split-round i j in
-      (o .0 ++ T M w (nthState M (suc (suc i) + j)), rw (add-suc, round-more M w (suc (suc i) + j), o .1, append-assoc, append-assoc, append-assoc))
+  split-blocks : (i j : ℕ) → (after : List ℕ) × (firstBlocks M w (suc (suc i) + j) ≡ firstBlocks M w i ++ (T M w (nthState M i) ++ (T M w (nthState M (suc i)) ++ after)))
+  split-blocks i zero = ([], rw (add-zero, first-blocks-more M w (suc i), first-blocks-more M w i, append-nil, append-assoc))
+  split-blocks i (suc j) =
+      let o = split-blocks i j in
+      (o .0 ++ T M w (nthState M (suc (suc i) + j)), rw (add-suc, first-blocks-more M w (suc (suc i) + j), o .1, append-assoc, append-assoc, append-assoc))
 
-  opening-split : (i : ℕ) → i < M .n → (after : List ℕ) × (opening M w ≡ round M w i ++ (T M w (nthState M i) ++ (T M w (nthState M (suc i)) ++ after)))
+  opening-split : (i : ℕ) → i < M .n → (after : List ℕ) × (opening M w ≡ firstBlocks M w i ++ (T M w (nthState M i) ++ (T M w (nthState M (suc i)) ++ after)))
   opening-split i l =
-      let o = split-round i (M .n - suc i) in
+      let o = split-blocks i (M .n - suc i) in
       let e : suc (M .n) ≡ suc (suc i) + (M .n - suc i) = omega arith in
-      (o .0, opening-is M w h ∙ ap (round M w) e ∙ o .1)
+      (o .0, opening-is M w h ∙ ap (firstBlocks M w) e ∙ o .1)
 
   opening-opened : (s : ℕ) → s < M .n → Opened (opening M w) s
   opening-opened s sl =
@@ -85,25 +85,25 @@ module _ (M : Mealy) (w : List ℕ) (h : Blocks M w) where
       let at : nthState M i ≡ s = nthState-at M (h .proper) s sl in
       let o = opening-split i (gap-below (M .n) (M .start) s (h .proper .starts) sl) in
       record {
-        before = round M w i;
+        before = firstBlocks M w i;
         after = o .0;
-        split = o .1 ∙ ap₂ (λ (x y : ℕ). round M w i ++ (T M w x ++ (T M w y ++ o .0))) at (nthState-next M (h .proper) i ∙ ap (following (M .n)) at);
-        state = round-leads M w h i ∙ at;
+        split = o .1 ∙ ap₂ (λ (x y : ℕ). firstBlocks M w i ++ (T M w x ++ (T M w y ++ o .0))) at (nthState-next M (h .proper) i ∙ ap (following (M .n)) at);
+        state = first-blocks-lead M w h i ∙ at;
       }
 
   opening-begins : (after : List ℕ) × (opening M w ≡ T M w (M .start) ++ after)
   opening-begins =
       let o = opening-split 0 (h .proper .some-states) in
       let after = T M w (nthState M 1) ++ o .0 in
-      (after, o .1 ∙ ap₂ (λ (xs : List ℕ) (s : ℕ). xs ++ (T M w s ++ after)) (round-none M w) (nthState-start M (h .proper)))
+      (after, o .1 ∙ ap₂ (λ (xs : List ℕ) (s : ℕ). xs ++ (T M w s ++ after)) (first-blocks-none M w) (nthState-start M (h .proper)))
 
   opening-ended : Ended (opening M w)
   opening-ended = record {
-    before = round M w (M .n);
+    before = firstBlocks M w (M .n);
     last = nthState M (M .n);
     low = nthState-below M (h .proper) (M .n);
-    split = opening-is M w h ∙ round-more M w (M .n);
-    state = round-leads M w h (M .n);
+    split = opening-is M w h ∙ first-blocks-more M w (M .n);
+    state = first-blocks-lead M w h (M .n);
   }
 
   -- ---- the tests

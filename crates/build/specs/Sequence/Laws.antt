@@ -1,15 +1,16 @@
 -- The laws of the prescribed sequence: where each part of it leads.
-use Prim.Native.Nat.{ℕ, zero, suc, _+_, _-_, _≤_, _<_}
+use Prim.Native.Nat.{ℕ, zero, suc, _-_, _≤_, _<_}
 use mathlib.Core.Path.{_≡_, refl, sym, ap, _∙_}
 use mathlib.Core.Bool.{Bool, true, false}
 use mathlib.Core.List.{List, [], _∷_, _++_}
+use mathlib.Core.Option.{Option·getD}
 use native.Mathlib.Omega.{arith}
 use borrow.Author.Tests.{eq-eqb, ne-eqb, eqb-true, eqb-false}
 use lib.Dec.{eqb}
 use lib.ListN.{length, getD}
 use Rattle.machine.specs.Machine.{Mealy, run, Proper}
 use Rattle.machine.specs.Machine.Laws.{run-none, run-append, run-cons}
-use Rattle.build.specs.Sequence.{following, B, orEmpty, T, nthState, round, opening, approach, test, stateTests, tests, sequence, blockBound}
+use Rattle.build.specs.Sequence.{following, B, T, nthState, firstBlocks, opening, approach, test, stateTests, tests, sequence, blockBound}
 use Rattle.build.specs.Sequence.Cycle.{following-below, gap, gap-below, gap-none, gap-step, nthState-below, nthState-home}
 
 -- what the blocks T(s) have where every transfer is there: each leads to the state after its own, begins with the word, is of the machine's
@@ -24,17 +25,17 @@ pub record Blocks (M : Mealy) (w : List ℕ) : Type 0 where
 
 -- ---- one more of each part
 module _ (M : Mealy) (w : List ℕ) where
-  pub T-is : (s : ℕ) → T M w s ≡ w ++ orEmpty (B M w s)
+  pub T-is : (s : ℕ) → T M w s ≡ w ++ Option·getD (B M w s) []
   unfolding T
   T-is s = refl
 
-  pub round-none : round M w 0 ≡ []
-  unfolding round
-  round-none = refl
+  pub first-blocks-none : firstBlocks M w 0 ≡ []
+  unfolding firstBlocks
+  first-blocks-none = refl
 
-  pub round-more : (i : ℕ) → round M w (suc i) ≡ round M w i ++ T M w (nthState M i)
-  unfolding round
-  round-more i = refl
+  pub first-blocks-more : (i : ℕ) → firstBlocks M w (suc i) ≡ firstBlocks M w i ++ T M w (nthState M i)
+  unfolding firstBlocks
+  first-blocks-more i = refl
 
   pub state-tests-none : (p s : ℕ) → stateTests M w p s 0 ≡ []
   unfolding stateTests
@@ -132,21 +133,21 @@ module _ (M : Mealy) (w : List ℕ) (h : Blocks M w) where
   approach-reaches p s pl sl = let g = gap-below (M .n) p s pl sl in reaches (M .n) p s pl sl (omega arith)
 
   -- ---- the opening
-  pub round-leads : (i : ℕ) → run M (M .start) (round M w i) ≡ nthState M i
-  unfolding round nthState
-  round-leads zero = run-none M (M .start)
-  round-leads (suc i) =
-      run-append M (M .start) (round M w i) (T M w (nthState M i))
-      ∙ ap (λ (x : ℕ). run M x (T M w (nthState M i))) (round-leads i)
+  pub first-blocks-lead : (i : ℕ) → run M (M .start) (firstBlocks M w i) ≡ nthState M i
+  unfolding firstBlocks nthState
+  first-blocks-lead zero = run-none M (M .start)
+  first-blocks-lead (suc i) =
+      run-append M (M .start) (firstBlocks M w i) (T M w (nthState M i))
+      ∙ ap (λ (x : ℕ). run M x (T M w (nthState M i))) (first-blocks-lead i)
       ∙ h .leads (nthState M i) (nthState-below M (h .proper) i)
 
-  pub opening-is : opening M w ≡ round M w (suc (M .n))
-  unfolding opening round
-  opening-is = ap (λ (x : ℕ). round M w (M .n) ++ T M w x) (sym (nthState-home M (h .proper)))
+  pub opening-is : opening M w ≡ firstBlocks M w (suc (M .n))
+  unfolding opening firstBlocks
+  opening-is = ap (λ (x : ℕ). firstBlocks M w (M .n) ++ T M w x) (sym (nthState-home M (h .proper)))
 
   pub opening-leads : run M (M .start) (opening M w) ≡ following (M .n) (M .start)
   unfolding nthState
-  opening-leads = ap (run M (M .start)) opening-is ∙ round-leads (suc (M .n)) ∙ ap (following (M .n)) (nthState-home M (h .proper))
+  opening-leads = ap (run M (M .start)) opening-is ∙ first-blocks-lead (suc (M .n)) ∙ ap (following (M .n)) (nthState-home M (h .proper))
 
   -- ---- the tests
   -- a test leads to the state after the one that the entry leads to

@@ -1,6 +1,6 @@
 -- The commands of the prescribed sequence are the machine's, and its length is within document 01's formula, so never above the limit of a
 -- sequence. M is the machine, w the word.
-use Prim.Native.Nat.{ℕ, zero, suc, _+_, _-_, _*_, _≤_, _<_}
+use Prim.Native.Nat.{ℕ, zero, suc, _+_, _*_, _≤_, _<_}
 use mathlib.Core.Path.{_≡_, refl}
 use mathlib.Core.Bool.{Bool, true, false}
 use mathlib.Core.List.{List, [], _∷_, _++_}
@@ -12,11 +12,10 @@ use lib.Dec.{eqb}
 use lib.ListN.{length, getD, length-append}
 use Rattle.machine.specs.Limits.{mostStates, mostEntries, mostWord, mostSequence}
 use Rattle.machine.specs.Machine.{Mealy, run, Proper}
-use Rattle.machine.specs.Machine.Laws.{run-none, run-append, low-append}
-use Rattle.machine.specs.Causes.Laws.{proper-entries}
-use Rattle.build.specs.Sequence.{following, T, nthState, round, opening, approach, test, stateTests, tests, sequence, blockBound, lengthBound}
+use Rattle.machine.specs.Machine.Laws.{run-none, run-append, low-append, proper-entries}
+use Rattle.build.specs.Sequence.{following, T, nthState, firstBlocks, opening, approach, test, stateTests, tests, sequence, blockBound, mostBlock, lengthBound}
 use Rattle.build.specs.Sequence.Cycle.{following-below, gap, gap-below, gap-step, nthState-below}
-use Rattle.build.specs.Sequence.Laws.{Blocks, test-is, approach-none, approach-here, approach-step, opening-is, opening-leads, round-none, round-more, test-stays, state-tests-none, state-tests-more, tests-none, tests-more, sequence-is}
+use Rattle.build.specs.Sequence.Laws.{Blocks, test-is, approach-none, approach-here, approach-step, opening-is, opening-leads, first-blocks-none, first-blocks-more, test-stays, state-tests-none, state-tests-more, tests-none, tests-more, sequence-is}
 
 -- ---- lists of commands below k and of at most m commands
 record Short (k m : ℕ) (xs : List ℕ) : Type 0 where
@@ -44,12 +43,12 @@ module _ (M : Mealy) (w : List ℕ) (h : Blocks M w) where
   unfolding block
   block-short s sl = record { low = h .low s sl; few = h .short s sl }
 
-  round-short : (i : ℕ) → Short (M .k) (i * block) (round M w i)
-  round-short zero = rw zero-mul (short-none (M .k) (round-none M w))
-  round-short (suc i) = rw (suc-mul, round-more M w i) (short-append (round M w i) (T M w (nthState M i)) (round-short i) (block-short (nthState M i) (nthState-below M (h .proper) i)))
+  first-blocks-short : (i : ℕ) → Short (M .k) (i * block) (firstBlocks M w i)
+  first-blocks-short zero = rw zero-mul (short-none (M .k) (first-blocks-none M w))
+  first-blocks-short (suc i) = rw (suc-mul, first-blocks-more M w i) (short-append (firstBlocks M w i) (T M w (nthState M i)) (first-blocks-short i) (block-short (nthState M i) (nthState-below M (h .proper) i)))
 
   opening-short : Short (M .k) ((M .n + 1) * block) (opening M w)
-  opening-short = rw (opening-is M w h, add-one) (round-short (suc (M .n)))
+  opening-short = rw (opening-is M w h, add-one) (first-blocks-short (suc (M .n)))
 
   -- at most one block for each state of the gap
   approach-by : (i p s : ℕ) → p < M .n → (b : Bool) → eqb p s ≡ b → {g : ℕ} → ((p ≡ s → ⊥) → (d : ℕ) × (g ≡ suc d) × Short (M .k) (d * block) (approach M w i (following (M .n) p) s))
@@ -143,16 +142,26 @@ module _ (M : Mealy) (w : List ℕ) (h : Blocks M w) where
   pub sequence-low : (i : ℕ) → i < length (sequence M w) → getD (sequence M w) i 0 < M .k
   sequence-low = sequence-short .low
 
--- "so never above 20,355"
-pub longest-below : (M : Mealy) (w : List ℕ) → Proper M → length w ≤ mostWord → lengthBound M w ≤ mostSequence
-unfolding lengthBound
-longest-below M w proper few =
-    let c : ℕ = blockBound M w in
-    let most : ℕ = mostWord + mostStates - 1 in
-    let cl : c ≤ most = omega (arith, proper .few-states) in
-    let opens : (M .n + 1) * c ≤ (mostStates + 1) * most = mul-le-mul {n₁ = M .n + 1} {m₁ = c} {n₂ = mostStates + 1} {m₂ = most} (omega (arith, proper .few-states)) cl in
-    let blocks : M .n * c ≤ mostStates * most = mul-le-mul {n₁ = M .n} {m₁ = c} {n₂ = mostStates} {m₂ = most} (proper .few-states) cl in
-    let entries : M .n * M .k ≤ mostEntries = proper-entries M proper in
-    let tested : M .n * M .k * (M .n * c + 1) ≤ mostEntries * (mostStates * most + 1) =
-    mul-le-mul {n₁ = M .n * M .k} {m₁ = M .n * c + 1} {n₂ = mostEntries} {m₂ = mostStates * most + 1} entries (omega arith) in
-    omega arith
+-- ---- on a machine and a word within the limits
+module _ (M : Mealy) (w : List ℕ) (proper : Proper M) (few : length w ≤ mostWord) where
+  -- a block
+  pub block-few : blockBound M w ≤ mostBlock
+  block-few = omega (arith, proper .few-states)
+
+  -- so many blocks
+  pub blocks-few : (i most : ℕ) → i ≤ most → i * blockBound M w ≤ most * mostBlock
+  blocks-few i most l = mul-le-mul {n₁ = i} {m₁ = blockBound M w} {n₂ = most} {m₂ = mostBlock} l block-few
+
+  -- so many tests
+  pub tests-few : (i most : ℕ) → i ≤ most → i * (M .n * blockBound M w + 1) ≤ most * (mostStates * mostBlock + 1)
+  tests-few i most l =
+      mul-le-mul {n₁ = i} {m₁ = M .n * blockBound M w + 1} {n₂ = most} {m₂ = mostStates * mostBlock + 1} l
+      (omega (arith, blocks-few (M .n) mostStates (proper .few-states)))
+
+  -- "so never above 20,355"
+  pub longest-below : lengthBound M w ≤ mostSequence
+  unfolding lengthBound
+  longest-below =
+      let opens = blocks-few (M .n + 1) (mostStates + 1) (omega (arith, proper .few-states)) in
+      let tested = tests-few (M .n * M .k) mostEntries (proper-entries M proper) in
+      omega arith

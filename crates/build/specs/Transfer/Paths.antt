@@ -3,16 +3,16 @@ use Prim.Native.Nat.{ℕ, zero, suc, _≤_, _<_}
 use mathlib.Core.Path.{_≡_, refl, sym, ap, _∙_}
 use mathlib.Core.Bool.{Bool, true, false, _&&_}
 use mathlib.Core.List.{List, [], _∷_}
-use mathlib.Core.Option.{Option, none, some}
+use mathlib.Core.Option.{Option, none, some, Option·map, Option·some-ne-none, mem-unique, map-eq-none-iff, map-eq-some-iff, orElse}
 use native.Mathlib.Omega.{arith}
 use lib.Dec.{ltb, eqb}
 use lib.ListN.{length, getD}
 use borrow.Author.Tests.{ltb-true, eqb-true, lt-ltb, le-ltb, eq-eqb}
-use Rattle.sheet.specs.Check.Laws.{both-true}
+use borrow.Author.Count.{below-more}
+use Rattle.sheet.specs.Tests.{both-true}
 use Rattle.machine.specs.Machine.{Mealy, Proper}
-use Rattle.machine.specs.Numbers.{below-more}
 use Rattle.machine.specs.Machine.Laws.{run-none, run-cons}
-use Rattle.build.specs.Transfer.{Leads, guard, orElse, firstOf, prefixed, firstPath}
+use Rattle.build.specs.Transfer.{Leads, guard, firstOf, firstPath}
 
 -- ---- a string or none
 -- there is a string
@@ -21,11 +21,7 @@ Some o = (t : List ℕ) × (o ≡ some t)
 
 -- a string is not none
 pub some-none : {o : Option (List ℕ)} {t : List ℕ} → o ≡ some t → o ≡ none → ⊥
-some-none p q = let z : _≡_ {A = ℕ} 0 1 = cc in omega arith
-
--- there is one string at most
-pub some-same : {o : Option (List ℕ)} {t u : List ℕ} → o ≡ some t → o ≡ some u → t ≡ u
-some-same p q = cc
+some-none {t = t} p q = Option·some-ne-none t (sym p ∙ q)
 
 -- a string or none
 pub data Seen (o : Option (List ℕ)) : Type 0 where
@@ -68,7 +64,7 @@ first-some n f {t} e = go (first n f)
   where
     go : First n f (firstOf n f) → Least n f t
     go (nowhere h q) = absurd (some-none e q)
-    go (at m u l p h q) = record { m = m; low = l; found = p ∙ ap some (some-same q e); passed = h }
+    go (at m u l p h q) = record { m = m; low = l; found = p ∙ ap some (mem-unique q e); passed = h }
 
 -- it finds the least
 pub least-first : (n : ℕ) (f : ℕ → Option (List ℕ)) {t : List ℕ} → Least n f t → firstOf n f ≡ some t
@@ -80,7 +76,7 @@ least-first n f {t} k = go (first n f)
         let below : m < k .m → ⊥ = λ z. some-none p (k .passed m z) in
         let above : k .m < m → ⊥ = λ z. some-none (k .found) (h (k .m) z) in
         let e : m ≡ k .m = omega arith in
-        q ∙ ap some (some-same (rw e at p) (k .found))
+        q ∙ ap some (mem-unique (rw e at p) (k .found))
 
 -- where f m is a string, a string is found
 pub some-first : (n : ℕ) (f : ℕ → Option (List ℕ)) (m : ℕ) {t : List ℕ} → m < n → f m ≡ some t → Some (firstOf n f)
@@ -98,7 +94,7 @@ none-first n f h = go (first n f)
     go (nowhere k q) = q
     go (at m u l p k q) = absurd (some-none p (h m l))
 
--- ---- a string under a test, and with a command in front
+-- ---- a string under a test
 -- where a test gives a string it holds
 pub guard-some : (b : Bool) (o : Option (List ℕ)) {t : List ℕ} → guard b o ≡ some t → (b ≡ true) × (o ≡ some t)
 unfolding guard
@@ -121,28 +117,6 @@ unfolding guard
 guard-none true e = e
 guard-none false e = refl
 
--- a string with a command in front comes from a string
-pub prefixed-some : (c : ℕ) (o : Option (List ℕ)) {t : List ℕ} → prefixed c o ≡ some t → (u : List ℕ) × (o ≡ some u) × (t ≡ c ∷ u)
-unfolding prefixed
-prefixed-some c none e = let z : _≡_ {A = ℕ} 0 1 = cc in absurd (omega arith)
-prefixed-some c (some u) e = (u, refl, cc)
-
--- a string gets the command in front
-pub some-prefixed : (c : ℕ) {o : Option (List ℕ)} {u : List ℕ} → o ≡ some u → prefixed c o ≡ some (c ∷ u)
-unfolding prefixed
-some-prefixed c e = rw e
-
--- none stays none
-pub none-prefixed : (c : ℕ) {o : Option (List ℕ)} → o ≡ none → prefixed c o ≡ none
-unfolding prefixed
-none-prefixed c e = rw e
-
--- and comes from none
-pub prefixed-none : (c : ℕ) (o : Option (List ℕ)) → prefixed c o ≡ none → o ≡ none
-unfolding prefixed
-prefixed-none c none e = refl
-prefixed-none c (some u) e = let z : _≡_ {A = ℕ} 0 1 = cc in absurd (omega arith)
-
 -- ---- paths
 module _ (M : Mealy) (b : ℕ) where
   -- a path of no command stays at the state b
@@ -151,7 +125,7 @@ module _ (M : Mealy) (b : ℕ) where
   path-zero a {t} e =
       let g = guard-some (ltb a (M .n) && eqb a b) (some []) e in
       let h = both-true (ltb a (M .n)) (eqb a b) (g .0) in
-      (ltb-true a (M .n) (h .0), eqb-true a b (h .1), some-same (g .1) refl)
+      (ltb-true a (M .n) (h .0), eqb-true a b (h .1), mem-unique (g .1) refl)
 
   -- from b there is one of no command
   pub path-here : (a : ℕ) → a ≡ b → a < M .n → firstPath M b 0 a ≡ some []
@@ -172,36 +146,36 @@ module _ (M : Mealy) (b : ℕ) where
   pub path-step : (m a : ℕ) {t : List ℕ} → firstPath M b (suc m) a ≡ some t → Step m a t
   unfolding firstPath
   path-step m a {t} e =
-      let g = guard-some (ltb a (M .n)) (firstOf (M .k) (λ c. prefixed c (firstPath M b m (M .next a c)))) e in
-      let l = first-some (M .k) (λ c. prefixed c (firstPath M b m (M .next a c))) (g .1) in
-      let r = prefixed-some (l .m) (firstPath M b m (M .next a (l .m))) (l .found) in
+      let g = guard-some (ltb a (M .n)) (firstOf (M .k) (λ c. Option·map (_∷_ c) (firstPath M b m (M .next a c)))) e in
+      let l = first-some (M .k) (λ c. Option·map (_∷_ c) (firstPath M b m (M .next a c))) (g .1) in
+      let r = map-eq-some-iff (_∷_ (l .m)) (firstPath M b m (M .next a (l .m))) .0 (l .found) in
       record {
         inside = ltb-true a (M .n) (g .0);
         command = l .m;
         rest = r .0;
         low = l .low;
         found = r .1;
-        string = r .2;
-        passed = λ c k. prefixed-none c (firstPath M b m (M .next a c)) (l .passed c k);
+        string = sym (r .2);
+        passed = λ c k. map-eq-none-iff (_∷_ c) (firstPath M b m (M .next a c)) .0 (l .passed c k);
       }
 
   -- a command before a path of m commands gives a path of m + 1 commands
   pub some-path : (m a c : ℕ) {u : List ℕ} → a < M .n → c < M .k → firstPath M b m (M .next a c) ≡ some u → Some (firstPath M b (suc m) a)
   unfolding firstPath
   some-path m a c {u} l k e =
-      let r = some-first (M .k) (λ c. prefixed c (firstPath M b m (M .next a c))) c k (some-prefixed c e) in
-      (r .0, guard-true (firstOf (M .k) (λ c. prefixed c (firstPath M b m (M .next a c)))) (lt-ltb a (M .n) l) ∙ r .1)
+      let r = some-first (M .k) (λ c. Option·map (_∷_ c) (firstPath M b m (M .next a c))) c k (ap (Option·map (_∷_ c)) e) in
+      (r .0, guard-true (firstOf (M .k) (λ c. Option·map (_∷_ c) (firstPath M b m (M .next a c)))) (lt-ltb a (M .n) l) ∙ r .1)
 
   -- where no command has a path of m commands behind it there is none of m + 1 commands
   pub none-path : (m a : ℕ) → ((c : ℕ) → c < M .k → firstPath M b m (M .next a c) ≡ none) → firstPath M b (suc m) a ≡ none
   unfolding firstPath
-  none-path m a h = guard-none (ltb a (M .n)) (none-first (M .k) (λ c. prefixed c (firstPath M b m (M .next a c))) (λ c k. none-prefixed c (h c k)))
+  none-path m a h = guard-none (ltb a (M .n)) (none-first (M .k) (λ c. Option·map (_∷_ c) (firstPath M b m (M .next a c))) (λ c k. ap (Option·map (_∷_ c)) (h c k)))
 
   -- what is no state has no path
   pub path-outside : (m a : ℕ) → M .n ≤ a → firstPath M b m a ≡ none
   unfolding firstPath
   path-outside zero a l = guard-false (some []) (rw (le-ltb a (M .n) l))
-  path-outside (suc m) a l = guard-false (firstOf (M .k) (λ c. prefixed c (firstPath M b m (M .next a c)))) (le-ltb a (M .n) l)
+  path-outside (suc m) a l = guard-false (firstOf (M .k) (λ c. Option·map (_∷_ c) (firstPath M b m (M .next a c)))) (le-ltb a (M .n) l)
 
   -- a path starts at a state
   pub path-inside : (m a : ℕ) {t : List ℕ} → firstPath M b m a ≡ some t → a < M .n

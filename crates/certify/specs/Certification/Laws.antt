@@ -2,28 +2,31 @@
 use Prim.Native.Nat.{ℕ, _+_, _*_, _≤_, _<_}
 use mathlib.Core.Path.{_≡_, refl, sym, ap, ap₂, _∙_}
 use mathlib.Core.Bool.{Bool, true, false, true≢false, not}
-use mathlib.Core.List.{List, [], _∷_, _++_}
+use mathlib.Core.List.{List, [], _∷_}
 use native.Mathlib.Omega.{arith}
-use borrow.Author.Tests.{eq-eqb, eqb-true, ltb-false, not-true, not-false}
+use borrow.Author.Tests.{eq-eqb, eqb-true, le-ltb, ltb-true, ltb-false, not-true, not-false}
+use lib.Arith.{digits-lt}
 use lib.Dec.{ltb}
-use lib.ListN.{length, getD, drop}
+use lib.ListN.{length, getD}
+use Rattle.sheet.specs.Tests.{both-true}
 use Rattle.sheet.specs.declared.check.Check.{Check}
 use Rattle.sheet.specs.declared.check.Check.the-variants.{Clear, Refused}
-use Rattle.sheet.specs.Check.{refusal_with_if_, _else_, firstCause, first}
-use Rattle.sheet.specs.Check.Laws.{cause-cons, cause-one, cause-append, both-true, absent, present, clear-absent, both-clear, else-clear, else-refused, first-clear, first-clear-at, first-found, Present, first-present, present-test}
+use Rattle.sheet.specs.Check.{refusal_with_if_, _else_, firstCause, first, refusedOr}
+use Rattle.sheet.specs.Check.Laws.{cause-two, cause-append, absent, present, clear-absent, both-clear, else-clear, else-refused, first-clear, first-clear-at, first-found, Present, first-present, present-test}
 use Rattle.sheet.specs.declared.reader.Needs.{Needs}
 use Rattle.sheet.specs.Reader.{the, content}
+use Rattle.sheet.specs.Writing.{written}
 use Rattle.machine.specs.Limits.{mostSequence}
 use Rattle.machine.specs.Machine.{Mealy, stateAt, Commands}
 use Rattle.machine.specs.Causes.{machineIn, loadCauses}
-use Rattle.machine.specs.Causes.Laws.{entry-below, clear-commands}
+use Rattle.machine.specs.Causes.Laws.{clear-commands}
 use Rattle.machine.specs.Causes.Lists.{load-without-answers}
 use Rattle.certify.specs.declared.answer.Answer.the-variants.{Certified as CertifiedAnswer, Open, Refused as RefusedAnswer}
 use Rattle.certify.specs.Recognition.{Recognised, Verified, Certified}
 use Rattle.certify.specs.Marks.{marked, count, marks}
 use Rattle.certify.specs.Marks.Laws.{any-found, any-holds, marked-true, true-marked}
 use Rattle.certify.specs.Marks.Agreement.{marked-recognised, recognised-marked}
-use Rattle.certify.specs.Certification.{certifyNeeds, cause7, cause9, markBytes, certifyCauses, verified, openCause, cause11, answerOf, outcome, refusedOr, certification, kept, marksAfter}
+use Rattle.certify.specs.Certification.{certifyNeeds, cause7, cause9, markBytes, certifyCauses, verified, entryCause, openCause, cause11, answerOf, outcome, certification, kept, marksAfter}
 
 -- ---- verified entries, by any marks
 -- an entry verified by marks, with its place
@@ -107,31 +110,30 @@ pub data OpenNumber (M : Mealy) (w xs : List ℕ) (v : ℕ) : Type 0 where
       → v ≡ 1 + (s * M .k + c) → OpenNumber M w xs v
 
 module _ (M : Mealy) (w xs : List ℕ) where
-  entryCheck : ℕ → ℕ → Check
-  entryCheck s c = refusal 11 with 1 + (s * M .k + c) if not (verified M xs (marks M w xs) s c)
+  -- an entry's cause, by the sequence's own marks
+  abbrev entry : ℕ → ℕ → Check
+  entry = entryCause M xs (marks M w xs)
 
-  clear-verified : (s c : ℕ) → entryCheck s c ≡ Clear → Verified M w xs s c
-  unfolding entryCheck
+  clear-verified : (s c : ℕ) → entry s c ≡ Clear → Verified M w xs s c
   clear-verified s c e = verified-true M w xs s c (not-false _ (clear-absent 11 _ _ e))
 
   in-row : (s : ℕ) → s < M .n → Recognised M w xs 0 → ((t d : ℕ) → t < s → d < M .k → Verified M w xs t d) → {a v : ℕ}
-      → Present (M .k) (entryCheck s) a v → (a ≡ 11) × OpenNumber M w xs v
-  unfolding entryCheck
+      → Present (M .k) (entry s) a v → (a ≡ 11) × OpenNumber M w xs v
   in-row s ls r before h =
       let t = present-test 11 _ _ (h .here) in (
         t .1 .0,
         entry-open s (h .place) ls (h .inside) r (λ v. true≢false (sym (true-verified M w xs s (h .place) v) ∙ not-true _ (t .0))) before
-            (λ d l. clear-verified s d (first-clear-at (h .place) d (entryCheck s) (h .before) l)) (t .1 .1),
+            (λ d l. clear-verified s d (first-clear-at (h .place) d (entry s) (h .before) l)) (t .1 .1),
       )
 
-  in-rows : Recognised M w xs 0 → {a v : ℕ} → Present (M .n) (λ s. first (M .k) (entryCheck s)) a v → (a ≡ 11) × OpenNumber M w xs v
+  in-rows : Recognised M w xs 0 → {a v : ℕ} → Present (M .n) (λ s. first (M .k) (entry s)) a v → (a ≡ 11) × OpenNumber M w xs v
   in-rows r h =
       in-row (h .place) (h .inside) r
-      (λ t d lt ld. clear-verified t d (first-clear-at (M .k) d (entryCheck t) (first-clear-at (h .place) t (λ s. first (M .k) (entryCheck s)) (h .before) lt) ld))
-      (first-present (M .k) (entryCheck (h .place)) (h .here))
+      (λ t d lt ld. clear-verified t d (first-clear-at (M .k) d (entry t) (first-clear-at (h .place) t (λ s. first (M .k) (entry s)) (h .before) lt) ld))
+      (first-present (M .k) (entry (h .place)) (h .here))
 
   rows : Check
-  rows = first (M .n) (λ s. first (M .k) (entryCheck s))
+  rows = first (M .n) (λ s. first (M .k) (entry s))
 
   open-by : (b : Bool) → marked (marks M w xs) 0 ≡ b → {a v : ℕ} → ((refusal 11 with 0 if not b) else rows) ≡ Refused a v → (a ≡ 11) × OpenNumber M w xs v
   unfolding rows
@@ -143,7 +145,7 @@ module _ (M : Mealy) (w xs : List ℕ) where
       (cc, start-open (λ r. true≢false (sym (true-marked (marks M w xs) 0 (recognised-marked M w xs 0 r)) ∙ m)) (cc))
 
   pub refused-open : {a v : ℕ} → cause11 M w xs ≡ Refused a v → (a ≡ 11) × OpenNumber M w xs v
-  unfolding cause11 openCause entryCheck rows
+  unfolding cause11 openCause rows
   refused-open e = open-by (marked (marks M w xs) 0) refl e
 
   -- the other direction: an open number is the one that is refused with
@@ -155,23 +157,21 @@ module _ (M : Mealy) (w xs : List ℕ) where
   unverified s c true e h = absurd (h (verified-true M w xs s c e))
   unverified s c false e h = e
 
-  verified-clear : (s c : ℕ) → Verified M w xs s c → entryCheck s c ≡ Clear
-  unfolding entryCheck
+  verified-clear : (s c : ℕ) → Verified M w xs s c → entry s c ≡ Clear
   verified-clear s c v = absent 11 _ (ap not (true-verified M w xs s c v))
 
-  entry-refused : (s c : ℕ) → (Verified M w xs s c → ⊥) → entryCheck s c ≡ Refused 11 (1 + (s * M .k + c))
-  unfolding entryCheck
+  entry-refused : (s c : ℕ) → (Verified M w xs s c → ⊥) → entry s c ≡ Refused 11 (1 + (s * M .k + c))
   entry-refused s c h = present 11 _ (ap not (unverified s c _ refl h))
 
   rows-refused : (s c : ℕ) → s < M .n → c < M .k → (Verified M w xs s c → ⊥) → ((t d : ℕ) → t < s → d < M .k → Verified M w xs t d)
       → ((d : ℕ) → d < c → Verified M w xs s d) → rows ≡ Refused 11 (1 + (s * M .k + c))
   unfolding rows
   rows-refused s c ls lc h before row =
-      first-found (M .n) s (λ t. first (M .k) (entryCheck t)) ls (first-clear s _ (λ t lt. first-clear (M .k) (entryCheck t) (λ d ld. verified-clear t d (before t d lt ld))))
-      (first-found (M .k) c (entryCheck s) lc (first-clear c (entryCheck s) (λ d ld. verified-clear s d (row d ld))) (entry-refused s c h))
+      first-found (M .n) s (λ t. first (M .k) (entry t)) ls (first-clear s _ (λ t lt. first-clear (M .k) (entry t) (λ d ld. verified-clear t d (before t d lt ld))))
+      (first-found (M .k) c (entry s) lc (first-clear c (entry s) (λ d ld. verified-clear s d (row d ld))) (entry-refused s c h))
 
   pub open-refused : {v : ℕ} → OpenNumber M w xs v → cause11 M w xs ≡ Refused 11 v
-  unfolding cause11 openCause entryCheck rows
+  unfolding cause11 openCause rows
   open-refused (start-open h e) =
       ap (λ (c : Check). c else rows) (present 11 0 (ap not (unmarked _ refl h))) ∙ else-refused 11 0 rows ∙ ap (Refused 11) (sym e)
   open-refused (entry-open s c ls lc r h before row e) =
@@ -181,7 +181,7 @@ module _ (M : Mealy) (w xs : List ℕ) where
 -- it is at most n·k
 pub open-small : (M : Mealy) (w xs : List ℕ) (v : ℕ) → OpenNumber M w xs v → v ≤ M .n * M .k
 open-small M w xs v (start-open h e) = omega arith
-open-small M w xs v (entry-open s c ls lc r h b d e) = omega (arith, entry-below (M .n) (M .k) s c ls lc)
+open-small M w xs v (entry-open s c ls lc r h b d e) = omega (arith, digits-lt {q = s} {m = M .n} {r = c} {c = M .k} ls lc)
 
 -- ---- the outcome
 -- the outcome, once the marks are known
@@ -192,10 +192,6 @@ outcome-of M w xs e = ap (λ (ms : List ℕ). answerOf (openCause M xs ms) (coun
 pub outcome-clear : (M : Mealy) (w xs : List ℕ) → cause11 M w xs ≡ Clear → outcome M w xs ≡ CertifiedAnswer (count (marks M w xs))
 unfolding outcome
 outcome-clear M w xs e = rw e
-
-pub outcome-open : (M : Mealy) (w xs : List ℕ) {a v : ℕ} → cause11 M w xs ≡ Refused a v → outcome M w xs ≡ Open (count (marks M w xs)) v
-unfolding outcome
-outcome-open M w xs e = rw e
 
 -- ---- the service's answer and buffer, by the first cause
 pub certification-refused : (room : ℕ) (s : List ℕ) {n p : ℕ} → firstCause (certifyCauses certifyNeeds room s) ≡ Refused n p → certification room s ≡ RefusedAnswer n p
@@ -221,6 +217,19 @@ pub cause9-is : (room bytes : ℕ) → (refusal 9 with bytes if ltb room bytes) 
 unfolding cause9
 cause9-is room bytes = refl
 
+-- it is clear exactly where the bytes fit, and otherwise has the bytes needed
+pub room-clear : (room bytes : ℕ) → bytes ≤ room → cause9 room bytes ≡ Clear
+unfolding cause9
+room-clear room bytes l = absent 9 bytes (le-ltb room bytes l)
+
+pub clear-room : (room bytes : ℕ) → cause9 room bytes ≡ Clear → bytes ≤ room
+unfolding cause9
+clear-room room bytes e = ltb-false room bytes (clear-absent 9 bytes (ltb room bytes) e)
+
+pub room-refused : (room bytes : ℕ) {a b : ℕ} → cause9 room bytes ≡ Refused a b → (a ≡ 9) × ((b ≡ bytes) × (room < bytes))
+unfolding cause9
+room-refused room bytes e = let t = present-test 9 bytes (ltb room bytes) e in (t .1 .0, (t .1 .1, ltb-true room bytes (t .0)))
+
 pub certify-causes-are : (needs : Needs) (room : ℕ) (s : List ℕ) → firstCause (certifyCauses needs room s)
     ≡ (firstCause (loadCauses needs s) else (cause7 (machineIn s .k) (the 3 s) (content 3 s) else cause9 room (markBytes (content 3 s))))
 unfolding certifyCauses
@@ -228,7 +237,7 @@ certify-causes-are needs room s =
     let seven = cause7 (machineIn s .k) (the 3 s) (content 3 s) in
     let nine = cause9 room (markBytes (content 3 s)) in
     cause-append (loadCauses needs s) (seven ∷ nine ∷ [])
-    ∙ ap (λ (c : Check). firstCause (loadCauses needs s) else c) (cause-cons seven (nine ∷ []) ∙ ap (λ (c : Check). seven else c) (cause-one nine))
+    ∙ ap (λ (c : Check). firstCause (loadCauses needs s) else c) (cause-two seven nine)
 
 module _ (needs : Needs) (room : ℕ) (s : List ℕ) (e : firstCause (certifyCauses needs room s) ≡ Clear) where
   both-parts : (firstCause (loadCauses needs s) ≡ Clear) × ((cause7 (machineIn s .k) (the 3 s) (content 3 s) else cause9 room (markBytes (content 3 s))) ≡ Clear)
@@ -241,8 +250,7 @@ module _ (needs : Needs) (room : ℕ) (s : List ℕ) (e : firstCause (certifyCau
   sequence-commands = clear-commands 7 mostSequence (machineIn s .k) (the 3 s) (content 3 s) (both-clear _ _ (both-parts .1) .0)
 
   pub room-enough : markBytes (content 3 s) ≤ room
-  unfolding cause9
-  room-enough = ltb-false _ _ (clear-absent 9 _ _ (both-clear _ _ (both-parts .1) .1))
+  room-enough = clear-room _ _ (both-clear _ _ (both-parts .1) .1)
 
 -- a service that does not need the answers refuses no sheet that one that does takes
 pub certify-without-answers : (w q : Bool) (room : ℕ) (s : List ℕ) → firstCause (certifyCauses (record { word = w; sequence = q; answers = true }) room s) ≡ Clear
@@ -254,12 +262,12 @@ certify-without-answers w q room s e =
     ∙ else-clear Clear
 
 -- how marks are kept
-pub kept-is : (ms buffer : List ℕ) → ms ++ drop (length ms) buffer ≡ kept ms buffer
+pub kept-is : (ms buffer : List ℕ) → written ms buffer ≡ kept ms buffer
 unfolding kept
 kept-is ms buffer = refl
 
 -- ---- what an answer shows
-certified-by : (c d : Check) (m n : ℕ) → refusedOr c (answerOf d m) ≡ CertifiedAnswer n → (c ≡ Clear) × ((d ≡ Clear) × (n ≡ m))
+certified-by : (c d : Check) (m n : ℕ) → refusedOr RefusedAnswer c (answerOf d m) ≡ CertifiedAnswer n → (c ≡ Clear) × ((d ≡ Clear) × (n ≡ m))
 certified-by Clear Clear m n e = (refl, (refl, cc))
 certified-by Clear (Refused a b) m n e = let z : _≡_ {A = ℕ} 0 1 = cc in absurd (omega arith)
 certified-by (Refused a b) d m n e = let z : _≡_ {A = ℕ} 0 1 = cc in absurd (omega arith)
@@ -280,7 +288,7 @@ certified-answer room s e h =
     certification-clear room s e
     ∙ outcome-clear (machineIn s) (content 2 s) (content 3 s) (certified-clear (machineIn s) (content 2 s) (content 3 s) h)
 
-open-by-answer : (c d : Check) (m n v : ℕ) → refusedOr c (answerOf d m) ≡ Open n v → (c ≡ Clear) × (((a : ℕ) × (d ≡ Refused a v)) × (n ≡ m))
+open-by-answer : (c d : Check) (m n v : ℕ) → refusedOr RefusedAnswer c (answerOf d m) ≡ Open n v → (c ≡ Clear) × (((a : ℕ) × (d ≡ Refused a v)) × (n ≡ m))
 open-by-answer Clear Clear m n v e = let z : _≡_ {A = ℕ} 0 1 = cc in absurd (omega arith)
 open-by-answer Clear (Refused a b) m n v e = (refl, ((a, cc), cc))
 open-by-answer (Refused a b) d m n v e = let z : _≡_ {A = ℕ} 0 1 = cc in absurd (omega arith)
@@ -295,7 +303,7 @@ answer-open room s {n} {v} e =
     let eleven = refused-open (machineIn s) (content 2 s) (content 3 s) (h .1 .0 .1) .0 in
     (h .0, (h .1 .0 .1 ∙ ap (λ (a : ℕ). Refused a v) eleven, h .1 .1))
 
-refused-by : (c d : Check) (m n p : ℕ) → refusedOr c (answerOf d m) ≡ RefusedAnswer n p → c ≡ Refused n p
+refused-by : (c d : Check) (m n p : ℕ) → refusedOr RefusedAnswer c (answerOf d m) ≡ RefusedAnswer n p → c ≡ Refused n p
 refused-by Clear Clear m n p e = let z : _≡_ {A = ℕ} 0 1 = cc in absurd (omega arith)
 refused-by Clear (Refused a b) m n p e = let z : _≡_ {A = ℕ} 0 1 = cc in absurd (omega arith)
 refused-by (Refused a b) d m n p e = cc
@@ -305,3 +313,7 @@ pub answer-refused : (room : ℕ) (s : List ℕ) {n p : ℕ} → certification r
 unfolding certification outcome
 answer-refused room s {n} {p} e =
     refused-by (firstCause (certifyCauses certifyNeeds room s)) (cause11 (machineIn s) (content 2 s) (content 3 s)) _ n p e
+
+-- a refusal leaves "all buffers" as they were
+pub refused-marks : (s buffer : List ℕ) {n p : ℕ} → certification (length buffer) s ≡ RefusedAnswer n p → marksAfter s buffer ≡ buffer
+refused-marks s buffer e = after-refused s buffer (answer-refused (length buffer) s e)

@@ -7,14 +7,15 @@ use native.Mathlib.Omega.{arith}
 use Rattle.sheet.specs.declared.check.Check.the-variants.{Clear, Refused}
 use Rattle.sheet.specs.declared.reader.Needs.{Needs}
 use Rattle.sheet.specs.Check.{_else_, firstCause}
-use Rattle.sheet.specs.Check.Places.{WhereRefused, place-of, place-cause, place-else}
+use Rattle.sheet.specs.Check.Places.{WhereRefused, place-of, place-else}
 use Rattle.sheet.specs.Reader.{the, content}
 use Rattle.sheet.specs.Reader.Places.{Small}
 use Rattle.machine.specs.Limits.{mostEntries, mostSequence}
 use Rattle.machine.specs.Machine.{Mealy, Proper}
+use Rattle.machine.specs.Machine.Laws.{proper-entries}
 use Rattle.machine.specs.Causes.{machineIn, loadCauses}
-use Rattle.machine.specs.Causes.Laws.{clear-commands, proper-entries}
-use Rattle.machine.specs.Causes.Lists.{machine-proper, clear-table}
+use Rattle.machine.specs.Causes.Laws.{clear-commands}
+use Rattle.machine.specs.Causes.Lists.{load-proper}
 use Rattle.machine.specs.Causes.Places.{commands-small, load-small, load-short}
 use Rattle.certify.specs.declared.answer.Answer.{Answer}
 use Rattle.certify.specs.declared.answer.Answer.the-variants.{Certified, Open, Refused as RefusedAnswer}
@@ -23,20 +24,20 @@ use Rattle.certify.specs.Marks.{count, marks}
 use Rattle.certify.specs.Marks.Laws.{count-most}
 use Rattle.certify.specs.Marks.Agreement.{marks-length}
 use Rattle.certify.specs.Certification.{certifyNeeds, cause7, cause9, markBytes, certifyCauses, cause11, certification, valuesOf}
-use Rattle.certify.specs.Certification.Laws.{certify-causes-are, load-clear, sequence-commands, refused-open, open-small, answer-certified, answer-open, answer-refused}
+use Rattle.certify.specs.Certification.Laws.{room-refused, certify-causes-are, load-clear, sequence-commands, refused-open, open-small, answer-certified, answer-open, answer-refused}
 
 -- ---- refusals
 -- of causes 1 to 7 and 9, for a service that certifies and any kinds that it needs
 pub certify-small : (needs : Needs) (room : ℕ) (s : List ℕ) → WhereRefused Small (firstCause (certifyCauses needs room s))
-unfolding cause9
 certify-small needs room s =
     let xs = content 3 s in
     place-of Small (certify-causes-are needs room s)
     (place-else Small (firstCause (loadCauses needs s)) (cause7 (machineIn s .k) (the 3 s) xs else cause9 room (markBytes xs)) (load-small needs s)
     (λ q. place-else Small (cause7 (machineIn s .k) (the 3 s) xs) (cause9 room (markBytes xs))
     (commands-small s (load-short needs s q) 7 mostSequence (machineIn s .k) 3 (omega arith))
-    (λ t. place-cause Small 9 (markBytes xs) _
-    (λ u. record { number = omega arith; place = omega (arith, clear-commands 7 mostSequence (machineIn s .k) (the 3 s) xs t .few) }))))
+    (λ t n p e.
+    let h = room-refused room (markBytes xs) e in
+    record { number = omega (arith, h .0); place = omega (arith, h .1 .0, clear-commands 7 mostSequence (machineIn s .k) (the 3 s) xs t .few) })))
 
 -- ---- results, where nothing is refused
 -- the recognised places are at most N+1
@@ -66,7 +67,7 @@ certification-fits room s = go (certification room s) refl
         rw e (record { place = omega (arith, few (h .0), h .1 .1); a = omega arith; b = omega arith })
     go (Open n v) e =
         let h = answer-open room s e in
-        let proper = machine-proper certifyNeeds s (clear-table certifyNeeds s (load-clear certifyNeeds room s (h .0))) in
+        let proper = load-proper certifyNeeds s (load-clear certifyNeeds room s (h .0)) in
         rw e (record {
           place = omega (arith, few (h .0), h .1 .1);
           a = omega arith;

@@ -1,4 +1,5 @@
--- What the program's own functions need besides: the open number by a table of known entries, and answers and values by their cases.
+-- What the program's own functions need besides: the open number by a table of known entries, and answers and values by their cases. Nothing
+-- here has to be believed: the service's contract does not name it.
 use Prim.Native.Nat.{ℕ, _+_, _*_, _<_}
 use mathlib.Core.Path.{_≡_, sym, ap, _∙_}
 use mathlib.Core.Bool.{Bool, true, false, true≢false, not}
@@ -7,17 +8,25 @@ use mathlib.Core.Logic.{⊎-elim}
 use lib.Dec.{eqb}
 use lib.ListN.{getD}
 use borrow.Author.Tests.{ne-eqb, eqb-false}
+use Rattle.sheet.specs.Tests.{true-or-false}
 use Rattle.sheet.specs.declared.check.Check.{Check}
 use Rattle.sheet.specs.declared.check.Check.the-variants.{Clear, Refused}
-use Rattle.sheet.specs.Check.{refusal_with_if_, _else_}
+use Rattle.sheet.specs.Check.{refusal_with_if_, _else_, first}
 use Rattle.sheet.specs.Check.Laws.{first-same, first-rows}
 use Rattle.machine.specs.Machine.{Mealy}
 use Rattle.certify.specs.declared.answer.Answer.{Answer}
 use Rattle.certify.specs.declared.answer.Answer.the-variants.{Certified as CertifiedAnswer, Open, Refused as RefusedAnswer}
 use Rattle.certify.specs.Marks.{marked}
-use Rattle.certify.specs.Marks.Laws.{true-or-false}
-use Rattle.certify.specs.Closing.{unknownAt, openBy}
 use Rattle.certify.specs.Certification.{verified, openCause, answerOf, valuesOf}
+
+-- ---- the open number by a table of known entries
+-- the cause of an entry that is not known
+abbrev pub unknownAt : List ℕ → ℕ → Check
+unknownAt known e = refusal 11 with 1 + e if eqb (getD known e 0) 0
+
+-- the open number of marks and known entries, as cause 11
+abbrev pub openBy : List ℕ → List ℕ → ℕ → Check
+openBy ms known entries = (refusal 11 with 0 if not (marked ms 0)) else first entries (unknownAt known)
 
 -- a table that knows exactly the verified entries gives the open number
 pub open-known : (M : Mealy) (xs ms known : List ℕ)

@@ -1,7 +1,7 @@
 -- The marks are those of the recognised places, and no other list is: the executable definition and the rules agree at every place.
 use Prim.Native.Nat.{ℕ, zero, suc, _+_, _-_, _≤_}
-use mathlib.Core.Path.{_≡_, refl, sym, ap, _∙_}
-use mathlib.Core.Bool.{Bool, true, false, _||_}
+use mathlib.Core.Path.{_≡_, sym, ap, _∙_}
+use mathlib.Core.Bool.{Bool, true, false}
 use mathlib.Core.List.{List}
 use mathlib.Core.Logic.{_⊎_, inl, inr, ⊎-elim}
 use native.Mathlib.Omega.{arith}
@@ -9,14 +9,14 @@ use lib.Dec.{leb, eqb}
 use lib.ListN.{length, getD, take, drop, length-take, length-drop}
 use lib.Seq.{ext-getD}
 use borrow.Author.Tests.{le-leb, leb-true, eq-eqb, eqb-true, eqb-false}
-use Rattle.sheet.specs.Check.Laws.{both-true}
+use Rattle.sheet.specs.Tests.{both-true, either-true, or-left, or-right, true-or-false}
 use Rattle.machine.specs.Machine.{Mealy, stateAt}
 use Rattle.machine.specs.Causes.{same}
 use Rattle.machine.specs.Causes.Separation.{same-refl, same-equal}
 use Rattle.certify.specs.Recognition.{Stands, Closure, rule1, rule2, Recognised}
-use Rattle.certify.specs.Recognition.Laws.{by-rule1, by-rule2, smallest, recognised-inside}
-use Rattle.certify.specs.Marks.{tabulate, mark, marked, count, stands, shown, grown, settled, closure, marks}
-use Rattle.certify.specs.Marks.Laws.{either-true, or-left, or-right, any-found, any-holds, tabulate-length, tabulate-at, tabulate-bits, true-or-false, marked-true, true-marked, mark-true, mark-bit, marked-inside, count-most, count-below, count-same}
+use Rattle.certify.specs.Recognition.Laws.{closure-recognised, recognised-closure, recognised-inside}
+use Rattle.certify.specs.Marks.{marksBy, Bits, marked, count, stands, shown, grown, settled, closure, marks}
+use Rattle.certify.specs.Marks.Laws.{any-found, any-holds, marked-true, true-marked, marked-inside, marks-by-length, marks-by-bits, marks-by-one, marks-by-true, count-most, count-below, count-same}
 
 -- ---- rule 1
 pub stands-true : (w xs : List ℕ) (p : ℕ) → stands w xs p ≡ true → Stands w xs p
@@ -82,28 +82,26 @@ module _ (xs : List ℕ) (state : ℕ → ℕ) (ms : List ℕ) where
 
   grown-length : length (grown xs state ms) ≡ length xs + 1
   unfolding grown
-  grown-length = tabulate-length _ _
+  grown-length = marks-by-length xs _
 
-  grown-bits : (r : ℕ) → getD (grown xs state ms) r 0 ≤ 1
+  grown-bits : Bits (grown xs state ms)
   unfolding grown
-  grown-bits r = tabulate-bits _ _ (λ i. mark-bit (marked ms i || shown xs state ms i)) r
-
-  grown-at : (r : ℕ) → r ≤ length xs → getD (grown xs state ms) r 0 ≡ mark (marked ms r || shown xs state ms r)
-  unfolding grown
-  grown-at r l = tabulate-at _ _ r (omega arith)
+  grown-bits = marks-by-bits xs _
 
   grown-keeps : (p : ℕ) → p ≤ length xs → getD ms p 0 ≡ 1 → getD (grown xs state ms) p 0 ≡ 1
-  grown-keeps p l e = grown-at p l ∙ ap mark (or-left _ (true-marked ms p e))
+  unfolding grown
+  grown-keeps p l e = marks-by-one xs _ p l (or-left _ (true-marked ms p e))
 
   grown-adds : (r : ℕ) → r ≤ length xs → length ms ≡ length xs + 1 → Shown r → getD (grown xs state ms) r 0 ≡ 1
-  grown-adds r l long h = grown-at r l ∙ ap mark (or-right (marked ms r) (true-shown r long h))
+  unfolding grown
+  grown-adds r l long h = marks-by-one xs _ r l (or-right (marked ms r) (true-shown r long h))
 
   grown-from : (r : ℕ) → getD (grown xs state ms) r 0 ≡ 1 → (getD ms r 0 ≡ 1) ⊎ (Shown r)
+  unfolding grown
   grown-from r e =
-      let l : r ≤ length xs = omega (arith, marked-inside (grown xs state ms) r e, grown-length) in
       ⊎-elim (λ (h : marked ms r ≡ true). inl (marked-true ms r h))
       (λ (h : shown xs state ms r ≡ true). inr (shown-true r h))
-      (either-true (marked ms r) (shown xs state ms r) (mark-true _ (sym (grown-at r l) ∙ e)))
+      (either-true (marked ms r) (shown xs state ms r) (marks-by-true xs _ r e))
 
 -- ---- growing until nothing is added
 -- a list of marks of all places that rule 2 adds nothing to
@@ -153,7 +151,7 @@ module _ (xs : List ℕ) (state : ℕ → ℕ) where
 -- one mark for each place, 0 or 1, and 1 exactly in the smallest set
 pub record Exact (xs : List ℕ) (state : ℕ → ℕ) (Base : ℕ → Type 0) (ms : List ℕ) : Type 0 where
   pub long : length ms ≡ length xs + 1
-  pub bits : (p : ℕ) → getD ms p 0 ≤ 1
+  pub bits : Bits ms
   pub sound : (p : ℕ) → getD ms p 0 ≡ 1 → Closure xs state Base p
   pub complete : (p : ℕ) → p ≤ length xs → Closure xs state Base p → getD ms p 0 ≡ 1
 
@@ -206,7 +204,7 @@ module _ (xs : List ℕ) (state : ℕ → ℕ) (Base : ℕ → Type 0) where
     -- what stays so while a list grows
     record Growing (ms : List ℕ) : Type 0 where
       long : length ms ≡ length xs + 1
-      few : (p : ℕ) → getD ms p 0 ≤ 1
+      bits : Bits ms
       sound : (p : ℕ) → getD ms p 0 ≡ 1 → Closure xs state Base p
       holds : (p : ℕ) → p ≤ length xs → Base p → getD ms p 0 ≡ 1
 
@@ -217,7 +215,7 @@ module _ (xs : List ℕ) (state : ℕ → ℕ) (Base : ℕ → Type 0) where
     grows : (ms : List ℕ) → Growing ms → Growing (grown xs state ms)
     grows ms h = record {
       long = grown-length xs state ms;
-      few = grown-bits xs state ms;
+      bits = grown-bits xs state ms;
       sound = λ p e.
           ⊎-elim (h .sound p)
           (shown-sound ms p (omega (arith, marked-inside (grown xs state ms) p e, grown-length xs state ms)) (h .sound))
@@ -225,25 +223,22 @@ module _ (xs : List ℕ) (state : ℕ → ℕ) (Base : ℕ → Type 0) where
       holds = λ p l b. grown-keeps xs state ms p l (h .holds p l b);
     }
 
-    begun : Growing (tabulate (length xs + 1) (λ p. mark (base p)))
+    begun : Growing (marksBy xs base)
     begun = record {
-      long = tabulate-length _ _;
-      few = tabulate-bits _ _ (λ i. mark-bit (base i));
-      sound = λ p e.
-          let l = marked-inside (tabulate (length xs + 1) (λ i. mark (base i))) p e in
-          rule1 (from p (mark-true (base p) (sym (tabulate-at (length xs + 1) (λ i. mark (base i)) p (omega (arith, tabulate-length (length xs + 1) (λ i. mark (base i))))) ∙ e)));
-      holds = λ p l b. tabulate-at (length xs + 1) (λ i. mark (base i)) p (omega arith) ∙ ap mark (to p b);
+      long = marks-by-length xs base;
+      bits = marks-by-bits xs base;
+      sound = λ p e. rule1 (from p (marks-by-true xs base p e));
+      holds = λ p l b. marks-by-one xs base p l (to p b);
     }
 
     pub closure-exact : Exact xs state Base (closure xs state base)
     unfolding closure Stable
     closure-exact =
-        let start = tabulate (length xs + 1) (λ i. mark (base i)) in
-        let h = settled-has xs state Growing grows (length xs + 1) start begun in
-        let still = settled-stable xs state (length xs + 1) start (begun .long) (omega arith) in
+        let h = settled-has xs state Growing grows (length xs + 1) (marksBy xs base) begun in
+        let still = settled-stable xs state (length xs + 1) (marksBy xs base) (begun .long) (omega arith) in
         record {
           long = h .long;
-          bits = h .few;
+          bits = h .bits;
           sound = h .sound;
           complete = closed-complete _ (h .long) (h .holds) (λ r l s. still r (grown-adds xs state _ r l (h .long) s));
         }
@@ -261,21 +256,12 @@ module _ (M : Mealy) (w xs : List ℕ) where
   marks-length = marks-exact .long
 
   -- ---- "1 for recognised, 0 otherwise", both directions
-  to-recognised : (p : ℕ) → Closure xs (stateAt M xs) (Stands w xs) p → Recognised M w xs p
-  to-recognised p (rule1 h) = by-rule1 M w xs p h
-  to-recognised r (rule2 p q m ml hp hq e hm i same at) =
-      rw at (by-rule2 M w xs p q m ml (to-recognised p hp) (to-recognised q hq) e (to-recognised (p + m) hm) i same)
-
-  from-recognised : (p : ℕ) → Recognised M w xs p → Closure xs (stateAt M xs) (Stands w xs) p
-  from-recognised =
-      smallest M w xs (Closure xs (stateAt M xs) (Stands w xs)) (λ p h. rule1 h)
-      (λ p q m ml rp hp rq hq e rm hm i same. rule2 p q m ml hp hq e hm i same refl)
-
   pub marked-recognised : (p : ℕ) → getD (marks M w xs) p 0 ≡ 1 → Recognised M w xs p
-  marked-recognised p e = to-recognised p (marks-exact .sound p e)
+  marked-recognised p e = closure-recognised M w xs p (marks-exact .sound p e)
 
   pub recognised-marked : (p : ℕ) → Recognised M w xs p → getD (marks M w xs) p 0 ≡ 1
-  recognised-marked p h = marks-exact .complete p (recognised-inside M w xs p h) (from-recognised p h)
+  recognised-marked p h = marks-exact .complete p (recognised-inside M w xs p h) (recognised-closure M w xs p h)
 
-  pub marks-bits : (p : ℕ) → getD (marks M w xs) p 0 ≤ 1
+  -- "hold 1 for recognised, 0 otherwise"
+  pub marks-bits : Bits (marks M w xs)
   marks-bits = marks-exact .bits

@@ -1,9 +1,9 @@
 -- The laws of lists of marks: tests over a range, lists by their elements, and the number of marks.
-use Prim.Native.Nat.{ℕ, zero, suc, _+_, _-_, _≤_, _<_}
-use mathlib.Core.Path.{_≡_, refl, ap, _∙_}
-use mathlib.Core.Bool.{Bool, true, false, _||_}
+use Prim.Native.Nat.{ℕ, zero, suc, _+_, _≤_, _<_}
+use mathlib.Core.Path.{_≡_, refl, sym, ap, _∙_}
+use mathlib.Core.Bool.{Bool, true, false}
 use mathlib.Core.List.{List, [], _∷_, _++_}
-use mathlib.Core.Logic.{_⊎_, inl, inr, ⊎-elim}
+use mathlib.Core.Logic.{⊎-elim}
 use native.Mathlib.Omega.{arith}
 use native.Mathlib.Nat.{le-of-suc-le-suc, eq-or-lt-of-le, not-suc-le-zero}
 use lib.Dec.{eqb}
@@ -11,24 +11,10 @@ use lib.ListN.{length, getD, take}
 use native.Mathlib.Numerals.{add-one}
 use lib.Seq.{take-suc}
 use borrow.Author.Tests.{eq-eqb, eqb-true}
-use Rattle.certify.specs.Marks.{any, tabulate, mark, marked, count}
+use Rattle.sheet.specs.Tests.{either-true, or-left, or-right}
+use Rattle.certify.specs.Marks.{any, tabulate, mark, marksBy, Bits, marked, count}
 
--- ---- tests
-pub either-true : (a b : Bool) → (a || b) ≡ true → (a ≡ true) ⊎ (b ≡ true)
-either-true true b e = inl refl
-either-true false b e = inr e
-
-pub true-or-false : (b : Bool) → (b ≡ true) ⊎ (b ≡ false)
-true-or-false true = inl refl
-true-or-false false = inr refl
-
-pub or-left : {a : Bool} (b : Bool) → a ≡ true → (a || b) ≡ true
-or-left b e = rw e
-
-pub or-right : (a : Bool) {b : Bool} → b ≡ true → (a || b) ≡ true
-or-right true e = refl
-or-right false e = e
-
+-- ---- any
 pub any-found : (n : ℕ) (f : ℕ → Bool) → any n f ≡ true → (i : ℕ) × (i < n) × (f i ≡ true)
 unfolding any
 any-found zero f e = let z : _≡_ {A = ℕ} 0 1 = cc in absurd (omega arith)
@@ -57,7 +43,7 @@ tabulate-at zero f i l = absurd (not-suc-le-zero l)
 tabulate-at (suc n) f zero l = refl
 tabulate-at (suc n) f (suc i) l = tabulate-at n (λ j. f (suc j)) i (le-of-suc-le-suc l)
 
-pub tabulate-bits : (n : ℕ) (f : ℕ → ℕ) → ((i : ℕ) → f i ≤ 1) → (i : ℕ) → getD (tabulate n f) i 0 ≤ 1
+tabulate-bits : (n : ℕ) (f : ℕ → ℕ) → ((i : ℕ) → f i ≤ 1) → Bits (tabulate n f)
 unfolding tabulate
 tabulate-bits zero f h i = omega arith
 tabulate-bits (suc n) f h zero = h 0
@@ -83,6 +69,28 @@ pub marked-inside : (ms : List ℕ) (p : ℕ) → getD ms p 0 ≡ 1 → p < leng
 marked-inside [] p e = let z : _≡_ {A = ℕ} 0 1 = e in absurd (omega arith)
 marked-inside (m ∷ ms) zero e = omega arith
 marked-inside (m ∷ ms) (suc p) e = let h = marked-inside ms p e in omega arith
+
+-- one mark for each place, by a test
+module _ (xs : List ℕ) (f : ℕ → Bool) where
+  pub marks-by-length : length (marksBy xs f) ≡ length xs + 1
+  unfolding marksBy
+  marks-by-length = tabulate-length _ _
+
+  pub marks-by-bits : Bits (marksBy xs f)
+  unfolding marksBy
+  marks-by-bits = tabulate-bits _ _ (λ p. mark-bit (f p))
+
+  pub marks-by-at : (p : ℕ) → p ≤ length xs → getD (marksBy xs f) p 0 ≡ mark (f p)
+  unfolding marksBy
+  marks-by-at p l = tabulate-at _ _ p (omega arith)
+
+  -- marked exactly where the test holds
+  pub marks-by-one : (p : ℕ) → p ≤ length xs → f p ≡ true → getD (marksBy xs f) p 0 ≡ 1
+  marks-by-one p l e = marks-by-at p l ∙ ap mark e
+
+  pub marks-by-true : (p : ℕ) → getD (marksBy xs f) p 0 ≡ 1 → f p ≡ true
+  marks-by-true p e =
+      mark-true (f p) (sym (marks-by-at p (omega (arith, marked-inside (marksBy xs f) p e, marks-by-length))) ∙ e)
 
 -- ---- the number of marks
 pub count-most : (a : List ℕ) → count a ≤ length a

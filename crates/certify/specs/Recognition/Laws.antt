@@ -6,9 +6,31 @@ use native.Mathlib.Omega.{arith}
 use lib.ListN.{length, take, drop}
 use Rattle.machine.specs.Machine.{Mealy, stateAt}
 use Rattle.machine.specs.Machine.Laws.{states-agree}
-use Rattle.certify.specs.Recognition.{Stands, rule1, rule2, Recognised}
+use Rattle.certify.specs.Recognition.{Stands, Closure, rule1, rule2, Recognised}
+
+-- the smallest set is in any other that has its first places
+pub closure-in : {xs : List ℕ} {state : ℕ → ℕ} {A B : ℕ → Type 0} → ((p : ℕ) → A p → Closure xs state B p) → {p : ℕ} → Closure xs state A p → Closure xs state B p
+closure-in f (rule1 h) = f _ h
+closure-in f (rule2 p q m l hp hq e hm i same at) = rule2 p q m l (closure-in f hp) (closure-in f hq) e (closure-in f hm) i same at
+
+pub closure-more : {xs : List ℕ} {state : ℕ → ℕ} {A B : ℕ → Type 0} → ((p : ℕ) → A p → B p) → {p : ℕ} → Closure xs state A p → Closure xs state B p
+closure-more f = closure-in (λ p h. rule1 (f p h))
+
+-- rule 2 only adds places behind others, so each has one of the first places at or before it
+pub closure-first : {xs : List ℕ} {state : ℕ → ℕ} {Base : ℕ → Type 0} {r : ℕ} → Closure xs state Base r → (q : ℕ) × (q ≤ r) × (Base q)
+closure-first {r = r} (rule1 h) = (r, omega arith, h)
+closure-first (rule2 p q m l hp hq e hm i same at) = let f = closure-first hq in (f .0, omega (arith, f .1), f .2)
 
 module _ (M : Mealy) (w xs : List ℕ) where
+  -- recognised is in the smallest set
+  pub closure-recognised : (p : ℕ) → Closure xs (stateAt M xs) (Stands w xs) p → Recognised M w xs p
+  unfolding Recognised
+  closure-recognised p h = h
+
+  pub recognised-closure : (p : ℕ) → Recognised M w xs p → Closure xs (stateAt M xs) (Stands w xs) p
+  unfolding Recognised
+  recognised-closure p h = h
+
   -- ---- the rules
   pub by-rule1 : (p : ℕ) → Stands w xs p → Recognised M w xs p
   unfolding Recognised

@@ -7,15 +7,17 @@ use mathlib.Core.List.{List, [], _∷_}
 use native.Mathlib.Omega.{arith}
 use native.Mathlib.Nat.{le-refl}
 use borrow.Author.Tests.{ltb-false}
+use lib.Dec.{ltb}
 use lib.ListN.{length}
 use Rattle.sheet.specs.declared.check.Check.{Check}
 use Rattle.sheet.specs.declared.check.Check.the-variants.{Clear, Refused}
-use Rattle.sheet.specs.Check.{_else_, firstCause}
+use Rattle.sheet.specs.declared.record.Record.{Record}
+use Rattle.sheet.specs.Check.{refusal_with_if_, _else_, firstCause, refusedOr, unlessRefused}
 use Rattle.sheet.specs.Check.Laws.{clear-absent, both-clear, cause-one, cause-append}
 use Rattle.sheet.specs.Reader.{the, content}
 use Rattle.machine.specs.Machine.{Mealy, answers, stateAt, Proper}
 use Rattle.machine.specs.Causes.{machineIn}
-use Rattle.machine.specs.Causes.Lists.{machine-proper, clear-table, word-distinguishes}
+use Rattle.machine.specs.Causes.Lists.{load-proper, word-distinguishes}
 use Rattle.certify.specs.Recognition.{Certified}
 use Rattle.certify.specs.Marks.{marks}
 use Rattle.certify.specs.Certification.{certifyNeeds, certifyCauses, cause11, kept, marksAfter}
@@ -24,10 +26,14 @@ use Rattle.judge.specs.declared.answer.Answer.{Answer}
 use Rattle.judge.specs.declared.answer.Answer.the-variants.{Pass, Refused as RefusedAnswer}
 use Rattle.judge.specs.Unit.{Unit, ownAnswers}
 use Rattle.judge.specs.Unit.Identity.{identity}
-use Rattle.judge.specs.Judging.{judgeNeeds, cause10, judgeCauses, verdict, refusedOr, judgement, changedUnless, judgedMarks, Identity}
+use Rattle.judge.specs.Judging.{judgeNeeds, cause10, judgeCauses, verdict, judgement, judgedMarks, Identity}
 use Rattle.judge.specs.Judging.Verdict.{Judged, passed, wrong, unfinished, judged-verdict, verdict-judged}
 
 -- ---- the causes
+pub cause10-is : (r : Record) (xs ys : List ℕ) → (refusal 10 with r .start if ltb (length xs) (length ys)) ≡ cause10 r xs ys
+unfolding cause10
+cause10-is r xs ys = refl
+
 pub judge-causes-are : (room : ℕ) (s : List ℕ) → firstCause (judgeCauses room s) ≡ (firstCause (certifyCauses judgeNeeds room s) else cause10 (the 4 s) (content 3 s) (content 4 s))
 unfolding judgeCauses
 judge-causes-are room s =
@@ -46,8 +52,7 @@ module _ (room : ℕ) (s : List ℕ) (e : firstCause (judgeCauses room s) ≡ Cl
   certifying-clear = certify-without-answers true true room s marking-clear
 
   pub few-answers : length (content 4 s) ≤ length (content 3 s)
-  unfolding cause10
-  few-answers = ltb-false _ _ (clear-absent 10 _ _ (both-parts .1))
+  few-answers = ltb-false _ _ (clear-absent 10 _ _ (cause10-is (the 4 s) (content 3 s) (content 4 s) ∙ both-parts .1))
 
 -- ---- the answer and the buffer, by the first cause
 module _ (room : ℕ) (s : List ℕ) where
@@ -58,25 +63,25 @@ module _ (room : ℕ) (s : List ℕ) where
   pub judgement-open : {n p : ℕ} → firstCause (judgeCauses room s) ≡ Clear → cause11 (machineIn s) (content 2 s) (content 3 s) ≡ Refused n p
       → judgement room s ≡ RefusedAnswer n p
   unfolding judgement
-  judgement-open e f = ap₂ refusedOr e (ap (λ (c : Check). refusedOr c (verdict (machineIn s) (content 3 s) (content 4 s))) f)
+  judgement-open e f = ap₂ (refusedOr RefusedAnswer) e (ap (λ (c : Check). refusedOr RefusedAnswer c (verdict (machineIn s) (content 3 s) (content 4 s))) f)
 
   pub judgement-verdict : firstCause (judgeCauses room s) ≡ Clear → cause11 (machineIn s) (content 2 s) (content 3 s) ≡ Clear
       → judgement room s ≡ verdict (machineIn s) (content 3 s) (content 4 s)
   unfolding judgement
-  judgement-verdict e f = ap₂ refusedOr e (ap (λ (c : Check). refusedOr c (verdict (machineIn s) (content 3 s) (content 4 s))) f)
+  judgement-verdict e f = ap₂ (refusedOr RefusedAnswer) e (ap (λ (c : Check). refusedOr RefusedAnswer c (verdict (machineIn s) (content 3 s) (content 4 s))) f)
 
-pub marks-refused : (s buffer : List ℕ) {n p : ℕ} → firstCause (judgeCauses (length buffer) s) ≡ Refused n p → judgedMarks s buffer ≡ buffer
+pub judged-refused : (s buffer : List ℕ) {n p : ℕ} → firstCause (judgeCauses (length buffer) s) ≡ Refused n p → judgedMarks s buffer ≡ buffer
 unfolding judgedMarks
-marks-refused s buffer e = ap (λ (c : Check). changedUnless c (marksAfter s buffer) buffer) e
+judged-refused s buffer e = ap (λ (c : Check). unlessRefused c (marksAfter s buffer) buffer) e
 
-pub marks-clear : (s buffer : List ℕ) → firstCause (judgeCauses (length buffer) s) ≡ Clear → judgedMarks s buffer ≡ marksAfter s buffer
+pub judged-clear : (s buffer : List ℕ) → firstCause (judgeCauses (length buffer) s) ≡ Clear → judgedMarks s buffer ≡ marksAfter s buffer
 unfolding judgedMarks
-marks-clear s buffer e = ap (λ (c : Check). changedUnless c (marksAfter s buffer) buffer) e
+judged-clear s buffer e = ap (λ (c : Check). unlessRefused c (marksAfter s buffer) buffer) e
 
 -- so marks 0 to N are the sequence's, and later bytes stay as they were
 pub marks-kept : (s buffer : List ℕ) → firstCause (judgeCauses (length buffer) s) ≡ Clear
     → judgedMarks s buffer ≡ kept (marks (machineIn s) (content 2 s) (content 3 s)) buffer
-marks-kept s buffer e = marks-clear s buffer e ∙ after-clear s buffer (certifying-clear (length buffer) s e)
+marks-kept s buffer e = judged-clear s buffer e ∙ after-clear s buffer (certifying-clear (length buffer) s e)
 
 -- ---- what each answer says
 -- the results where nothing is refused and the sequence is certified; a refusal with the number and place of the first cause, or, where only that the
@@ -107,6 +112,21 @@ module _ (room : ℕ) (s : List ℕ) where
 
   pub judgement-result : Result room s (judgement room s)
   judgement-result = result-by (firstCause (judgeCauses room s)) (cause11 (machineIn s) (content 2 s) (content 3 s)) refl refl
+
+-- no result is a refusal
+result-not-refused : (M : Mealy) (xs ys : List ℕ) {a : Answer} {n p : ℕ} → Judged M xs ys a → a ≡ RefusedAnswer n p → ⊥
+result-not-refused M xs ys (passed y m t) q = let z : _≡_ {A = ℕ} 0 1 = cc in omega arith
+result-not-refused M xs ys (wrong l r d x y) q = let z : _≡_ {A = ℕ} 0 1 = cc in omega arith
+result-not-refused M xs ys (unfinished y l r) q = let z : _≡_ {A = ℕ} 0 1 = cc in omega arith
+
+-- a refusal other than judging's 11 writes nothing
+pub refused-marks : (s buffer : List ℕ) {n p : ℕ} → judgement (length buffer) s ≡ RefusedAnswer n p → (n ≡ 11 → ⊥) → judgedMarks s buffer ≡ buffer
+refused-marks s buffer {n} {p} e other = go (judgement-result (length buffer) s) e
+  where
+    go : {a : Answer} → Result (length buffer) s a → a ≡ RefusedAnswer n p → judgedMarks s buffer ≡ buffer
+    go (refused f) q = judged-refused s buffer f
+    go (not-certified f o) q = let eleven : n ≡ 11 = cc in absurd (other eleven)
+    go (judged f c h) q = absurd (result-not-refused (machineIn s) (content 3 s) (content 4 s) h q)
 
 -- what pass shows
 pub record Passes (room : ℕ) (s : List ℕ) (size end : ℕ) : Type 0 where
@@ -145,7 +165,7 @@ pass-identity room s ae U size end pass own =
     let load = load-clear judgeNeeds room s (marking-clear room s (h .clear)) in
     let M = machineIn s in
     rw (h .ends)
-    (identity M (content 2 s) (content 3 s) (machine-proper judgeNeeds s (clear-table judgeNeeds s load))
+    (identity M (content 2 s) (content 3 s) (load-proper judgeNeeds s load)
     (sequence-commands judgeNeeds room s (marking-clear room s (h .clear)))
     (word-distinguishes judgeNeeds s refl load .separates) (h .certified) U (sym (h .complete) ∙ own))
 

@@ -1,7 +1,7 @@
 -- The values of judging's answer are small, of a sheet of bytes: places of refusals lie inside the longest sheet, places of answers are at most N, the
 -- end state is one of the machine's, and answers are bytes. So the capture rig's number holds each of them in its own bits.
 use Prim.Native.Nat.{ℕ, _<_}
-use mathlib.Core.Path.{_≡_, refl}
+use mathlib.Core.Path.{_≡_, refl, sym}
 use mathlib.Core.List.{List}
 use native.Mathlib.Omega.{arith}
 use lib.ListN.{length, getD}
@@ -15,7 +15,7 @@ use Rattle.machine.specs.Limits.{mostSequence}
 use Rattle.machine.specs.Machine.{Mealy, Proper, Commands, stateAt}
 use Rattle.machine.specs.Machine.Laws.{answer-at, state-stays}
 use Rattle.machine.specs.Causes.{machineIn}
-use Rattle.machine.specs.Causes.Lists.{machine-proper, clear-table}
+use Rattle.machine.specs.Causes.Lists.{load-proper}
 use Rattle.machine.specs.Causes.Places.{load-short, answer-byte}
 use Rattle.certify.specs.Certification.{certifyCauses}
 use Rattle.certify.specs.Certification.Laws.{open-refused, load-clear, sequence-commands}
@@ -24,23 +24,22 @@ use Rattle.judge.specs.declared.answer.Answer.{Answer}
 use Rattle.judge.specs.declared.answer.Answer.the-variants.{Pass}
 use Rattle.judge.specs.Judging.{judgeNeeds, cause10, judgeCauses, judgement, valuesOf}
 use Rattle.judge.specs.Judging.Verdict.{Judged, passed, wrong, unfinished}
-use Rattle.judge.specs.Judging.Laws.{judge-causes-are, marking-clear, few-answers, Result, refused, not-certified, judged, judgement-result}
+use Rattle.judge.specs.Judging.Laws.{cause10-is, judge-causes-are, marking-clear, few-answers, Result, refused, not-certified, judged, judgement-result}
 
 -- ---- refusals
 -- of causes 1 to 7, 9 and 10
 pub judge-small : (room : ℕ) (s : List ℕ) → WhereRefused Small (firstCause (judgeCauses room s))
-unfolding cause10
 judge-small room s =
     place-of Small (judge-causes-are room s)
     (place-else Small (firstCause (certifyCauses judgeNeeds room s)) (cause10 (the 4 s) (content 3 s) (content 4 s)) (certify-small judgeNeeds room s)
-    (λ q. place-cause Small 10 (the 4 s .start) _
-    (λ t. record { number = omega arith; place = omega (arith, the-inside 4 s, load-short judgeNeeds s (load-clear judgeNeeds room s q)) })))
+    (λ q. place-of Small (sym (cause10-is (the 4 s) (content 3 s) (content 4 s))) (place-cause Small 10 (the 4 s .start) _
+    (λ t. record { number = omega arith; place = omega (arith, the-inside 4 s, load-short judgeNeeds s (load-clear judgeNeeds room s q)) }))))
 
 -- ---- the values
 module _ (room : ℕ) (s : List ℕ) (bytes : Bytes s) where
   module _ (e : firstCause (judgeCauses room s) ≡ Clear) where
     proper : Proper (machineIn s)
-    proper = machine-proper judgeNeeds s (clear-table judgeNeeds s (load-clear judgeNeeds room s (marking-clear room s e)))
+    proper = load-proper judgeNeeds s (load-clear judgeNeeds room s (marking-clear room s e))
 
     commands : Commands mostSequence (machineIn s .k) (content 3 s)
     commands = sequence-commands judgeNeeds room s (marking-clear room s e)

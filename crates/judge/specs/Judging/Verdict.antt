@@ -8,6 +8,7 @@ use lib.Dec.{ltb, eqb}
 use lib.ListN.{length, getD}
 use lib.Seq.{ext-getD}
 use borrow.Author.Tests.{eqb-true, eqb-false, ltb-true, ltb-false, lt-ltb, le-ltb}
+use Rattle.sheet.specs.Tests.{if-true, if-false}
 use Rattle.machine.specs.Machine.{Mealy, answers, stateAt}
 use Rattle.machine.specs.Machine.Laws.{answers-length}
 use Rattle.judge.specs.declared.answer.Answer.{Answer}
@@ -71,12 +72,6 @@ pub data Judged (M : Mealy) (xs ys : List ℕ) : Answer → Type 0 where
       → specified ≡ getD (answers M (M .start) xs) place 0 → given ≡ getD ys place 0 → Judged M xs ys (Wrong place specified given)
   -- "unfinished with the number of answers, all right, fewer than N"
   unfinished : {number : ℕ} → number ≡ length ys → number < length xs → Right M xs ys number → Judged M xs ys (Unfinished number)
-
-if-true : {t : Bool} (a b : Answer) → t ≡ true → cond t a b ≡ a
-if-true a b e = ap (λ (t : Bool). cond t a b) e
-
-if-false : {t : Bool} (a b : Answer) → t ≡ false → cond t a b ≡ b
-if-false a b e = ap (λ (t : Bool). cond t a b) e
 
 module _ (M : Mealy) (xs ys : List ℕ) (few : length ys ≤ length xs) where
   abbrev specified : List ℕ

@@ -3,21 +3,22 @@ use Prim.Native.Nat.{ℕ, _+_, _*_, _<_, _≤_}
 use mathlib.Core.Path.{_≡_, sym, ap, ap₂, _∙_, fun-ext}
 use mathlib.Core.Bool.{Bool, false, not, _||_}
 use mathlib.Core.List.{List}
-use native.Mathlib.Omega.{arith}
-use native.Mathlib.Nat.{zero-add, one-mul, add-mul, mul-le-mul, mul-le-mul-right}
+use native.Mathlib.Nat.{zero-add, one-mul}
 use borrow.Author.Tests.{ltb-false, leb-false, eqb-true, not-false, le-ltb, lt-leb}
+use lib.Arith.{digits-lt}
 use lib.Dec.{leb, ltb, eqb}
 use lib.ListN.{length, getD}
 use Rattle.sheet.specs.declared.check.Check.{Check}
 use Rattle.sheet.specs.declared.check.Check.the-variants.{Clear}
 use Rattle.sheet.specs.declared.record.Record.{Record}
+use Rattle.sheet.specs.Tests.{neither}
 use Rattle.sheet.specs.Check.{refusal_with_if_, _else_, first}
-use Rattle.sheet.specs.Check.Laws.{neither, absent, clear-absent, else-clear, both-clear, first-clear, first-clear-at}
+use Rattle.sheet.specs.Check.Laws.{absent, clear-absent, else-clear, both-clear, first-clear, first-clear-at}
 use Rattle.sheet.specs.Format.{header, offset}
 use Rattle.sheet.specs.Format.Laws.{offset-is}
-use Rattle.machine.specs.Limits.{mostStates, mostCommands, mostEntries}
-use Rattle.machine.specs.Machine.{Mealy, pairAt, Proper, Commands}
-use Rattle.machine.specs.Causes.{outside, cause3, cause4, commandsCause}
+use Rattle.machine.specs.Limits.{mostStates, mostCommands, mostEntries, entries-few}
+use Rattle.machine.specs.Machine.{pairAt, Commands}
+use Rattle.machine.specs.Causes.{outside, cause3, cause4, byteCause, commandsCause}
 
 -- cause 3, of the bytes and tests as the code has them
 pub cause3-is : (r : Record) (p : List ℕ) {n k : ℕ} → n ≡ getD p 0 0 → k ≡ getD p 1 0 → {a b : Bool} → a ≡ outside 1 mostStates n → b ≡ outside 1 mostCommands k
@@ -25,11 +26,7 @@ pub cause3-is : (r : Record) (p : List ℕ) {n k : ℕ} → n ≡ getD p 0 0 →
 unfolding cause3
 cause3-is r p {n} {k} ne ke {a} {b} ae be = rw (ae, be, ne, ke)
 
--- the cause at byte from + stride * i of a part that starts at base in the sheet: the byte is bound or more
-unfoldable pub byteCause : ℕ → ℕ → List ℕ → ℕ → ℕ → ℕ → ℕ → Check
-byteCause number base p from stride bound i = refusal number with base + (from + stride * i) if leb bound (getD p (from + stride * i) 0)
-
--- the check that a scan makes there
+-- the check that a scan makes at a byte
 pub byte-check-is : (number base : ℕ) (p : List ℕ) (from stride bound i : ℕ) {b : ℕ} {c : Check} → b ≡ getD p (from + stride * i) 0
     → c ≡ (refusal number with base + (from + stride * i) if leb bound b) → c ≡ byteCause number base p from stride bound i
 unfolding byteCause
@@ -82,25 +79,14 @@ clear-shape r p e =
 
 -- a machine with few states and commands has few entries
 pub few-entries : (p : List ℕ) → Shape p → getD p 0 0 * getD p 1 0 ≤ mostEntries
-few-entries p h = mul-le-mul {n₁ = getD p 0 0} {m₁ = getD p 1 0} {n₂ = mostStates} {m₂ = mostCommands} (h .few-states) (h .few-commands)
-
--- entry (s, c) stands among the n·k
-pub entry-below : (n k s c : ℕ) → s < n → c < k → s * k + c < n * k
-entry-below n k s c p q = omega (arith, add-mul s 1 k, one-mul k, mul-le-mul-right {m = s + 1} {n = n} k (omega arith))
-
--- a machine within the limits has few entries
-pub proper-entries : (M : Mealy) → Proper M → M .n * M .k ≤ mostEntries
-proper-entries M h = mul-le-mul {n₁ = M .n} {m₁ = M .k} {n₂ = mostStates} {m₂ = mostCommands} (h .few-states) (h .few-commands)
-
-pub proper-entry : (M : Mealy) → Proper M → (s c : ℕ) → s < M .n → c < M .k → s * M .k + c < mostEntries
-proper-entry M h s c sl cl = omega (arith, entry-below (M .n) (M .k) s c sl cl, proper-entries M h)
+few-entries p h = entries-few (getD p 0 0) (getD p 1 0) (h .few-states) (h .few-commands)
 
 pub clear-next : (r : Record) (p : List ℕ) → cause4 r p ≡ Clear → (s c : ℕ) → s < getD p 0 0 → c < getD p 1 0
     → getD p (pairAt (s * getD p 1 0 + c)) 0 < getD p 0 0
 unfolding cause4
 clear-next r p e s c sl cl =
     let i = s * getD p 1 0 + c in
-    leb-false _ _ (clear-absent 4 (offset r (pairAt i)) _ (first-clear-at _ i _ e (entry-below (getD p 0 0) (getD p 1 0) s c sl cl)))
+    leb-false _ _ (clear-absent 4 (offset r (pairAt i)) _ (first-clear-at _ i _ e (digits-lt {q = s} {m = getD p 0 0} {r = c} {c = getD p 1 0} sl cl)))
 
 -- the commands of a word or a sequence
 pub clear-commands : (number most k : ℕ) (r : Record) (w : List ℕ) → commandsCause number most k r w ≡ Clear → Commands most k w

@@ -1,5 +1,5 @@
 -- The laws of causes 1 to 6 in order, and what a sheet shows where they are clear.
-use Prim.Native.Nat.{ℕ, _+_, _*_}
+use Prim.Native.Nat.{ℕ}
 use mathlib.Core.Path.{_≡_, sym, ap, ap₂, _∙_}
 use mathlib.Core.Bool.{Bool, true, false}
 use mathlib.Core.List.{List, [], _∷_, List·Memᴰ}
@@ -10,19 +10,16 @@ use Rattle.sheet.specs.declared.check.Check.{Check}
 use Rattle.sheet.specs.declared.check.Check.the-variants.{Clear}
 use Rattle.sheet.specs.declared.reader.Needs.{Needs}
 use Rattle.sheet.specs.Check.{_else_, firstCause}
-use Rattle.sheet.specs.Check.Laws.{else-clear, both-clear, cause-none, cause-cons, cause-one, cause-append}
-use Rattle.sheet.specs.Reader.{sheetCauses, needed, the, content, Reads}
-use Rattle.sheet.specs.Reader.Laws.{needed-without-answers, needed-clear, clear-reads}
-use Rattle.machine.specs.Limits.{mostEntries, mostWord}
+use Rattle.sheet.specs.Check.Laws.{else-clear, both-clear, cause-none, cause-two, cause-append}
+use Rattle.sheet.specs.Reader.{sheetCauses, needed, refusalOf, the, content, Reads}
+use Rattle.sheet.specs.Reader.Laws.{needed-without-answers, needed-machine, needed-word, needed-clear, clear-reads}
+use Rattle.machine.specs.Limits.{mostMachine, mostWord}
 use Rattle.machine.specs.Machine.{Mealy, machineOf, Proper, Distinguishes}
 use Rattle.machine.specs.Causes.{cause3, cause4, cause5, cause6, machineIn, held, machineCauses, wordCauses, loadCauses}
 use Rattle.machine.specs.Causes.Laws.{Shape, clear-shape, few-entries, clear-next, clear-commands}
 use Rattle.machine.specs.Causes.Separation.{clear-separates}
 
 -- ---- the lists, written out
-cause-two : (a b : Check) → firstCause (a ∷ b ∷ []) ≡ (a else b)
-cause-two a b = cause-cons a (b ∷ []) ∙ ap (λ (c : Check). a else c) (cause-one b)
-
 pub machine-causes-are : (n : Needs) (s : List ℕ) → firstCause (machineCauses n s)
     ≡ (firstCause (sheetCauses (needed n) s) else (cause3 (the 1 s) (content 1 s) else cause4 (the 1 s) (content 1 s)))
 unfolding machineCauses
@@ -44,9 +41,9 @@ unfolding loadCauses
 load-causes-are n s = cause-append (machineCauses n s) (wordCauses (n .word) s)
 
 -- the machine that is loaded from what reading hands back is the one that is held
-pub held-loaded : (s : List ℕ) {p : List ℕ} {M : Mealy} → p ≡ content 1 s → M ≡ machineOf (take (2 + 2 * mostEntries) p) → M ≡ held s
+pub held-loaded : (s : List ℕ) {p : List ℕ} {M : Mealy} → p ≡ content 1 s → M ≡ machineOf (take mostMachine p) → M ≡ held s
 unfolding held
-held-loaded s pe e = e ∙ ap (λ (x : List ℕ). machineOf (take (2 + 2 * mostEntries) x)) pe
+held-loaded s pe e = e ∙ ap (λ (x : List ℕ). machineOf (take mostMachine x)) pe
 
 -- sheets with the same record 1 have the same machine
 pub machine-same : (s t : List ℕ) → content 1 t ≡ content 1 s → machineIn t ≡ machineIn s
@@ -58,8 +55,12 @@ module _ (n : Needs) (s : List ℕ) (e : firstCause (machineCauses n s) ≡ Clea
   table-clear : (cause3 (the 1 s) (content 1 s) ≡ Clear) × (cause4 (the 1 s) (content 1 s) ≡ Clear)
   table-clear = both-clear _ _ (both-clear _ _ (sym (machine-causes-are n s) ∙ e) .1)
 
+  -- reading a needed kind is not refused
+  kind-clear : (k : ℕ) → List·Memᴰ k (needed n) → refusalOf k s ≡ Clear
+  kind-clear k m = needed-clear s (needed n) k m (both-clear _ _ (sym (machine-causes-are n s) ∙ e) .0)
+
   pub kind-reads : (k : ℕ) → List·Memᴰ k (needed n) → Reads k s
-  kind-reads k m = clear-reads k s (needed-clear s (needed n) k m (both-clear _ _ (sym (machine-causes-are n s) ∙ e) .0))
+  kind-reads k m = clear-reads k s (kind-clear k m)
 
   pub shape-of : Shape (content 1 s)
   shape-of = clear-shape (the 1 s) (content 1 s) (table-clear .0)
@@ -67,7 +68,7 @@ module _ (n : Needs) (s : List ℕ) (e : firstCause (machineCauses n s) ≡ Clea
   -- the machine that is held is the sheet's
   pub held-is : held s ≡ machineIn s
   unfolding held machineIn
-  held-is = ap machineOf (take-all (2 + 2 * mostEntries) (content 1 s) (omega (arith, shape-of .long, few-entries (content 1 s) shape-of)))
+  held-is = ap machineOf (take-all mostMachine (content 1 s) (omega (arith, shape-of .long, few-entries (content 1 s) shape-of)))
 
 pub machine-proper : (n : Needs) (s : List ℕ) → firstCause (machineCauses n s) ≡ Clear → Proper (machineIn s)
 unfolding machineIn machineOf
@@ -84,6 +85,16 @@ machine-proper n s e =
 
 pub clear-table : (n : Needs) (s : List ℕ) → firstCause (loadCauses n s) ≡ Clear → firstCause (machineCauses n s) ≡ Clear
 clear-table n s e = both-clear _ _ (sym (load-causes-are n s) ∙ e) .0
+
+-- the machine of a loaded sheet is within the limits, and reading the machine or a needed word is not refused
+pub load-proper : (n : Needs) (s : List ℕ) → firstCause (loadCauses n s) ≡ Clear → Proper (machineIn s)
+load-proper n s e = machine-proper n s (clear-table n s e)
+
+pub load-machine : (n : Needs) (s : List ℕ) → firstCause (loadCauses n s) ≡ Clear → refusalOf 1 s ≡ Clear
+load-machine n s e = kind-clear n s (clear-table n s e) 1 (needed-machine n)
+
+pub load-word : (n : Needs) (s : List ℕ) → n .word ≡ true → firstCause (loadCauses n s) ≡ Clear → refusalOf 2 s ≡ Clear
+load-word n s t e = kind-clear n s (clear-table n s e) 2 (needed-word n t)
 
 pub word-distinguishes : (n : Needs) (s : List ℕ) → n .word ≡ true → firstCause (loadCauses n s) ≡ Clear → Distinguishes (machineIn s) (content 2 s)
 word-distinguishes n s t e =

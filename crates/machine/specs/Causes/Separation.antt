@@ -6,27 +6,18 @@ use mathlib.Core.List.{List, [], _∷_}
 use native.Mathlib.Omega.{arith}
 use lib.Dec.{ltb, eqb}
 use borrow.Author.Tests.{lt-ltb, le-ltb, ltb-true, ltb-false, eq-eqb, eqb-true}
-use Rattle.sheet.specs.declared.check.Check.{Check}
 use Rattle.sheet.specs.declared.check.Check.the-variants.{Clear, Refused}
+use Rattle.sheet.specs.Tests.{both-true}
 use Rattle.sheet.specs.Check.{refusal_with_if_, first}
-use Rattle.sheet.specs.Check.Laws.{both-true, absent, present, clear-absent, first-clear, first-clear-at}
+use Rattle.sheet.specs.Check.Laws.{absent, present, clear-absent, first-clear, first-clear-at}
 use Rattle.machine.specs.Machine.{Mealy, tabled, answers, Separates}
 use Rattle.machine.specs.Machine.Laws.{answers-tabled}
-use Rattle.machine.specs.Causes.{same, cause6}
-
--- whether two states answer a word alike, of two columns; the number of states and the start play no part
-abbrev pub agrees : ℕ → List ℕ → List ℕ → List ℕ → ℕ → ℕ → Bool
-agrees k next answer w i j = same (answers (tabled 0 k 0 next answer) i w) (answers (tabled 0 k 0 next answer) j w)
-
--- the cause at a pair of states
-unfoldable pub pairCause : Mealy → List ℕ → ℕ → ℕ → Check
-pairCause M w i j = refusal 6 with 16 * i + j if (ltb i j && same (answers M i w) (answers M j w))
+use Rattle.machine.specs.Causes.{same, pairCause, cause6}
 
 -- ---- a pair that a loop looks at
 module _ (M : Mealy) (w : List ℕ) (i : ℕ) where
   -- no pair below or on the diagonal counts
   pub low-clear : first (i + 1) (pairCause M w i) ≡ Clear
-  unfolding pairCause
   low-clear = first-clear (i + 1) (pairCause M w i)
       (λ j l. absent 6 (16 * i + j) (ap (λ (b : Bool). b && same (answers M i w) (answers M j w)) (le-ltb i j (omega arith))))
 
@@ -35,21 +26,18 @@ module _ (M : Mealy) (w : List ℕ) (i : ℕ) where
     tested = ap (λ (x : Bool). x && same (answers M i w) (answers M j w)) (lt-ltb i j above) ∙ sym e
 
     pub pair-present : b ≡ true → Refused 6 (16 * i + j) ≡ pairCause M w i j
-    unfolding pairCause
     pair-present t = sym (present 6 (16 * i + j) (tested ∙ t))
 
     pub pair-absent : b ≡ false → Clear ≡ pairCause M w i j
-    unfolding pairCause
     pair-absent t = sym (absent 6 (16 * i + j) (tested ∙ t))
 
 -- ---- all pairs
 pub cause6-is : (M : Mealy) (w : List ℕ) → first (M .n) (λ i. first (M .n) (pairCause M w i)) ≡ cause6 M w
-unfolding cause6 pairCause
+unfolding cause6
 cause6-is M w = refl
 
 pub pairs-tabled : (n k start n′ start′ : ℕ) (next answer w : List ℕ) (i : ℕ)
     → pairCause (tabled n k start next answer) w i ≡ pairCause (tabled n′ k start′ next answer) w i
-unfolding pairCause
 pairs-tabled n k start n′ start′ next answer w i =
     fun-ext (λ j. ap₂ (λ (x y : List ℕ). refusal 6 with 16 * i + j if (ltb i j && same x y))
     (answers-tabled n k start n′ start′ next answer i w)
@@ -81,7 +69,6 @@ same-equal (x ∷ xs) (y ∷ ys) e =
 
 -- ---- cause 6 and separation
 pair-clear : (M : Mealy) (w : List ℕ) → cause6 M w ≡ Clear → (i j : ℕ) → i < M .n → j < M .n → (ltb i j && same (answers M i w) (answers M j w)) ≡ false
-unfolding pairCause
 pair-clear M w e i j il jl = clear-absent 6 (16 * i + j) _ (first-clear-at (M .n) j (pairCause M w i) (first-clear-at (M .n) i _ (cause6-is M w ∙ e) il) jl)
 
 never-below : (M : Mealy) (w : List ℕ) → cause6 M w ≡ Clear → (i j : ℕ) → i < M .n → j < M .n → answers M i w ≡ answers M j w → i < j → ⊥
@@ -98,7 +85,6 @@ clear-separates M w e i j il jl q = go (ltb i j) refl (ltb j i) refl
     go false t false u = let a : j ≤ i = ltb-false i j t in let b : i ≤ j = ltb-false j i u in omega arith
 
 pub separates-clear : (M : Mealy) (w : List ℕ) → Separates M w → cause6 M w ≡ Clear
-unfolding pairCause
 separates-clear M w h =
     sym (cause6-is M w)
     ∙ first-clear (M .n) _ (λ i il. first-clear (M .n) (pairCause M w i) (λ j jl. absent 6 (16 * i + j) (go i j il jl _ refl)))

@@ -1,12 +1,15 @@
 -- The laws of machines and their runs.
-use Prim.Native.Nat.{ℕ, zero, suc, _+_, _*_, _<_}
+use Prim.Native.Nat.{ℕ, zero, suc, _+_, _*_, _≤_, _<_}
 use mathlib.Core.Path.{_≡_, refl, sym, ap, ap₂, _∙_}
 use mathlib.Core.List.{List, [], _∷_, _++_}
 use native.Mathlib.Omega.{arith}
 use native.Mathlib.Numerals.{add-one}
+use lib.Arith.{digits-lt}
 use lib.ListN.{length, getD, take, drop, length-take, length-drop}
-use lib.Seq.{take-append-seam, take-suc, take-add, take-all, getD-take, getD-drop}
-use Rattle.machine.specs.Machine.{Mealy, tabled, run, answers, stateAt, Proper}
+use lib.Seq.{take-append-seam, take-suc, take-add, take-all, getD-take, getD-drop, drop-cons}
+use Rattle.machine.specs.declared.machine.Machine.{Machine}
+use Rattle.machine.specs.Limits.{mostEntries, entries-few}
+use Rattle.machine.specs.Machine.{Mealy, tabled, meaning, run, answers, stateAt, Proper}
 
 -- two machines are equal where they have the same states, commands, start and entries
 pub mealy-same : (a b : Mealy) → a .n ≡ b .n → a .k ≡ b .k → a .start ≡ b .start
@@ -25,6 +28,17 @@ tabled-states n k start next answer = refl
 pub tabled-start : (n k start : ℕ) (next answer : List ℕ) → tabled n k start next answer .start ≡ start
 unfolding tabled
 tabled-start n k start next answer = refl
+
+-- and of the program's value
+module _ (m : Machine) where
+  pub meaning-states : meaning m .n ≡ m .n
+  meaning-states = tabled-states (m .n) (m .k) (m .start) (m .next) (m .answer)
+
+  pub meaning-commands : meaning m .k ≡ m .k
+  meaning-commands = tabled-commands (m .n) (m .k) (m .start) (m .next) (m .answer)
+
+  pub meaning-start : meaning m .start ≡ m .start
+  meaning-start = tabled-start (m .n) (m .k) (m .start) (m .next) (m .answer)
 
 -- a cell of a column, at an entry's place, is the entry's
 pub tabled-next : (n k start : ℕ) (next answer : List ℕ) (s c : ℕ) {v a : ℕ} → v ≡ getD next a 0 → a ≡ s * k + c → v ≡ tabled n k start next answer .next s c
@@ -59,6 +73,14 @@ pub answers-cons : (M : Mealy) (s c : ℕ) (w : List ℕ) → answers M s (c ∷
 unfolding answers
 answers-cons M s c w = refl
 
+-- the same from a place of a word on
+rest-cons : (w : List ℕ) (p : ℕ) → p < length w → drop p w ≡ getD w p 0 ∷ drop (p + 1) w
+rest-cons w p l = drop-cons w p 0 l ∙ ap (λ (x : ℕ). getD w p 0 ∷ drop x w) (sym (add-one p))
+
+pub answers-rest : (M : Mealy) (s : ℕ) (w : List ℕ) (p : ℕ) → p < length w
+    → answers M s (drop p w) ≡ M .answer s (getD w p 0) ∷ answers M (M .next s (getD w p 0)) (drop (p + 1) w)
+answers-rest M s w p l = ap (answers M s) (rest-cons w p l) ∙ answers-cons M s (getD w p 0) (drop (p + 1) w)
+
 pub answers-none : (M : Mealy) (s : ℕ) → answers M s [] ≡ []
 unfolding answers
 answers-none M s = refl
@@ -72,15 +94,13 @@ pub run-cons : (M : Mealy) (s c : ℕ) (w : List ℕ) → run M s (c ∷ w) ≡ 
 unfolding run
 run-cons M s c w = refl
 
+pub run-rest : (M : Mealy) (s : ℕ) (w : List ℕ) (p : ℕ) → p < length w → run M s (drop p w) ≡ run M (M .next s (getD w p 0)) (drop (p + 1) w)
+run-rest M s w p l = ap (run M s) (rest-cons w p l) ∙ run-cons M s (getD w p 0) (drop (p + 1) w)
+
 pub run-append : (M : Mealy) (s : ℕ) (u v : List ℕ) → run M s (u ++ v) ≡ run M (run M s u) v
 unfolding run
 run-append M s [] v = refl
 run-append M s (c ∷ u) v = run-append M (M .next s c) u v
-
-pub answers-append : (M : Mealy) (s : ℕ) (u v : List ℕ) → answers M s (u ++ v) ≡ answers M s u ++ answers M (run M s u) v
-unfolding run answers
-answers-append M s [] v = refl
-answers-append M s (c ∷ u) v = ap (λ (l : List ℕ). M .answer s c ∷ l) (answers-append M (M .next s c) u v)
 
 pub answers-length : (M : Mealy) (s : ℕ) (w : List ℕ) → length (answers M s w) ≡ length w
 unfolding answers
@@ -178,3 +198,10 @@ run-stays M h = run-closed M (h .stays)
 
 pub state-stays : (M : Mealy) → Proper M → (xs : List ℕ) → ((i : ℕ) → i < length xs → getD xs i 0 < M .k) → (p : ℕ) → stateAt M xs p < M .n
 state-stays M h = state-closed M (h .stays) (h .starts)
+
+-- it has few entries, and entry (s, c) stands among them
+pub proper-entries : (M : Mealy) → Proper M → M .n * M .k ≤ mostEntries
+proper-entries M h = entries-few (M .n) (M .k) (h .few-states) (h .few-commands)
+
+pub proper-entry : (M : Mealy) → Proper M → (s c : ℕ) → s < M .n → c < M .k → s * M .k + c < mostEntries
+proper-entry M h s c sl cl = omega (arith, digits-lt {q = s} {m = M .n} {r = c} {c = M .k} sl cl, proper-entries M h)

@@ -1,35 +1,41 @@
 -- The sheet that is made from what was built is read as meant, and certifying answers certified.
-use Prim.Native.Nat.{ℕ, _+_, _≤_, _<_}
+use Prim.Native.Nat.{ℕ, _+_, _^_, _≤_, _<_}
 use mathlib.Core.Path.{_≡_, refl, sym, ap, ap₂, subst, _∙_}
 use mathlib.Core.Bool.{true, false}
-use mathlib.Core.List.{List}
+use mathlib.Core.List.{List, _++_}
 use native.Mathlib.Omega.{arith}
-use borrow.Author.Tests.{le-ltb}
-use lib.ListN.{length}
+use lib.ListN.{length, take}
 use Rattle.sheet.specs.declared.check.Check.the-variants.{Clear}
 use Rattle.sheet.specs.declared.record.Record.{Record}
 use Rattle.sheet.specs.declared.record.Found.the-variants.{At}
 use Rattle.sheet.specs.Check.{_else_, firstCause}
 use Rattle.sheet.specs.Check.Laws.{absent, both-clear, else-clear}
-use Rattle.sheet.specs.Format.{longest, end, parsed, find}
-use Rattle.sheet.specs.Reader.{isMissing, the, needed, refusalOf, content, sheetCauses}
-use Rattle.sheet.specs.Reader.Laws.{whenMissing, when-missing, checks-are, the-found, needed-clear, needed-machine, needed-word, clear-reads}
-use Rattle.machine.specs.Limits.{mostSequence}
+use Rattle.sheet.specs.Format.{longest, header, end, parsed, find}
+use Rattle.sheet.specs.Format.Laws.{start-at, end-size}
+use Rattle.sheet.specs.Reader.{isMissing, whenMissing, the, needed, refusalOf, content, sheetCauses}
+use Rattle.sheet.specs.Reader.Laws.{when-missing, checks-are, the-found, clear-reads, found-the, size-of}
+use Rattle.machine.specs.Limits.{mostMachine, mostWord, mostSequence}
 use Rattle.machine.specs.Machine.{Mealy, Commands}
 use Rattle.machine.specs.Causes.{cause3, cause4, cause5, cause6, machineIn, loadCauses}
 use Rattle.machine.specs.Causes.Laws.{few-entries, commands-clear}
-use Rattle.machine.specs.Causes.Lists.{machine-same, machine-causes-are, word-causes-are, load-causes-are, shape-of, clear-table, word-distinguishes}
+use Rattle.machine.specs.Causes.Lists.{machine-same, machine-causes-are, word-causes-are, load-causes-are, shape-of, clear-table, load-machine, load-word, word-distinguishes}
 use Rattle.certify.specs.declared.answer.Answer.the-variants.{Certified}
 use Rattle.certify.specs.Marks.{count, marks}
 use Rattle.certify.specs.Certification.{certifyNeeds, cause7, certification}
-use Rattle.certify.specs.Certification.Laws.{cause9-is, certify-causes-are}
+use Rattle.certify.specs.Certification.Laws.{room-clear, certify-causes-are}
 use Rattle.build.specs.declared.service.Answer.the-variants.{Built}
 use Rattle.build.specs.Sequence.{sequence}
 use Rattle.build.specs.Building.{buildNeeds, building}
 use Rattle.build.specs.Building.Service.{load-clear, answer-built, built-shows, built-certification}
 use Rattle.report.specs.Sheets.{withSequence, builtSheet}
 use Rattle.sheet.specs.Format.Records.{Pair, pair-of}
+use Rattle.sheet.specs.Writing.{headerOf}
 use Rattle.sheet.specs.Writing.Reading as reading
+
+-- ---- the sheet with a sequence added, in its parts
+pub with-sequence-is : (s xs : List ℕ) → take (end (the 2 s)) s ++ headerOf 3 (length xs) ++ xs ≡ withSequence s xs
+unfolding withSequence
+with-sequence-is s xs = refl
 
 -- ---- a sheet from which a sequence was built
 record Source (s : List ℕ) : Type 0 where
@@ -39,7 +45,7 @@ record Source (s : List ℕ) : Type 0 where
   pub at-two : find 2 (parsed s .records) ≡ At (the 2 s)
   pub pair : Pair s (the 1 s) (the 2 s)
   pub inside : end (the 2 s) ≤ length s
-  pub short : end (the 2 s) ≤ 190
+  pub short : end (the 2 s) ≤ header + mostMachine + (header + mostWord)
   pub table : (cause3 (the 1 s) (content 1 s) else cause4 (the 1 s) (content 1 s)) ≡ Clear
   pub word : (cause5 (machineIn s .k) (the 2 s) (content 2 s) else cause6 (machineIn s) (content 2 s)) ≡ Clear
 
@@ -47,17 +53,17 @@ source-of : (s : List ℕ) → firstCause (loadCauses buildNeeds s) ≡ Clear �
 source-of s load =
     let rows = clear-table buildNeeds s load in
     let parts = both-clear _ _ (sym (machine-causes-are buildNeeds s) ∙ rows) in
-    let one = needed-clear s (needed buildNeeds) 1 (needed-machine buildNeeds) (parts .0) in
-    let two = needed-clear s (needed buildNeeds) 2 (needed-word buildNeeds refl) (parts .0) in
+    let one = load-machine buildNeeds s load in
+    let two = load-word buildNeeds s refl load in
     let reads-one = clear-reads 1 s one in
     let reads-two = clear-reads 2 s two in
-    let at-one = reading.found-the 1 s (λ e. omega (arith, e)) reads-one in
-    let at-two = reading.found-the 2 s (λ e. omega (arith, e)) reads-two in
+    let at-one = found-the 1 s (λ e. omega (arith, e)) reads-one in
+    let at-two = found-the 2 s (λ e. omega (arith, e)) reads-two in
     let pair = pair-of s at-one at-two in
     let shape = shape-of buildNeeds s rows in
-    let starts-one : the 1 s .start ≡ 0 = ap (λ (r : Record). r .start) (sym (pair .first .is)) ∙ reading.start-at s 0 in
-    let starts-two : the 2 s .start ≡ end (the 1 s) = ap (λ (r : Record). r .start) (sym (pair .second .is)) ∙ reading.start-at s (end (the 1 s)) in
-    let few : length (content 1 s) ≤ 162 = omega (arith, shape .long, few-entries (content 1 s) shape) in
+    let starts-one : the 1 s .start ≡ 0 = ap (λ (r : Record). r .start) (sym (pair .first .is)) ∙ start-at s 0 in
+    let starts-two : the 2 s .start ≡ end (the 1 s) = ap (λ (r : Record). r .start) (sym (pair .second .is)) ∙ start-at s (end (the 1 s)) in
+    let few : length (content 1 s) ≤ mostMachine = omega (arith, shape .long, few-entries (content 1 s) shape) in
     record {
       one = one;
       two = two;
@@ -65,7 +71,7 @@ source-of s load =
       at-two = at-two;
       pair = pair;
       inside = reads-two .inside;
-      short = omega (arith, starts-one, starts-two, few, reading.end-size (the 1 s), reading.end-size (the 2 s), reading.size-of 1 s one at-one (reads-one .inside), reading.size-of 2 s two at-two (reads-two .inside), word-distinguishes buildNeeds s refl load .commands .few);
+      short = omega (arith, starts-one, starts-two, few, end-size (the 1 s), end-size (the 2 s), size-of 1 s one at-one (reads-one .inside), size-of 2 s two at-two (reads-two .inside), word-distinguishes buildNeeds s refl load .commands .few);
       table = parts .1;
       word = sym (word-causes-are s) ∙ both-clear _ _ (sym (load-causes-are buildNeeds s) ∙ load) .1;
     }
@@ -73,7 +79,7 @@ source-of s load =
 present-kind : (k : ℕ) (t : List ℕ) {r : Record} → find k (parsed t .records) ≡ At r → whenMissing t k true ≡ Clear
 present-kind k t e = sym (when-missing t k true) ∙ absent 2 (length t) (ap isMissing e)
 
--- ---- the sheet with a sequence added
+-- ---- what the sheet with a sequence added is read as
 pub record Carries (s xs t : List ℕ) : Type 0 where
   pub machine : machineIn t ≡ machineIn s
   pub word : content 2 t ≡ content 2 s
@@ -81,14 +87,13 @@ pub record Carries (s xs t : List ℕ) : Type 0 where
   pub short : length t ≤ longest
   pub clear : firstCause (loadCauses certifyNeeds t) ≡ Clear
 
-carries : (s xs : List ℕ) → Source s → length xs ≤ mostSequence → Carries s xs (withSequence s xs)
-unfolding withSequence
-carries s xs h few =
+parts-carry : (s xs : List ℕ) → Source s → length xs ≤ mostSequence → Carries s xs (take (end (the 2 s)) s ++ headerOf 3 (length xs) ++ xs)
+parts-carry s xs h few =
     let p = h .pair in
     let inside = h .inside in
-    let low : length xs < 65536 = omega (arith, few) in
-    let short : end (the 2 s) + 6 + length xs ≤ longest = omega (arith, h .short, few) in
-    let t = withSequence s xs in
+    let low : length xs < 2 ^ 32 = omega (arith, few) in
+    let short : end (the 2 s) + header + length xs ≤ longest = omega (arith, h .short, few) in
+    let t = take (end (the 2 s)) s ++ headerOf 3 (length xs) ++ xs in
     let one : content 1 t ≡ content 1 s = reading.content-one s xs p inside low short (h .one) (h .at-one) in
     let two : content 2 t ≡ content 2 s = reading.content-two s xs p inside low short (h .two) (h .at-two) in
     let f1 = reading.find-one s xs p inside low in
@@ -120,6 +125,9 @@ carries s xs h few =
           ∙ else-clear Clear;
     }
 
+carries : (s xs : List ℕ) → Source s → length xs ≤ mostSequence → Carries s xs (withSequence s xs)
+carries s xs h few = subst (Carries s xs) (with-sequence-is s xs) (parts-carry s xs h few)
+
 -- where a sequence was built, the sheet that is made has the same machine and word and carries the sequence, and no cause of 1 to 6 is present
 pub built-carries : (room : ℕ) (s : List ℕ) {n : ℕ} → building room s ≡ Built n → Carries s (sequence (machineIn s) (content 2 s)) (builtSheet s)
 built-carries room s e =
@@ -139,5 +147,5 @@ built-sheet-certified room s {n} e marksRoom enough =
     (subst (λ (M : Mealy). Commands mostSequence (M .k) (content 3 t)) (sym (c .machine)) (subst (λ (l : List ℕ). Commands mostSequence (machineIn s .k) l) (sym (c .sequence)) (shows .commands))) in
     built-certification room s e marksRoom t (c .machine) (c .word) (c .sequence)
     (certify-causes-are certifyNeeds marksRoom t
-    ∙ ap₂ _else_ (c .clear) (ap₂ _else_ seven (sym (cause9-is marksRoom (length (content 3 t) + 1)) ∙ absent 9 (length (content 3 t) + 1) (le-ltb marksRoom (length (content 3 t) + 1) long)) ∙ else-clear Clear)
+    ∙ ap₂ _else_ (c .clear) (ap₂ _else_ seven (room-clear marksRoom (length (content 3 t) + 1) long) ∙ else-clear Clear)
     ∙ else-clear Clear)

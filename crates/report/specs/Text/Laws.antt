@@ -9,7 +9,7 @@ use native.Mathlib.Nat.{pow-suc, one-le-pow, pow-le-pow-right, mod-lt, mod-eq-of
 use borrow.Author.Tests.{lt-ltb, le-ltb, ltb-true, ltb-false}
 use lib.Dec.{ltb}
 use Rattle.io.specs.Digits.{glyph, digits, Fewest}
-use Rattle.report.specs.Text.{lastDigit, decimalWithin, decimal}
+use Rattle.report.specs.Text.{lastDigit, mostDigits, decimalWithin, decimal}
 
 -- ---- with a bound
 within-digit : (most n : ℕ) → n < 10 → decimalWithin (suc most) n ≡ (48 + n) ∷ []
@@ -90,13 +90,13 @@ agree (suc f) n (suc k) a h = go (ltb n 10) refl k h (agree f (n / 10) k)
 pub digits-decimal : (n k : ℕ) → Fewest 10 1 n k → digits 10 k n ≡ decimal n
 digits-decimal n k h = agree (n + 1) n k (omega arith) h
 
--- a 64-bit number has at most 20 digits
-pub few-digits : (n k : ℕ) → n < 2 ^ 64 → Fewest 10 1 n k → k ≤ 20
-few-digits n k l h = go (ltb 20 k) refl
+-- a 64-bit number has at most so many digits
+pub few-digits : (n k : ℕ) → n < 2 ^ 64 → Fewest 10 1 n k → k ≤ mostDigits
+few-digits n k l h = go (ltb mostDigits k) refl
   where
-    go : (t : Bool) → ltb 20 k ≡ t → k ≤ 20
-    go false e = ltb-false 20 k e
+    go : (t : Bool) → ltb mostDigits k ≡ t → k ≤ mostDigits
+    go false e = ltb-false mostDigits k e
     go true e =
-        let high = ltb-true 20 k e in
-        let most : 10 ^ 20 ≤ 10 ^ (k - 1) = pow-le-pow-right {n = 10} (omega arith) {i = 20} {j = k - 1} (omega arith) in
+        let high = ltb-true mostDigits k e in
+        let most : 10 ^ mostDigits ≤ 10 ^ (k - 1) = pow-le-pow-right {n = 10} (omega arith) {i = mostDigits} {j = k - 1} (omega arith) in
         let z : ⊥ = omega (arith, h .2 (omega arith)) in absurd z

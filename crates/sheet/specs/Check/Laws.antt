@@ -1,26 +1,21 @@
 -- The laws of checks: how a cause, two checks in a row, a list of causes and a first cause answer.
 use Prim.Native.Nat.{ℕ, zero, suc, _+_, _*_, _≤_, _<_}
 use mathlib.Core.Path.{_≡_, refl, sym, ap, _∙_}
-use mathlib.Core.Bool.{Bool, true, false, _&&_, _||_}
+use mathlib.Core.Bool.{Bool, true, false}
 use mathlib.Core.List.{List, [], _∷_, _++_}
 use native.Mathlib.Omega.{arith}
 use native.Mathlib.Nat.{le-of-suc-le-suc, eq-or-lt-of-le, not-suc-le-zero, add-zero, add-suc, zero-mul, suc-mul}
 use native.Mathlib.Numerals.{add-one}
-use mathlib.Core.Logic.{⊎-elim}
+use mathlib.Core.Logic.{_⊎_, inl, inr, ⊎-elim}
 use Rattle.sheet.specs.declared.check.Check.{Check}
 use Rattle.sheet.specs.declared.check.Check.the-variants.{Clear, Refused}
 use Rattle.sheet.specs.Check.{refusal_with_if_, _else_, firstCause, first}
 
+-- a refusal is not clear
+pub clear-refused : {A : Type 0} {n p : ℕ} {c : Check} → c ≡ Clear → c ≡ Refused n p → A
+clear-refused e r = let z : _≡_ {A = ℕ} 0 1 = cc in absurd (omega arith)
+
 -- ---- one cause
--- a test of two parts: of an `or` that fails, and of an `and` that passes
-pub neither : (a b : Bool) → (a || b) ≡ false → (a ≡ false) × (b ≡ false)
-neither true b e = (e, cc)
-neither false b e = (refl, e)
-
-pub both-true : (a b : Bool) → (a && b) ≡ true → (a ≡ true) × (b ≡ true)
-both-true true b e = (refl, e)
-both-true false b e = (e, cc)
-
 pub absent : (n p : ℕ) {b : Bool} → b ≡ false → (refusal n with p if b) ≡ Clear
 unfolding refusal_with_if_
 absent n p e = rw e
@@ -58,6 +53,12 @@ unfolding _else_
 both-clear Clear b e = (refl, e)
 both-clear (Refused n p) b e = (e, cc)
 
+-- where they refuse, the first one does, or it is clear and the second one does
+pub either-refused : (c d : Check) {a b : ℕ} → (c else d) ≡ Refused a b → (c ≡ Refused a b) ⊎ ((c ≡ Clear) × (d ≡ Refused a b))
+unfolding _else_
+either-refused Clear d e = inr (refl, e)
+either-refused (Refused n p) d e = inl e
+
 -- ---- a list of causes
 pub cause-none : firstCause [] ≡ Clear
 unfolding firstCause
@@ -70,6 +71,9 @@ cause-cons c cs = refl
 pub cause-one : (c : Check) → firstCause (c ∷ []) ≡ c
 unfolding firstCause
 cause-one c = else-end c
+
+pub cause-two : (c d : Check) → firstCause (c ∷ d ∷ []) ≡ (c else d)
+cause-two c d = cause-cons c (d ∷ []) ∙ ap (λ (x : Check). c else x) (cause-one d)
 
 pub cause-append : (cs ds : List Check) → firstCause (cs ++ ds) ≡ (firstCause cs else firstCause ds)
 unfolding firstCause _else_
@@ -150,17 +154,16 @@ pub record Present (n : ℕ) (f : ℕ → Check) (a b : ℕ) : Type 0 where
 wider : {n : ℕ} {f : ℕ → Check} {a b : ℕ} → Present n f a b → Present (suc n) f a b
 wider h = record { place = h .place; inside = omega (arith, h .inside); before = h .before; here = h .here }
 
-present-step : (n : ℕ) (f : ℕ → Check) {a b : ℕ} (c : Check) → first n f ≡ c → (c else f n) ≡ Refused a b → (c ≡ Refused a b → Present n f a b) → Present (suc n) f a b
-present-step n f Clear h e on = record { place = n; inside = omega arith; before = h; here = sym (else-clear (f n)) ∙ e }
-present-step n f (Refused x y) h e on = wider (on (sym (else-refused x y (f n)) ∙ e))
-
 pub first-present : (n : ℕ) (f : ℕ → Check) {a b : ℕ} → first n f ≡ Refused a b → Present n f a b
 unfolding first
-first-present zero f e = let z : _≡_ {A = ℕ} 0 1 = cc in absurd (omega arith)
-first-present (suc n) f e = present-step n f (first n f) refl e (λ h. first-present n f h)
+first-present zero f e = clear-refused refl e
+first-present (suc n) f {a} {b} e =
+    ⊎-elim (λ (q : first n f ≡ Refused a b). wider (first-present n f q))
+    (λ (q : (first n f ≡ Clear) × (f n ≡ Refused a b)). record { place = n; inside = omega arith; before = q .0; here = q .1 })
+    (either-refused (first n f) (f n) e)
 
 -- where a cause refuses, its test holds, and number and place are its own
 pub present-test : (n p : ℕ) (t : Bool) {a b : ℕ} → (refusal n with p if t) ≡ Refused a b → (t ≡ true) × ((a ≡ n) × (b ≡ p))
 unfolding refusal_with_if_
 present-test n p true e = (refl, (cc, cc))
-present-test n p false e = let z : _≡_ {A = ℕ} 0 1 = cc in absurd (omega arith)
+present-test n p false e = clear-refused refl e

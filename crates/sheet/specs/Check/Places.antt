@@ -3,12 +3,12 @@
 use Prim.Native.Nat.{ℕ, _<_}
 use mathlib.Core.Path.{_≡_, refl, sym, _∙_}
 use mathlib.Core.Bool.{Bool, true}
+use mathlib.Core.Logic.{⊎-elim}
 use mathlib.Core.List.{List, [], _∷_, map}
-use native.Mathlib.Omega.{arith}
 use Rattle.sheet.specs.declared.check.Check.{Check}
 use Rattle.sheet.specs.declared.check.Check.the-variants.{Clear, Refused}
 use Rattle.sheet.specs.Check.{refusal_with_if_, _else_, firstCause, first}
-use Rattle.sheet.specs.Check.Laws.{else-clear, else-refused, cause-none, cause-cons, first-present, present-test}
+use Rattle.sheet.specs.Check.Laws.{clear-refused, either-refused, cause-none, cause-cons, first-present, present-test}
 
 -- P holds of number and place where the check refuses
 abbrev pub WhereRefused : (ℕ → ℕ → Type 0) → Check → Type 0
@@ -16,7 +16,7 @@ WhereRefused P c = (n p : ℕ) → c ≡ Refused n p → P n p
 
 module _ (P : ℕ → ℕ → Type 0) where
   pub place-clear : WhereRefused P Clear
-  place-clear n p e = let z : _≡_ {A = ℕ} 0 1 = cc in absurd (omega arith)
+  place-clear n p e = clear-refused refl e
 
   -- the same of an equal check
   pub place-of : {c d : Check} → c ≡ d → WhereRefused P d → WhereRefused P c
@@ -28,11 +28,8 @@ module _ (P : ℕ → ℕ → Type 0) where
 
   -- two checks in a row: the second counts only where the first is clear
   pub place-else : (c d : Check) → WhereRefused P c → (c ≡ Clear → WhereRefused P d) → WhereRefused P (c else d)
-  place-else c d h k = go c refl
-    where
-      go : (x : Check) → c ≡ x → WhereRefused P (c else d)
-      go Clear q n p e = k q n p (sym (else-clear d) ∙ (rw (← q) e))
-      go (Refused m r) q n p e = h n p (q ∙ sym (else-refused m r d) ∙ (rw (← q) e))
+  place-else c d h k n p e =
+      ⊎-elim (λ (q : c ≡ Refused n p). h n p q) (λ (q : (c ≡ Clear) × (d ≡ Refused n p)). k (q .0) n p (q .1)) (either-refused c d e)
 
   -- a list of causes
   pub place-cons : (c : Check) (cs : List Check) → WhereRefused P c → (c ≡ Clear → WhereRefused P (firstCause cs)) → WhereRefused P (firstCause (c ∷ cs))

@@ -1,23 +1,35 @@
--- The laws of the format: how the reading goes on, that it ends, and where the records that it finds lie.
+-- The laws of the format: how the parsing goes on and ends, what holds of it by induction, where its records lie, and looking for a kind.
 use Prim.Native.Nat.{ℕ, zero, suc, _+_, _-_, _≤_, _<_}
-use mathlib.Core.Path.{_≡_, refl, sym, ap, _∙_}
-use mathlib.Core.Bool.{true, _||_}
+use mathlib.Core.Path.{_≡_, refl, sym, ap, ap₂, subst, _∙_}
+use mathlib.Core.Bool.{Bool, true, false, cond, _||_}
+use mathlib.Core.Logic.{_⊎_, inl, inr}
 use mathlib.Core.List.{List, [], _∷_}
 use native.Mathlib.Omega.{arith}
-use lib.Dec.{ltb}
+use lib.Dec.{ltb, eqb}
 use lib.ListN.{length}
-use borrow.Author.Tests.{lt-ltb, le-ltb, ltb-false, leb-false}
+use borrow.Author.Tests.{lt-ltb, le-ltb, lt-leb, eq-eqb, ltb-true, ltb-false, leb-false, eqb-true}
 use Rattle.sheet.specs.declared.check.Check.{Check}
 use Rattle.sheet.specs.declared.check.Check.the-variants.{Clear, Refused}
 use Rattle.sheet.specs.declared.record.Record.{Record}
 use Rattle.sheet.specs.declared.record.Found.{Found}
 use Rattle.sheet.specs.declared.record.Found.the-variants.{At, Missing}
-use Rattle.sheet.specs.Check.{refusal_with_if_}
-use Rattle.sheet.specs.Check.Laws.{neither, both-clear, clear-absent}
-use Rattle.sheet.specs.Format.{header, recordAt, offset, end, kindOf, rank, cause1, cause2, causeAt, Parsed, ended, _before_, onward, parseFrom, parse, ofKind, _or_, find}
+use Rattle.sheet.specs.Tests.{neither}
+use Rattle.sheet.specs.Check.{refusal_with_if_, _else_}
+use Rattle.sheet.specs.Check.Laws.{absent, clear-absent, else-clear, both-clear}
+use Rattle.sheet.specs.Format.{header, recordAt, offset, end, kindOf, rank, rankAt, cause1, cause2, causeAt, Parsed, ended, _before_, onward, parseFrom, parse, parsed, ofKind, _or_, find}
 
-abbrev pub rankAt : List ℕ → ℕ → ℕ
-rankAt s at = rank (kindOf (recordAt s at .kind))
+-- ---- the rank of a kind
+pub rank-machine : rank (kindOf 1) ≡ 1
+unfolding kindOf
+rank-machine = refl
+
+pub rank-word : rank (kindOf 2) ≡ 2
+unfolding kindOf
+rank-word = refl
+
+pub rank-sequence : rank (kindOf 3) ≡ 3
+unfolding kindOf
+rank-sequence = refl
 
 -- ---- what a clear record shows
 pub clear-inside : (s : List ℕ) (at last : ℕ) → causeAt s at last ≡ Clear → end (recordAt s at) ≤ length s
@@ -35,14 +47,30 @@ pub end-after : (s : List ℕ) (at : ℕ) → at + header ≤ end (recordAt s at
 unfolding end offset recordAt
 end-after s at = omega arith
 
--- ---- the offsets, the causes and the end of a record
+-- and what makes a record clear
+clear-at : (s : List ℕ) (at last : ℕ) {r : Record} → recordAt s at ≡ r → at + header ≤ length s → end r ≤ length s → last < rank (kindOf (r .kind)) → causeAt s at last ≡ Clear
+unfolding causeAt cause1 cause2
+clear-at s at last {r} e a b c =
+    let over : end (recordAt s at) ≤ length s = subst (λ (x : Record). end x ≤ length s) (sym e) b in
+    let up : last < rankAt s at = subst (λ (x : Record). last < rank (kindOf (x .kind))) (sym e) c in
+    ap₂ _else_ (absent 1 at (ap₂ _||_ (le-ltb (length s) (at + header) a) (le-ltb (length s) (end (recordAt s at)) over))) (absent 2 at (lt-leb (rankAt s at) last up))
+    ∙ else-clear Clear
+
+-- ---- the start, the offsets, the end and the causes of a record
+pub start-at : (s : List ℕ) (at : ℕ) → recordAt s at .start ≡ at
+unfolding recordAt
+start-at s at = refl
+
 pub offset-is : (r : Record) (i : ℕ) → offset r i ≡ r .start + header + i
 unfolding offset
 offset-is r i = refl
 
+pub end-size : (r : Record) → end r ≡ r .start + header + r .size
+unfolding end offset
+end-size r = refl
+
 pub end-is : (s : List ℕ) (at : ℕ) (r : Record) → r ≡ recordAt s at → end (recordAt s at) ≡ at + header + r .size
-unfolding end offset recordAt
-end-is s at r e = rw e
+end-is s at r e = end-size (recordAt s at) ∙ ap₂ (λ (x : ℕ) (y : Record). x + header + y .size) (start-at s at) (sym e)
 
 pub cause1-is : (s : List ℕ) (at : ℕ) (r : Record) → r ≡ recordAt s at
     → (refusal 1 with at if (ltb (length s) (at + header) || ltb (length s) (at + header + r .size))) ≡ cause1 s at
@@ -63,7 +91,7 @@ enough (suc f) (suc g) s at last p q =
     ap (λ (w : Parsed). onward (ltb at (length s)) (causeAt s at last) (recordAt s at) w)
     (enough f g s (end (recordAt s at)) (rankAt s at) (omega (arith, end-after s at)) (omega (arith, end-after s at)))
 
--- at the sheet's end the reading ends
+-- at the sheet's end the parsing ends
 pub parse-end : (s : List ℕ) (at last : ℕ) → length s ≤ at → parse s at last ≡ ended Clear
 unfolding parse
 parse-end s at last h = enough (length s - at) 0 s at last (omega arith) (omega arith) ∙ none
@@ -85,7 +113,7 @@ parse-on s at last h =
         ≡ onward true (causeAt s at last) (recordAt s at) (parseFrom (length s - (at + 1)) s (end (recordAt s at)) (rankAt s at))
     one = unfold parseFrom in rw (lt-ltb at (length s) h)
 
--- the record that stops the reading
+-- the record that stops the parsing
 pub parse-stopped : (s : List ℕ) (at last n p : ℕ) → at < length s → causeAt s at last ≡ Refused n p → parse s at last ≡ ended (Refused n p)
 unfolding onward
 parse-stopped s at last n p h e = parse-on s at last h ∙ rw e
@@ -96,7 +124,45 @@ pub parse-record : (s : List ℕ) (at last : ℕ) → at < length s → causeAt 
 unfolding onward
 parse-record s at last h e = parse-on s at last h ∙ rw e
 
+pub parse-as : (s : List ℕ) (at last : ℕ) {r : Record} → recordAt s at ≡ r → at + header ≤ length s → end r ≤ length s → last < rank (kindOf (r .kind))
+    → parse s at last ≡ (r before parse s (end r) (rank (kindOf (r .kind))))
+parse-as s at last {r} e a b c =
+    parse-record s at last (omega arith) (clear-at s at last e a b c) ∙ ap (λ (x : Record). x before parse s (end x) (rank (kindOf (x .kind)))) e
+
+-- the whole sheet
+pub parsed-is : (s : List ℕ) → parsed s ≡ parse s 0 0
+unfolding parsed
+parsed-is s = refl
+
+-- ---- what holds where the parsing ends, where a cause stops it, and of a record before what follows, wherever it holds of that, holds of the parsing
+module _ (s : List ℕ) (P : ℕ → ℕ → Parsed → Type 0)
+    (ends : (at last : ℕ) → length s ≤ at → P at last (ended Clear))
+    (stops : (at last n p : ℕ) → at < length s → causeAt s at last ≡ Refused n p → P at last (ended (Refused n p)))
+    (goes-on : (at last : ℕ) → at < length s → causeAt s at last ≡ Clear
+    → P (end (recordAt s at)) (rankAt s at) (parse s (end (recordAt s at)) (rankAt s at)) → P at last (recordAt s at before parse s (end (recordAt s at)) (rankAt s at))) where
+  turn : (at last : ℕ) → (at < length s → P (end (recordAt s at)) (rankAt s at) (parse s (end (recordAt s at)) (rankAt s at))) → P at last (parse s at last)
+  turn at last rest = go (ltb at (length s)) refl
+    where
+      check : at < length s → (c : Check) → causeAt s at last ≡ c → P at last (parse s at last)
+      check h Clear e = subst (P at last) (sym (parse-record s at last h e)) (goes-on at last h e (rest h))
+      check h (Refused n p) e = subst (P at last) (sym (parse-stopped s at last n p h e)) (stops at last n p h e)
+
+      go : (t : Bool) → ltb at (length s) ≡ t → P at last (parse s at last)
+      go true t = check (ltb-true at (length s) t) (causeAt s at last) refl
+      go false t = let h : length s ≤ at = ltb-false at (length s) t in subst (P at last) (sym (parse-end s at last h)) (ends at last h)
+
+  turns : (f at last : ℕ) → length s - at ≤ f → P at last (parse s at last)
+  turns zero at last l = turn at last (λ h. let z : ⊥ = omega arith in absurd z)
+  turns (suc f) at last l = turn at last (λ h. turns f (end (recordAt s at)) (rankAt s at) (omega (arith, end-after s at)))
+
+  pub parse-induction : (at last : ℕ) → P at last (parse s at last)
+  parse-induction at last = turns (length s) at last (omega arith)
+
 -- ---- looking for a kind
+-- a missing record is not found
+missing-found : {A : Type 0} {f : Found} {r : Record} → f ≡ Missing → f ≡ At r → A
+missing-found e h = let z : _≡_ {A = ℕ} 0 1 = cc in absurd (omega arith)
+
 pub or-missing : (f : Found) → (f or Missing) ≡ f
 unfolding _or_
 or-missing (At r) = refl
@@ -118,3 +184,25 @@ find-none k = refl
 pub find-cons : (k : ℕ) (r : Record) (rs : List Record) → find k (r ∷ rs) ≡ (ofKind k r or find k rs)
 unfolding find
 find-cons k r rs = refl
+
+-- among no records, none is found
+pub none-found : {A : Type 0} (k : ℕ) {r : Record} → find k [] ≡ At r → A
+none-found k e = missing-found (find-none k) e
+
+-- what is found is the first record, which is then of the kind, or is found among the others
+pub found-cons : (k : ℕ) (a : Record) (rs : List Record) {r : Record} → find k (a ∷ rs) ≡ At r → ((a .kind ≡ k) × (a ≡ r)) ⊎ (find k rs ≡ At r)
+unfolding find ofKind _or_
+found-cons k a rs {r} = go (eqb (a .kind) k) refl
+  where
+    go : (t : Bool) → eqb (a .kind) k ≡ t → (cond t (At a) Missing or find k rs) ≡ At r → ((a .kind ≡ k) × (a ≡ r)) ⊎ (find k rs ≡ At r)
+    go true e q = inl (eqb-true (a .kind) k e, cc)
+    go false e q = inr q
+
+-- the first record is found where it is of the kind, and is passed over where it is of another
+pub find-here : (k : ℕ) (a : Record) (rs : List Record) → a .kind ≡ k → find k (a ∷ rs) ≡ At a
+unfolding find ofKind _or_
+find-here k a rs e = ap (λ (t : Bool). cond t (At a) Missing or find k rs) (eq-eqb (a .kind) k e)
+
+pub find-past : (k : ℕ) (a : Record) (rs : List Record) {j : ℕ} → a .kind ≡ j → eqb j k ≡ false → find k (a ∷ rs) ≡ find k rs
+unfolding find ofKind _or_
+find-past k a rs e f = ap (λ (t : Bool). cond t (At a) Missing or find k rs) (ap (λ (x : ℕ). eqb x k) e ∙ f)

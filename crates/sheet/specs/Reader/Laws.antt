@@ -1,13 +1,12 @@
 -- The laws of checks 1 and 2 of a whole sheet and of the reader.
-use Prim.Native.Nat.{ℕ, zero, suc, _+_, _-_, _≤_, _<_}
+use Prim.Native.Nat.{ℕ, _+_, _≤_, _<_}
 use mathlib.Core.Path.{_≡_, refl, sym, ap, ap₂, _∙_, subst}
-use mathlib.Core.Bool.{Bool, true, false, true≢false, cond, _&&_}
-use mathlib.Core.Logic.{_⊎_, inl, inr, ⊎-elim}
-use mathlib.Core.List.{List, [], _∷_, _++_, map, List·Memᴰ, List·Memᴰ·head, List·Memᴰ·tail, Memᴰ·append-left, Memᴰ·append-right, List·Memᴰ·cases-cons, List·Memᴰ·not-nil}
+use mathlib.Core.Bool.{Bool, true, false, true≢false, _&&_}
+use mathlib.Core.Logic.{⊎-elim}
+use mathlib.Core.List.{List, [], _∷_, _++_, map, map-append, List·Memᴰ, List·Memᴰ·head, List·Memᴰ·tail, Memᴰ·append-left, Memᴰ·append-right, List·Memᴰ·cases-cons, List·Memᴰ·not-nil}
 use native.Mathlib.Omega.{arith}
-use lib.Dec.{ltb, eqb}
-use lib.ListN.{length, length-take}
-use borrow.Author.Tests.{eqb-true}
+use lib.ListN.{length, take, drop, length-take, length-drop}
+use lib.Seq.{length-take-le}
 use Rattle.sheet.specs.declared.check.Check.{Check}
 use Rattle.sheet.specs.declared.check.Check.the-variants.{Clear, Refused}
 use Rattle.sheet.specs.declared.record.Record.{Record}
@@ -16,10 +15,10 @@ use Rattle.sheet.specs.declared.record.Found.the-variants.{At, Missing}
 use Rattle.sheet.specs.declared.reader.Part.{Part}
 use Rattle.sheet.specs.declared.reader.Needs.{Needs}
 use Rattle.sheet.specs.Check.{refusal_with_if_, _else_, firstCause}
-use Rattle.sheet.specs.Check.Laws.{absent, present, clear-absent, else-clear, both-clear, cause-none, cause-cons, cause-one, cause-append}
-use Rattle.sheet.specs.Format.{header, recordAt, offset, end, kindOf, rank, causeAt, Parsed, onward, parseFrom, parse, parsed, ofKind, _or_, find}
-use Rattle.sheet.specs.Format.Laws.{rankAt, clear-inside, clear-rank, find-none}
-use Rattle.sheet.specs.Reader.{tooLong, isMissing, missing, sheetCauses, when, needed, refusalOf, recordOr, the, payloadPart, partWhen, part, bytes, content, seen, handed, Reads}
+use Rattle.sheet.specs.Check.Laws.{absent, present, clear-absent, else-clear, both-clear, cause-none, cause-cons, cause-one, cause-two, cause-append}
+use Rattle.sheet.specs.Format.{header, recordAt, offset, end, kindOf, rank, rankAt, causeAt, Parsed, parse, parsed, find}
+use Rattle.sheet.specs.Format.Laws.{clear-inside, clear-rank, end-size, parsed-is, parse-induction, none-found, found-cons}
+use Rattle.sheet.specs.Reader.{tooLong, isMissing, missing, sheetCauses, when, whenMissing, needed, refusalOf, recordOr, the, payloadPart, partWhen, part, bytes, content, seen, handed, Reads}
 use denote.Ref.{RefT, now}
 
 -- ---- the causes, written out
@@ -27,16 +26,7 @@ pub refusal-is : (k : ℕ) (s : List ℕ) → refusalOf k s ≡ (tooLong s else 
 unfolding refusalOf sheetCauses
 refusal-is k s =
     cause-cons (tooLong s) (parsed s .stop ∷ missing s k ∷ [])
-    ∙ ap (λ (c : Check). tooLong s else c)
-    (cause-cons (parsed s .stop) (missing s k ∷ []) ∙ ap (λ (c : Check). parsed s .stop else c) (cause-one (missing s k)))
-
-map-append : (s : List ℕ) (ks ls : List ℕ) → map (missing s) (ks ++ ls) ≡ map (missing s) ks ++ map (missing s) ls
-map-append s [] ls = refl
-map-append s (k ∷ ks) ls = ap (λ (cs : List Check). missing s k ∷ cs) (map-append s ks ls)
-
--- whether a kind that may be needed is missing
-pub whenMissing : List ℕ → ℕ → Bool → Check
-whenMissing s k b = firstCause (map (missing s) (when b k))
+    ∙ ap (λ (c : Check). tooLong s else c) (cause-two (parsed s .stop) (missing s k))
 
 pub when-missing : (s : List ℕ) (k : ℕ) (b : Bool)
     → (refusal 2 with length s if (b && isMissing (find k (parsed s .records)))) ≡ whenMissing s k b
@@ -48,7 +38,7 @@ when-missing s k false = absent 2 (length s) refl ∙ sym cause-none
 pub causes-more : (ks ls s : List ℕ) → firstCause (sheetCauses (ks ++ ls) s) ≡ (firstCause (sheetCauses ks s) else firstCause (map (missing s) ls))
 unfolding sheetCauses
 causes-more ks ls s =
-    ap (λ (cs : List Check). firstCause (tooLong s ∷ parsed s .stop ∷ cs)) (map-append s ks ls)
+    ap (λ (cs : List Check). firstCause (tooLong s ∷ parsed s .stop ∷ cs)) (map-append (missing s) ks ls)
     ∙ cause-append (tooLong s ∷ parsed s .stop ∷ map (missing s) ks) (map (missing s) ls)
 
 pub checks-are : (n : Needs) (s : List ℕ) → firstCause (sheetCauses (needed n) s)
@@ -61,7 +51,7 @@ checks-are n s =
     ∙ ap (λ (c : Check). firstCause (map (missing s) (when (n .word) 2)) else c) (both (when (n .sequence) 3) (when (n .answers) 4)))
   where
     both : (ks ls : List ℕ) → firstCause (map (missing s) (ks ++ ls)) ≡ (firstCause (map (missing s) ks) else firstCause (map (missing s) ls))
-    both ks ls = ap firstCause (map-append s ks ls) ∙ cause-append (map (missing s) ks) (map (missing s) ls)
+    both ks ls = ap firstCause (map-append (missing s) ks ls) ∙ cause-append (map (missing s) ks) (map (missing s) ls)
 
 -- a service that does not need the answers refuses no sheet that one that does takes
 pub needed-without-answers : (w q : Bool) (s : List ℕ) → firstCause (sheetCauses (needed (record { word = w; sequence = q; answers = true })) s) ≡ Clear
@@ -78,45 +68,18 @@ needed-without-answers w q s e =
     not-needed = sym (when-missing s 4 false) ∙ absent 2 (length s) refl
 
 -- ---- what holds of a record that is found
-of-kind-at : (k : ℕ) (r r′ : Record) → ofKind k r ≡ At r′ → (r ≡ r′) × (r .kind ≡ k)
-unfolding ofKind
-of-kind-at k r r′ = go (eqb (r .kind) k) refl
-  where
-    go : (b : Bool) → eqb (r .kind) k ≡ b → cond b (At r) Missing ≡ At r′ → (r ≡ r′) × (r .kind ≡ k)
-    go true t q = (cc, eqb-true (r .kind) k t)
-    go false t q = let z : _≡_ {A = ℕ} 0 1 = cc in absurd (omega arith)
-
-found-or : (f g : Found) (r : Record) → (f or g) ≡ At r → (f ≡ At r) ⊎ (g ≡ At r)
-unfolding _or_
-found-or (At x) g r e = inl e
-found-or Missing g r e = inr e
-
-never-missing : (r : Record) → Missing ≡ At r → ⊥
-never-missing r e = let z : _≡_ {A = ℕ} 0 1 = cc in omega arith
-
-found-on : (b : Bool) (c : Check) (r₀ : Record) (w : Parsed) (k : ℕ) (r : Record) → find k (onward b c r₀ w .records) ≡ At r
-    → ((c ≡ Clear) × (ofKind k r₀ ≡ At r)) ⊎ (find k (w .records) ≡ At r)
-unfolding onward find
-found-on false c r₀ w k r e = absurd (never-missing r e)
-found-on true (Refused n p) r₀ w k r e = absurd (never-missing r e)
-found-on true Clear r₀ w k r e = ⊎-elim (λ (q : ofKind k r₀ ≡ At r). inl (refl, q)) (λ (q : find k (w .records) ≡ At r). inr q) (found-or (ofKind k r₀) (find k (w .records)) r e)
-
 -- what holds of every record that has no cause 1 or 2 holds of the one that is found, and that one is of the kind
 module _ (s : List ℕ) (P : Record → Type 0) (all : (at last : ℕ) → causeAt s at last ≡ Clear → P (recordAt s at)) where
-  found-from : (f at last k : ℕ) (r : Record) → find k (parseFrom f s at last .records) ≡ At r → P r × (r .kind ≡ k)
-  unfolding parseFrom
-  found-from zero at last k r e = absurd (never-missing r (sym (find-none k) ∙ e))
-  found-from (suc f) at last k r e =
-      ⊎-elim
-      (λ (q : (causeAt s at last ≡ Clear) × (ofKind k (recordAt s at) ≡ At r)).
-      let h = of-kind-at k (recordAt s at) r (q .1) in
-      (subst P (h .0) (all at last (q .0)), ap (λ (x : Record). x .kind) (sym (h .0)) ∙ h .1))
-      (λ (q : find k (parseFrom f s (end (recordAt s at)) (rankAt s at) .records) ≡ At r). found-from f (end (recordAt s at)) (rankAt s at) k r q)
-      (found-on (ltb at (length s)) (causeAt s at last) (recordAt s at) (parseFrom f s (end (recordAt s at)) (rankAt s at)) k r e)
-
   found-has : (k : ℕ) (r : Record) → find k (parsed s .records) ≡ At r → P r × (r .kind ≡ k)
-  unfolding parsed parse
-  found-has k r e = found-from (length s - 0) 0 0 k r e
+  found-has k r e =
+      parse-induction s (λ at last w. find k (w .records) ≡ At r → P r × (r .kind ≡ k))
+      (λ at last l q. none-found k q)
+      (λ at last n p l c q. none-found k q)
+      (λ at last l c h q.
+      ⊎-elim (λ (x : (recordAt s at .kind ≡ k) × (recordAt s at ≡ r)). (subst P (x .1) (all at last c), ap (λ (y : Record). y .kind) (sym (x .1)) ∙ x .0))
+      (λ (x : find k (parse s (end (recordAt s at)) (rankAt s at) .records) ≡ At r). h x)
+      (found-cons k (recordAt s at) _ q))
+      0 0 (ap (λ (w : Parsed). find k (w .records)) (sym (parsed-is s)) ∙ e)
 
 -- it lies inside the sheet
 pub found-inside : (s : List ℕ) (k : ℕ) (r : Record) → find k (parsed s .records) ≡ At r → end r ≤ length s
@@ -213,7 +176,25 @@ clear-reads k s e = go (find k (parsed s .records)) refl
         let absent-one = clear-absent 2 (length s) (isMissing (find k (parsed s .records))) (both-clear _ _ (both-clear _ _ (sym (refusal-is k s) ∙ e) .1) .1) in
         absurd (true≢false (sym (ap isMissing q) ∙ absent-one))
 
--- ---- the kinds among the needed ones
+-- ---- the record that is found, and the bytes that reading it hands back
+pub content-of : (k : ℕ) (s : List ℕ) {r : Record} → refusalOf k s ≡ Clear → find k (parsed s .records) ≡ At r → content k s ≡ take (r .size) (drop (r .start + header) s)
+unfolding content bytes
+content-of k s {r} c e = ap (λ (q : Part). bytes q s) (sym (part-clear k s {c = refusalOf k s} {f = At r} refl c (sym e)))
+
+pub found-the : (k : ℕ) (s : List ℕ) → (0 ≡ k → ⊥) → Reads k s → find k (parsed s .records) ≡ At (the k s)
+found-the k s d h = go (find k (parsed s .records)) refl
+  where
+    go : (f : Found) → find k (parsed s .records) ≡ f → find k (parsed s .records) ≡ At (the k s)
+    go (At r) q = q ∙ ap At (the-found k s {f = At r} (sym q) refl)
+    go Missing q = absurd (d (ap (λ (r : Record). r .kind) (the-found k s {f = Missing} (sym q) refl) ∙ h .kind))
+
+pub size-of : (k : ℕ) (s : List ℕ) → refusalOf k s ≡ Clear → find k (parsed s .records) ≡ At (the k s) → end (the k s) ≤ length s → length (content k s) ≡ the k s .size
+size-of k s c e l =
+    let r = the k s in
+    let room = end-size r in
+    ap length (content-of k s c e) ∙ length-take-le (r .size) (drop (r .start + header) s) (omega (arith, length-drop (r .start + header) s))
+
+-- ---- the kinds among the needed ones, for a service to cite of each record that it reads
 on-needed : {b : Bool} (k : ℕ) → b ≡ true → List·Memᴰ k (when b k)
 unfolding when
 on-needed k e = rw e (List·Memᴰ·head refl)

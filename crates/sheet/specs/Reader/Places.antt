@@ -1,24 +1,22 @@
 -- The places of causes 1 and 2 lie inside the longest sheet, and so do the offsets in the payloads of a sheet that has neither. What reading hands
 -- back of bytes are bytes.
-use Prim.Native.Nat.{ℕ, zero, suc, _+_, _-_, _≤_, _<_}
-use mathlib.Core.Path.{_≡_, refl, sym, _∙_}
-use mathlib.Core.Bool.{Bool, true, false}
+use Prim.Native.Nat.{ℕ, zero, suc, _+_, _≤_, _<_}
+use mathlib.Core.Path.{_≡_, refl, sym, ap, _∙_}
 use mathlib.Core.List.{List, [], _∷_, map}
 use native.Mathlib.Omega.{arith}
 use lib.Dec.{ltb}
 use lib.ListN.{length, getD, take, length-take}
 use lib.Seq.{getD-drop}
-use borrow.Author.Tests.{ltb-true, ltb-false}
+use borrow.Author.Tests.{ltb-false}
 use Rattle.sheet.specs.declared.check.Check.{Check}
 use Rattle.sheet.specs.declared.check.Check.the-variants.{Clear, Refused}
-use Rattle.sheet.specs.declared.record.Record.{Record}
 use Rattle.sheet.specs.declared.record.Found.{Found}
 use Rattle.sheet.specs.declared.record.Found.the-variants.{At, Missing}
 use Rattle.sheet.specs.Check.{firstCause}
 use Rattle.sheet.specs.Check.Laws.{clear-absent, both-clear, cause-cons}
-use Rattle.sheet.specs.Check.Places.{WhereRefused, place-clear, place-cause, place-else, place-cons, place-map}
-use Rattle.sheet.specs.Format.{longest, recordAt, offset, end, cause1, cause2, causeAt, Parsed, onward, parseFrom, parse, parsed, find}
-use Rattle.sheet.specs.Format.Laws.{rankAt}
+use Rattle.sheet.specs.Check.Places.{WhereRefused, place-clear, place-of, place-cause, place-else, place-cons, place-map}
+use Rattle.sheet.specs.Format.{longest, offset, cause1, cause2, causeAt, Parsed, parsed, find}
+use Rattle.sheet.specs.Format.Laws.{parsed-is, parse-induction}
 use Rattle.sheet.specs.Reader.{tooLong, isMissing, missing, sheetCauses, refusalOf, recordOr, the, payloadPart, partWhen, part, bytes, content}
 use Rattle.sheet.specs.Reader.Laws.{payload-inside}
 
@@ -29,13 +27,6 @@ pub record Small (n p : ℕ) : Type 0 where
   pub number : n < 100
   pub place : p ≤ longest
 
-onward-small : (t : Bool) (c : Check) (r : Record) (w : Parsed) → (t ≡ true → WhereRefused Small c) → WhereRefused Small (w .stop)
-    → WhereRefused Small (onward t c r w .stop)
-unfolding onward
-onward-small false c r w h k = place-clear Small
-onward-small true Clear r w h k = k
-onward-small true (Refused n p) r w h k = h refl
-
 module _ (s : List ℕ) (short : length s ≤ longest) where
   at-small : (at last : ℕ) → at < length s → WhereRefused Small (causeAt s at last)
   unfolding causeAt cause1 cause2
@@ -44,17 +35,14 @@ module _ (s : List ℕ) (short : length s ≤ longest) where
       (place-cause Small 1 at _ (λ t. record { number = omega arith; place = omega arith }))
       (λ q. place-cause Small 2 at _ (λ t. record { number = omega arith; place = omega arith }))
 
-  parse-small : (f at last : ℕ) → WhereRefused Small (parseFrom f s at last .stop)
-  unfolding parseFrom
-  parse-small zero at last = place-clear Small
-  parse-small (suc f) at last =
-      onward-small (ltb at (length s)) (causeAt s at last) (recordAt s at) (parseFrom f s (end (recordAt s at)) (rankAt s at))
-      (λ t. at-small at last (ltb-true at (length s) t))
-      (parse-small f (end (recordAt s at)) (rankAt s at))
-
   stop-small : WhereRefused Small (parsed s .stop)
-  unfolding parsed parse
-  stop-small = parse-small (length s - 0) 0 0
+  stop-small =
+      place-of Small (ap (λ (w : Parsed). w .stop) (parsed-is s))
+      (parse-induction s (λ at last w. WhereRefused Small (w .stop))
+      (λ at last l. place-clear Small)
+      (λ at last n p l e. place-of Small (sym e) (at-small at last l))
+      (λ at last l e h. h)
+      0 0)
 
 not-long : (s : List ℕ) → tooLong s ≡ Clear → length s ≤ longest
 not-long s e = ltb-false longest (length s) (clear-absent 1 longest (ltb longest (length s)) e)

@@ -11,24 +11,26 @@ use Rattle.sheet.specs.Check.{refusal_with_if_, _else_, firstCause, first}
 use Rattle.sheet.specs.Check.Laws.{absent, else-clear}
 use Rattle.sheet.specs.Format.{recordAt, offset, end, kindOf, cause1, cause2, causeAt, onward, parseFrom, parse, parsed, ofKind, _or_, find}
 use Rattle.sheet.specs.Reader.{sheetCauses, when, needed, refusalOf, the, part, bytes, content}
+use Rattle.sheet.specs.Writing.{headerOf}
 use Rattle.machine.specs.Machine.{Mealy, machineOf, run, answers, stateAt}
 use Rattle.machine.specs.Causes.{cause3, cause4, commandsCause, cause6, machineIn, machineCauses, wordCauses, loadCauses}
 use Rattle.certify.specs.declared.answer.Answer.{Answer}
-use Rattle.certify.specs.declared.answer.Answer.the-variants.{Certified, Refused as NotCertified}
+use Rattle.certify.specs.declared.answer.Answer.the-variants.{Certified}
 use Rattle.certify.specs.Recognition.{Certified as CertifiedSequence}
 use Rattle.certify.specs.Marks.Twin.{twin as twinMachine, single as singleMachine}
 use Rattle.certify.specs.Certification.{certifyNeeds, cause9, certifyCauses, cause11, outcome, certification}
 use Rattle.certify.specs.Certification.Laws.{certification-clear, certification-refused, certified-clear, answer-certified}
 use Rattle.certify.specs.Certification.Twin as outcomes
-use Rattle.build.specs.declared.service.Answer.the-variants.{Refused as NotBuilt}
-use Rattle.build.specs.Building.{buildCauses, building}
+use Rattle.build.specs.Building.{buildCauses}
+use Rattle.build.specs.Building.Service.{building-refused}
 use Rattle.build.specs.Building.Twin as buildings
 use Rattle.judge.specs.declared.answer.Answer.{Answer as Judgement}
-use Rattle.judge.specs.declared.answer.Answer.the-variants.{Pass, Wrong, Unfinished, Refused as NotJudged}
+use Rattle.judge.specs.declared.answer.Answer.the-variants.{Pass, Wrong, Unfinished}
 use Rattle.judge.specs.Judging.{cause10, judgeCauses, agreed, resultAt, verdict, judgement}
 use Rattle.judge.specs.Judging.Laws.{judgement-refused, judgement-verdict}
+use Rattle.report.specs.Lines.{judgeLine}
 use Rattle.report.specs.Lines.Examples as lines
-use Rattle.starred.specs.Starred.{unitSheet, sequenceSheet, answersSheet, twin, single, builtTwin, twinSheet, judgedSheet, Starred}
+use Rattle.starred.specs.Starred.{unitSheet, sequenceSheet, answersSheet, twinTable, singleTable, builtTwin, twinWith, twinAnswered, JudgedAs, Starred}
 
 -- what certifying reads in a sheet
 record Sheet (room : ℕ) (s : List ℕ) (M : Mealy) (w xs : List ℕ) : Type 0 where
@@ -41,45 +43,6 @@ record Sheet (room : ℕ) (s : List ℕ) (M : Mealy) (w xs : List ℕ) : Type 0 
 answered : (room : ℕ) {s : List ℕ} {M : Mealy} {w xs : List ℕ} {a : Answer} → Sheet room s M w xs → outcome M w xs ≡ a → certification room s ≡ a
 answered room {s} h e = certification-clear room s (h .clear) ∙ (rw (h .machine, h .word, h .sequence) e)
 
-built-sheet : (room : ℕ) → 13 ≤ room → Sheet room (twinSheet builtTwin) twinMachine (0 ∷ []) builtTwin
-unfolding twinMachine refusal_with_if_ _else_ firstCause first recordAt offset end kindOf cause1 cause2 causeAt onward parseFrom parse parsed ofKind _or_ find sheetCauses when needed refusalOf the part bytes content machineOf run answers cause3 cause4 commandsCause cause6 machineIn machineCauses wordCauses loadCauses cause9 certifyCauses
-built-sheet room l = record { clear = buildings.room-clear room 13 l; machine = refl; word = refl; sequence = refl }
-
-mutual-sheet : (room : ℕ) → 7 ≤ room → Sheet room (twinSheet (0 ∷ 0 ∷ 1 ∷ 0 ∷ 1 ∷ 0 ∷ [])) twinMachine (0 ∷ []) (0 ∷ 0 ∷ 1 ∷ 0 ∷ 1 ∷ 0 ∷ [])
-unfolding twinMachine refusal_with_if_ _else_ firstCause first recordAt offset end kindOf cause1 cause2 causeAt onward parseFrom parse parsed ofKind _or_ find sheetCauses when needed refusalOf the part bytes content machineOf run answers cause3 cause4 commandsCause cause6 machineIn machineCauses wordCauses loadCauses cause9 certifyCauses
-mutual-sheet room l = record { clear = buildings.room-clear room 7 l; machine = refl; word = refl; sequence = refl }
-
-longer-sheet : (room : ℕ) → 8 ≤ room → Sheet room (twinSheet (0 ∷ 0 ∷ 1 ∷ 0 ∷ 1 ∷ 0 ∷ 0 ∷ [])) twinMachine (0 ∷ []) (0 ∷ 0 ∷ 1 ∷ 0 ∷ 1 ∷ 0 ∷ 0 ∷ [])
-unfolding twinMachine refusal_with_if_ _else_ firstCause first recordAt offset end kindOf cause1 cause2 causeAt onward parseFrom parse parsed ofKind _or_ find sheetCauses when needed refusalOf the part bytes content machineOf run answers cause3 cause4 commandsCause cause6 machineIn machineCauses wordCauses loadCauses cause9 certifyCauses
-longer-sheet room l = record { clear = buildings.room-clear room 8 l; machine = refl; word = refl; sequence = refl }
-
-one-sheet : (room : ℕ) → 2 ≤ room → Sheet room (twinSheet (0 ∷ [])) twinMachine (0 ∷ []) (0 ∷ [])
-unfolding twinMachine refusal_with_if_ _else_ firstCause first recordAt offset end kindOf cause1 cause2 causeAt onward parseFrom parse parsed ofKind _or_ find sheetCauses when needed refusalOf the part bytes content machineOf run answers cause3 cause4 commandsCause cause6 machineIn machineCauses wordCauses loadCauses cause9 certifyCauses
-one-sheet room l = record { clear = buildings.room-clear room 2 l; machine = refl; word = refl; sequence = refl }
-
-late-sheet : (room : ℕ) → 4 ≤ room → Sheet room (twinSheet (1 ∷ 0 ∷ 0 ∷ [])) twinMachine (0 ∷ []) (1 ∷ 0 ∷ 0 ∷ [])
-unfolding twinMachine refusal_with_if_ _else_ firstCause first recordAt offset end kindOf cause1 cause2 causeAt onward parseFrom parse parsed ofKind _or_ find sheetCauses when needed refusalOf the part bytes content machineOf run answers cause3 cause4 commandsCause cause6 machineIn machineCauses wordCauses loadCauses cause9 certifyCauses
-late-sheet room l = record { clear = buildings.room-clear room 4 l; machine = refl; word = refl; sequence = refl }
-
-three-sheet : (room : ℕ) → 4 ≤ room → Sheet room (twinSheet (0 ∷ 0 ∷ 0 ∷ [])) twinMachine (0 ∷ []) (0 ∷ 0 ∷ 0 ∷ [])
-unfolding twinMachine refusal_with_if_ _else_ firstCause first recordAt offset end kindOf cause1 cause2 causeAt onward parseFrom parse parsed ofKind _or_ find sheetCauses when needed refusalOf the part bytes content machineOf run answers cause3 cause4 commandsCause cause6 machineIn machineCauses wordCauses loadCauses cause9 certifyCauses
-three-sheet room l = record { clear = buildings.room-clear room 4 l; machine = refl; word = refl; sequence = refl }
-
-pair-sheet : (answer room : ℕ) → 3 ≤ room → Sheet room (sequenceSheet (single answer) (0 ∷ []) (0 ∷ 0 ∷ [])) (singleMachine answer) (0 ∷ []) (0 ∷ 0 ∷ [])
-unfolding singleMachine refusal_with_if_ _else_ firstCause first recordAt offset end kindOf cause1 cause2 causeAt onward parseFrom parse parsed ofKind _or_ find sheetCauses when needed refusalOf the part bytes content machineOf run answers cause3 cause4 commandsCause cause6 machineIn machineCauses wordCauses loadCauses cause9 certifyCauses
-pair-sheet answer room l = record { clear = buildings.room-clear room 3 l; machine = refl; word = refl; sequence = refl }
-
-short-sheet : (answer room : ℕ) → 2 ≤ room → Sheet room (sequenceSheet (single answer) (0 ∷ []) (0 ∷ [])) (singleMachine answer) (0 ∷ []) (0 ∷ [])
-unfolding singleMachine refusal_with_if_ _else_ firstCause first recordAt offset end kindOf cause1 cause2 causeAt onward parseFrom parse parsed ofKind _or_ find sheetCauses when needed refusalOf the part bytes content machineOf run answers cause3 cause4 commandsCause cause6 machineIn machineCauses wordCauses loadCauses cause9 certifyCauses
-short-sheet answer room l = record { clear = buildings.room-clear room 2 l; machine = refl; word = refl; sequence = refl }
-
--- ---- judging the built sequence
-certified-in : (room : ℕ) {s : List ℕ} {M : Mealy} {w xs : List ℕ} {n : ℕ} → Sheet room s M w xs → outcome M w xs ≡ Certified n → CertifiedSequence M w xs
-certified-in room {s} h e = rw (← h .machine, ← h .word, ← h .sequence) (answer-certified room s (answered room h e) .1 .0)
-
-twin-certified : CertifiedSequence twinMachine (0 ∷ []) builtTwin
-twin-certified = certified-in 13 (built-sheet 13 (le-refl 13)) outcomes.twin-built
-
 -- what judging reads in a sheet with the built sequence
 record Judged (room : ℕ) (s ys : List ℕ) : Type 0 where
   clear : firstCause (judgeCauses room s) ≡ Clear
@@ -88,70 +51,91 @@ record Judged (room : ℕ) (s ys : List ℕ) : Type 0 where
   sequence : content 3 s ≡ builtTwin
   answers : content 4 s ≡ ys
 
+-- ---- what computes from the bytes of the sheets, all of it at once
+abbrev Reads : ℕ → List ℕ → Type 0
+Reads size xs = (room : ℕ) → size ≤ room → Sheet room (twinWith xs) twinMachine (0 ∷ []) xs
+
+abbrev Verdict : List ℕ → Judgement → Type 0
+Verdict ys a = ((room : ℕ) → 13 ≤ room → Judged room (twinAnswered ys) ys) × (verdict twinMachine builtTwin ys ≡ a)
+
+record Computed : Type 0 where
+  built : Reads 13 builtTwin
+  each-other : Reads 7 (0 ∷ 0 ∷ 1 ∷ 0 ∷ 1 ∷ 0 ∷ [])
+  longer : Reads 8 (0 ∷ 0 ∷ 1 ∷ 0 ∷ 1 ∷ 0 ∷ 0 ∷ [])
+  one : Reads 2 (0 ∷ [])
+  late : Reads 4 (1 ∷ 0 ∷ 0 ∷ [])
+  three : Reads 4 (0 ∷ 0 ∷ 0 ∷ [])
+  pair : (answer room : ℕ) → 3 ≤ room → Sheet room (sequenceSheet (singleTable answer) (0 ∷ []) (0 ∷ 0 ∷ [])) (singleMachine answer) (0 ∷ []) (0 ∷ 0 ∷ [])
+  short : (answer room : ℕ) → 2 ≤ room → Sheet room (sequenceSheet (singleTable answer) (0 ∷ []) (0 ∷ [])) (singleMachine answer) (0 ∷ []) (0 ∷ [])
+  passes : Verdict (0 ∷ 1 ∷ 0 ∷ 1 ∷ 0 ∷ 1 ∷ 5 ∷ 0 ∷ 1 ∷ 0 ∷ 5 ∷ 1 ∷ []) (Pass 12 0)
+  wrong-at : Verdict (0 ∷ 1 ∷ 0 ∷ 1 ∷ 0 ∷ 1 ∷ 6 ∷ 0 ∷ 1 ∷ 0 ∷ 5 ∷ 1 ∷ []) (Wrong 6 5 6)
+  unfinished-run : Verdict (0 ∷ 1 ∷ 0 ∷ 1 ∷ []) (Unfinished 4)
+  too-many : (room : ℕ) → 13 ≤ room → (a b c d e f g h i j k l m : ℕ)
+      → firstCause (judgeCauses room (twinAnswered (a ∷ b ∷ c ∷ d ∷ e ∷ f ∷ g ∷ h ∷ i ∷ j ∷ k ∷ l ∷ m ∷ []))) ≡ Refused 10 41
+  six-built : (room : ℕ) → firstCause (buildCauses room (unitSheet twinTable (1 ∷ []))) ≡ Refused 6 1
+  six-certified : (room : ℕ) → firstCause (certifyCauses certifyNeeds room (sequenceSheet twinTable (1 ∷ []) builtTwin)) ≡ Refused 6 1
+  six-judged : (room : ℕ) → firstCause (judgeCauses room (answersSheet twinTable (1 ∷ []) builtTwin (0 ∷ []))) ≡ Refused 6 1
+
+computed : Computed
+unfolding twinMachine singleMachine headerOf refusal_with_if_ _else_ firstCause first recordAt offset end kindOf cause1 cause2 causeAt onward parseFrom parse parsed ofKind _or_ find sheetCauses when needed refusalOf the part bytes content machineOf run answers cause3 cause4 commandsCause cause6 machineIn machineCauses wordCauses loadCauses buildCauses cause9 certifyCauses cause10 judgeCauses verdict resultAt agreed stateAt
+computed = record {
+  built = λ room l. record { clear = buildings.nine-clear room 13 l; machine = refl; word = refl; sequence = refl };
+  each-other = λ room l. record { clear = buildings.nine-clear room 7 l; machine = refl; word = refl; sequence = refl };
+  longer = λ room l. record { clear = buildings.nine-clear room 8 l; machine = refl; word = refl; sequence = refl };
+  one = λ room l. record { clear = buildings.nine-clear room 2 l; machine = refl; word = refl; sequence = refl };
+  late = λ room l. record { clear = buildings.nine-clear room 4 l; machine = refl; word = refl; sequence = refl };
+  three = λ room l. record { clear = buildings.nine-clear room 4 l; machine = refl; word = refl; sequence = refl };
+  pair = λ answer room l. record { clear = buildings.nine-clear room 3 l; machine = refl; word = refl; sequence = refl };
+  short = λ answer room l. record { clear = buildings.nine-clear room 2 l; machine = refl; word = refl; sequence = refl };
+  passes = (λ room l. record { clear = buildings.nine-clear room 13 l; machine = refl; word = refl; sequence = refl; answers = refl }, refl);
+  wrong-at = (λ room l. record { clear = buildings.nine-clear room 13 l; machine = refl; word = refl; sequence = refl; answers = refl }, refl);
+  unfinished-run = (λ room l. record { clear = buildings.nine-clear room 13 l; machine = refl; word = refl; sequence = refl; answers = refl }, refl);
+  too-many = λ room r a b c d e f g h i j k l m.
+      ap (λ (x : Check). x else Refused 10 41) (absent 9 13 (le-ltb room 13 r)) ∙ else-clear (Refused 10 41);
+  six-built = λ room. refl;
+  six-certified = λ room. refl;
+  six-judged = λ room. refl;
+}
+
+-- ---- judging the built sequence
+certified-in : (room : ℕ) {s : List ℕ} {M : Mealy} {w xs : List ℕ} {n : ℕ} → Sheet room s M w xs → outcome M w xs ≡ Certified n → CertifiedSequence M w xs
+certified-in room {s} h e = rw (← h .machine, ← h .word, ← h .sequence) (answer-certified room s (answered room h e) .1 .0)
+
+twin-certified : CertifiedSequence twinMachine (0 ∷ []) builtTwin
+twin-certified = certified-in 13 (computed .built 13 (le-refl 13)) outcomes.twin-built
+
 judged : (room : ℕ) {s ys : List ℕ} {a : Judgement} → Judged room s ys → verdict twinMachine builtTwin ys ≡ a → judgement room s ≡ a
 judged room {s} h e =
     let certified : cause11 (machineIn s) (content 2 s) (content 3 s) ≡ Clear =
     rw (h .machine, h .word, h .sequence) (certified-clear twinMachine (0 ∷ []) builtTwin twin-certified) in
     judgement-verdict room s (h .clear) certified ∙ (rw (h .machine, h .sequence, h .answers) e)
 
-right-judged : (room : ℕ) → 13 ≤ room → judgement room (judgedSheet (0 ∷ 1 ∷ 0 ∷ 1 ∷ 0 ∷ 1 ∷ 5 ∷ 0 ∷ 1 ∷ 0 ∷ 5 ∷ 1 ∷ [])) ≡ Pass 12 0
-unfolding twinMachine verdict resultAt agreed stateAt refusal_with_if_ _else_ firstCause first recordAt offset end kindOf cause1 cause2 causeAt onward parseFrom parse parsed ofKind _or_ find sheetCauses when needed refusalOf the part bytes content machineOf run answers cause3 cause4 commandsCause cause6 machineIn machineCauses wordCauses loadCauses cause9 certifyCauses cause10 judgeCauses
-right-judged room l = judged room (record { clear = buildings.room-clear room 13 l; machine = refl; word = refl; sequence = refl; answers = refl }) refl
-
-six-judged : (room : ℕ) → 13 ≤ room → judgement room (judgedSheet (0 ∷ 1 ∷ 0 ∷ 1 ∷ 0 ∷ 1 ∷ 6 ∷ 0 ∷ 1 ∷ 0 ∷ 5 ∷ 1 ∷ [])) ≡ Wrong 6 5 6
-unfolding twinMachine verdict resultAt agreed stateAt refusal_with_if_ _else_ firstCause first recordAt offset end kindOf cause1 cause2 causeAt onward parseFrom parse parsed ofKind _or_ find sheetCauses when needed refusalOf the part bytes content machineOf run answers cause3 cause4 commandsCause cause6 machineIn machineCauses wordCauses loadCauses cause9 certifyCauses cause10 judgeCauses
-six-judged room l = judged room (record { clear = buildings.room-clear room 13 l; machine = refl; word = refl; sequence = refl; answers = refl }) refl
-
-four-judged : (room : ℕ) → 13 ≤ room → judgement room (judgedSheet (0 ∷ 1 ∷ 0 ∷ 1 ∷ [])) ≡ Unfinished 4
-unfolding twinMachine verdict resultAt agreed stateAt refusal_with_if_ _else_ firstCause first recordAt offset end kindOf cause1 cause2 causeAt onward parseFrom parse parsed ofKind _or_ find sheetCauses when needed refusalOf the part bytes content machineOf run answers cause3 cause4 commandsCause cause6 machineIn machineCauses wordCauses loadCauses cause9 certifyCauses cause10 judgeCauses
-four-judged room l = judged room (record { clear = buildings.room-clear room 13 l; machine = refl; word = refl; sequence = refl; answers = refl }) refl
-
-thirteen-judged : (room : ℕ) → 13 ≤ room → (a b c d e f g h i j k l m : ℕ)
-    → judgement room (judgedSheet (a ∷ b ∷ c ∷ d ∷ e ∷ f ∷ g ∷ h ∷ i ∷ j ∷ k ∷ l ∷ m ∷ [])) ≡ NotJudged 10 41
-unfolding refusal_with_if_ _else_ firstCause first recordAt offset end kindOf cause1 cause2 causeAt onward parseFrom parse parsed ofKind _or_ find sheetCauses when needed refusalOf the part bytes content machineOf run answers cause3 cause4 commandsCause cause6 machineIn machineCauses wordCauses loadCauses cause9 certifyCauses cause10 judgeCauses
-thirteen-judged room r a b c d e f g h i j k l m =
-    let ys : List ℕ = a ∷ b ∷ c ∷ d ∷ e ∷ f ∷ g ∷ h ∷ i ∷ j ∷ k ∷ l ∷ m ∷ [] in
-    judgement-refused room (judgedSheet ys)
-    (ap (λ (x : Check). x else Refused 10 41) (absent 9 13 (le-ltb room 13 r)) ∙ else-clear (Refused 10 41))
-
--- ---- refusals 6
-six-built : (room : ℕ) → building room (unitSheet twin (1 ∷ [])) ≡ NotBuilt 6 1
-unfolding buildCauses building refusal_with_if_ _else_ firstCause first recordAt offset end kindOf cause1 cause2 causeAt onward parseFrom parse parsed ofKind _or_ find sheetCauses when needed refusalOf the part bytes content machineOf run answers cause3 cause4 commandsCause cause6 machineIn machineCauses wordCauses loadCauses cause9
-six-built room = refl
-
-six-certified : (room : ℕ) → certification room (sequenceSheet twin (1 ∷ []) builtTwin) ≡ NotCertified 6 1
-unfolding refusal_with_if_ _else_ firstCause first recordAt offset end kindOf cause1 cause2 causeAt onward parseFrom parse parsed ofKind _or_ find sheetCauses when needed refusalOf the part bytes content machineOf run answers cause3 cause4 commandsCause cause6 machineIn machineCauses wordCauses loadCauses cause9 certifyCauses
-six-certified room = certification-refused room (sequenceSheet twin (1 ∷ []) builtTwin) refl
-
-six-refused : (room : ℕ) → judgement room (answersSheet twin (1 ∷ []) builtTwin (0 ∷ [])) ≡ NotJudged 6 1
-unfolding refusal_with_if_ _else_ firstCause first recordAt offset end kindOf cause1 cause2 causeAt onward parseFrom parse parsed ofKind _or_ find sheetCauses when needed refusalOf the part bytes content machineOf run answers cause3 cause4 commandsCause cause6 machineIn machineCauses wordCauses loadCauses cause9 certifyCauses cause10 judgeCauses
-six-refused room = judgement-refused room (answersSheet twin (1 ∷ []) builtTwin (0 ∷ [])) refl
+-- with its line
+line-judged : {ys line : List ℕ} {a : Judgement} → Verdict ys a → judgeLine a ≡ line → (room : ℕ) → 13 ≤ room → JudgedAs room (twinAnswered ys) a line
+line-judged h e room l = let answer = judged room (h .0 room l) (h .1) in (answer, ap judgeLine answer ∙ e)
 
 -- ---- the whole
 pub starred : Starred
-unfolding buildings.twinSheet buildings.disconnectedSheet buildings.singleSheet
+unfolding headerOf buildings.twinSheet buildings.disconnectedSheet buildings.singleSheet
 starred = record {
   built = buildings.twin-building;
   built-bytes = buildings.twin-buffer;
-  built-certified = λ room l. answered room (built-sheet room l) outcomes.twin-built;
-  each-other = λ room l. answered room (mutual-sheet room l) outcomes.twin-mutual;
-  longer = λ room l. answered room (longer-sheet room l) outcomes.twin-longer;
-  one = λ room l. answered room (one-sheet room l) outcomes.twin-one;
-  late = λ room l. answered room (late-sheet room l) outcomes.twin-late;
-  three = λ room l. answered room (three-sheet room l) outcomes.twin-three;
-  passes = right-judged;
-  passes-line = lines.pass;
-  wrong-at = six-judged;
-  wrong-line = lines.wrong;
-  unfinished-run = four-judged;
-  unfinished-line = lines.unfinished;
-  too-many = thirteen-judged;
-  no-separation-built = six-built;
-  no-separation-certified = six-certified;
-  no-separation-judged = six-refused;
+  built-certified = λ room l. answered room (computed .built room l) outcomes.twin-built;
+  each-other = λ room l. answered room (computed .each-other room l) outcomes.twin-mutual;
+  longer = λ room l. answered room (computed .longer room l) outcomes.twin-longer;
+  one = λ room l. answered room (computed .one room l) outcomes.twin-one;
+  late = λ room l. answered room (computed .late room l) outcomes.twin-late;
+  three = λ room l. answered room (computed .three room l) outcomes.twin-three;
+  passes = line-judged (computed .passes) lines.pass;
+  wrong-at = line-judged (computed .wrong-at) lines.wrong;
+  unfinished-run = line-judged (computed .unfinished-run) lines.unfinished;
+  too-many = λ room r a b c d e f g h i j k l m. judgement-refused room _ (computed .too-many room r a b c d e f g h i j k l m);
+  no-separation-built = λ room. building-refused room _ (computed .six-built room);
+  no-separation-certified = λ room. certification-refused room _ (computed .six-certified room);
+  no-separation-judged = λ room. judgement-refused room _ (computed .six-judged room);
   not-connected = buildings.disconnected-building;
   single-built = buildings.single-building;
   single-bytes = buildings.single-buffer;
-  single-pair = λ answer room l. answered room (pair-sheet answer room l) (outcomes.single-pair answer);
-  single-short = λ answer room l. answered room (short-sheet answer room l) (outcomes.single-short answer);
+  single-pair = λ answer room l. answered room (computed .pair answer room l) (outcomes.single-pair answer);
+  single-short = λ answer room l. answered room (computed .short answer room l) (outcomes.single-short answer);
 }

@@ -31,16 +31,24 @@ slice-aggregate-connect c = search needs
 
 connect-requires : tie.Need-connect-requires
 connect-requires c κs =
-    let start = c .before .before .before .before .before .before .before .before in
-    (proper (now (start .args .sheet)) (now (start .args .buffer)) (c .before .before .before .before .before .load-sheet .result) (c .before .before .before .before .before .load-sheet .ensures) (c .before .before .before .enum-told .given .1) (now (c .before .read .result)) (handed-content _ (start .args .sheet) (c .before .read .result) (c .before .read .ensures)), refl)
+    let word = c .before in
+    let early = word .before .before in
+    let load = early .before .before in
+    let start = load .before .before .before in
+    (proper (now (start .args .sheet)) (now (start .args .buffer)) (load .load-sheet .result) (load .load-sheet .ensures) (early .enum-told .given .1) (now (word .read .result)) (handed-content _ (start .args .sheet) (word .read .result) (word .read .ensures)), refl)
 
 enum-known-eight : tie.Need-enum-known-eight
 enum-known-eight c = search needs
 
 returns-2 : tie.Need-returns-2
 returns-2 c =
-    let start = c .before .before .before .before .before .before .before .before .before .before .before .before .before in
-    eight-refused (now (start .args .sheet)) (now (start .args .buffer)) (c .before .before .before .before .before .before .before .before .before .before .load-sheet .result) (c .before .before .before .before .before .before .before .before .before .before .load-sheet .ensures) (c .before .before .before .before .before .before .before .before .enum-told .given .1) (now (c .before .before .before .before .before .before .read .result)) (handed-content _ (start .args .sheet) (c .before .before .before .before .before .before .read .result) (c .before .before .before .before .before .before .read .ensures)) (c .before .before .before .before .connect .ensures .0) (c .before .eight .given .1)
+    let refused = c .before in
+    let table = refused .before .before .before in
+    let word = table .before .before in
+    let early = word .before .before in
+    let load = early .before .before in
+    let start = load .before .before .before in
+    eight-refused (now (start .args .sheet)) (now (start .args .buffer)) (load .load-sheet .result) (load .load-sheet .ensures) (early .enum-told .given .1) (now (word .read .result)) (handed-content _ (start .args .sheet) (word .read .result) (word .read .ensures)) (table .connect .ensures .0) (refused .eight .given .1)
 
 enum-told-2 : tie.Need-enum-told-2
 enum-told-2 c = search needs
@@ -57,8 +65,13 @@ slice-aggregate-write-sequence-2 c =
 
 write-sequence-requires : tie.Need-write-sequence-requires
 write-sequence-requires c κs =
-    let start = c .before .before .before .before .before .before .before .before .before .before .before .before .before .before in
-    table-ready (now (start .args .sheet)) (now (start .args .buffer)) (c .before .before .before .before .before .before .before .before .before .before .before .load-sheet .result) (c .before .before .before .before .before .before .before .before .before .before .before .load-sheet .ensures) (c .before .before .before .before .before .before .before .before .before .enum-told .given .1) (now (c .before .before .before .before .before .before .before .read .result)) (handed-content _ (start .args .sheet) (c .before .before .before .before .before .before .before .read .result) (c .before .before .before .before .before .before .before .read .ensures)) (c .before .before .before .before .before .connect .ensures .0) (c .before .before .enum-told2 .given .1) _ (c .before .before .before .before .before .connect .ensures .1 (c .before .before .enum-told2 .given .1))
+    let eight = c .before .before in
+    let table = eight .before .before .before in
+    let word = table .before .before in
+    let early = word .before .before in
+    let load = early .before .before in
+    let start = load .before .before .before in
+    table-ready (now (start .args .sheet)) (now (start .args .buffer)) (load .load-sheet .result) (load .load-sheet .ensures) (early .enum-told .given .1) (now (word .read .result)) (handed-content _ (start .args .sheet) (word .read .result) (word .read .ensures)) (table .connect .ensures .0) (eight .enum-told2 .given .1) _ (table .connect .ensures .1 (eight .enum-told2 .given .1))
 
 refuse-requires : tie.Need-refuse-requires
 refuse-requires c κs = search needs
@@ -71,8 +84,16 @@ same-length c = search needs
 
 returns-3 : tie.Need-returns-3
 returns-3 c =
-    let start = c .before .before .before .before .before .before .before .before .before .before .before .before .before .before .before .before .before .before .before .before .before in
-    nine-refused (now (start .args .sheet)) (now (start .args .buffer)) (c .before .before .before .before .before .before .before .before .before .before .before .before .before .before .before .before .before .before .load-sheet .result) (c .before .before .before .before .before .before .before .before .before .before .before .before .before .before .before .before .before .before .load-sheet .ensures) (c .before .before .before .before .before .before .before .before .before .before .before .before .before .before .before .before .enum-told .given .1) (now (c .before .before .before .before .before .before .before .before .before .before .before .before .before .before .read .result)) (handed-content _ (start .args .sheet) (c .before .before .before .before .before .before .before .before .before .before .before .before .before .before .read .result) (c .before .before .before .before .before .before .before .before .before .before .before .before .before .before .read .ensures)) (c .before .before .before .before .before .before .before .before .before .before .before .before .connect .ensures .0) (c .before .before .before .before .before .before .before .before .before .enum-told2 .given .1) (c .before .before .before .before .before .before .write-sequence .ensures .ends) (front-none (c .before .before .before .before .before .before .write-sequence .last .1 .1 .1 .0) (now (start .args .buffer)) (c .before .before .before .before .before .before .write-sequence .kept .1 .1 .1 .0)) (c .before .before .before .refuse .ensures) (c .before .nine .given .1)
+    let refused = c .before in
+    let check = refused .before .before in
+    let counted = check .before .before .before in
+    let eight = counted .before .before .before in
+    let table = eight .before .before .before in
+    let word = table .before .before in
+    let early = word .before .before in
+    let load = early .before .before in
+    let start = load .before .before .before in
+    nine-refused (now (start .args .sheet)) (now (start .args .buffer)) (load .load-sheet .result) (load .load-sheet .ensures) (early .enum-told .given .1) (now (word .read .result)) (handed-content _ (start .args .sheet) (word .read .result) (word .read .ensures)) (table .connect .ensures .0) (eight .enum-told2 .given .1) (counted .write-sequence .ensures .ends) (front-none (counted .write-sequence .last .1 .1 .1 .0) (now (start .args .buffer)) (counted .write-sequence .kept .1 .1 .1 .0)) (check .refuse .ensures) (refused .nine .given .1)
 
 enum-told-3 : tie.Need-enum-told-3
 enum-told-3 c = search needs
@@ -82,16 +103,30 @@ slice-aggregate-write-sequence-3 c = search needs
 
 write-sequence-requires-2 : tie.Need-write-sequence-requires-2
 write-sequence-requires-2 c κs =
-    let start = c .before .before .before .before .before .before .before .before .before .before .before .before .before .before .before .before .before .before .before .before .before .before in
-    table-ready (now (start .args .sheet)) (now (start .args .buffer)) (c .before .before .before .before .before .before .before .before .before .before .before .before .before .before .before .before .before .before .before .load-sheet .result) (c .before .before .before .before .before .before .before .before .before .before .before .before .before .before .before .before .before .before .before .load-sheet .ensures) (c .before .before .before .before .before .before .before .before .before .before .before .before .before .before .before .before .before .enum-told .given .1) (now (c .before .before .before .before .before .before .before .before .before .before .before .before .before .before .before .read .result)) (handed-content _ (start .args .sheet) (c .before .before .before .before .before .before .before .before .before .before .before .before .before .before .before .read .result) (c .before .before .before .before .before .before .before .before .before .before .before .before .before .before .before .read .ensures)) (c .before .before .before .before .before .before .before .before .before .before .before .before .before .connect .ensures .0) (c .before .before .before .before .before .before .before .before .before .before .enum-told2 .given .1) _ (c .before .before .before .before .before .before .before .before .before .before .before .before .before .connect .ensures .1 (c .before .before .before .before .before .before .before .before .before .before .enum-told2 .given .1))
+    let eight = c .before .before .before .before .before .before .before .before .before .before in
+    let table = eight .before .before .before in
+    let word = table .before .before in
+    let early = word .before .before in
+    let load = early .before .before in
+    let start = load .before .before .before in
+    table-ready (now (start .args .sheet)) (now (start .args .buffer)) (load .load-sheet .result) (load .load-sheet .ensures) (early .enum-told .given .1) (now (word .read .result)) (handed-content _ (start .args .sheet) (word .read .result) (word .read .ensures)) (table .connect .ensures .0) (eight .enum-told2 .given .1) _ (table .connect .ensures .1 (eight .enum-told2 .given .1))
 
 same-length-2 : tie.Need-same-length-2
 same-length-2 c = search needs
 
 returns-4 : tie.Need-returns-4
 returns-4 c =
-    let start = c .before .before .before .before .before .before .before .before .before .before .before .before .before .before .before .before .before .before .before .before .before .before .before .before .before in
-    built (now (start .args .sheet)) (now (start .args .buffer)) (c .before .before .before .before .before .before .before .before .before .before .before .before .before .before .before .before .before .before .before .before .before .before .load-sheet .result) (c .before .before .before .before .before .before .before .before .before .before .before .before .before .before .before .before .before .before .before .before .before .before .load-sheet .ensures) (c .before .before .before .before .before .before .before .before .before .before .before .before .before .before .before .before .before .before .before .before .enum-told .given .1) (now (c .before .before .before .before .before .before .before .before .before .before .before .before .before .before .before .before .before .before .read .result)) (handed-content _ (start .args .sheet) (c .before .before .before .before .before .before .before .before .before .before .before .before .before .before .before .before .before .before .read .result) (c .before .before .before .before .before .before .before .before .before .before .before .before .before .before .before .before .before .before .read .ensures)) (c .before .before .before .before .before .before .before .before .before .before .before .before .before .before .before .before .connect .ensures .0) (c .before .before .before .before .before .before .before .before .before .before .before .before .before .enum-told2 .given .1) (c .before .before .before .before .before .before .before .before .before .before .write-sequence .ensures .ends) (front-none (c .before .before .before .before .before .before .before .before .before .before .write-sequence .last .1 .1 .1 .0) (now (start .args .buffer)) (c .before .before .before .before .before .before .before .before .before .before .write-sequence .kept .1 .1 .1 .0)) (c .before .before .before .before .before .before .before .refuse .ensures) (c .before .before .before .before .before .enum-told3 .given .1) (c .before .before .write-sequence2 .ensures)
+    let written = c .before .before in
+    let nine = written .before .before .before in
+    let check = nine .before .before in
+    let counted = check .before .before .before in
+    let eight = counted .before .before .before in
+    let table = eight .before .before .before in
+    let word = table .before .before in
+    let early = word .before .before in
+    let load = early .before .before in
+    let start = load .before .before .before in
+    built (now (start .args .sheet)) (now (start .args .buffer)) (load .load-sheet .result) (load .load-sheet .ensures) (early .enum-told .given .1) (now (word .read .result)) (handed-content _ (start .args .sheet) (word .read .result) (word .read .ensures)) (table .connect .ensures .0) (eight .enum-told2 .given .1) (counted .write-sequence .ensures .ends) (front-none (counted .write-sequence .last .1 .1 .1 .0) (now (start .args .buffer)) (counted .write-sequence .kept .1 .1 .1 .0)) (check .refuse .ensures) (nine .enum-told3 .given .1) (written .write-sequence2 .ensures)
 
 pub build-spec : {M : Type 1} → statement M
 build-spec =

@@ -5,7 +5,7 @@ use mathlib.Core.Path.{_≡_, refl, sym, _∙_}
 use lib.ListN.{length}
 use denote.Ref.{now}
 use Rattle.machine.specs.Machine.{meaning}
-use Rattle.machine.specs.Machine.Laws.{tabled-states}
+use Rattle.machine.specs.Machine.Laws.{meaning-states}
 use Rattle.build.specs.Sequence.Cycle.{gap}
 use Rattle.build.proofs.Parts.{Approaching, approaching-start, approaching-asked, approaching-on, approaching-less, approaching-end, below}
 use Rattle.build.proofs.writing.approach.Statement.{statement}
@@ -30,17 +30,17 @@ block-requires c κs =
 following-requires : tie.Need-following-requires Inv-loop μ-loop
 following-requires c κs =
     let start = c .before .before .before .before .before .before .before .before .before in
-    below (tabled-states (start .args .m .n) (start .args .m .k) (start .args .m .start) (start .args .m .next) (start .args .m .answer)) (c .before .before .before .before .before .loop .inv .1 .low)
+    below (meaning-states (start .args .m)) (c .before .before .before .before .before .loop .inv .1 .low)
 
 loop-less : tie.Need-loop-less Inv-loop μ-loop
 loop-less c =
     let start = c .before .before .before .before .before .before .before .before .before .before in
-    approaching-less (meaning (start .args .m)) (now (start .args .w)) (now (start .args .rows)) (start .pre .0 .ready) _ _ _ _ (c .before .before .before .before .before .before .loop .inv .1) (start .pre .1) (c .before .before .before .before .before .loop-test .taken) (sym (tabled-states (start .args .m .n) (start .args .m .k) (start .args .m .start) (start .args .m .next) (start .args .m .answer))) (c .following .ensures)
+    approaching-less (meaning (start .args .m)) (now (start .args .w)) (now (start .args .rows)) (start .pre .0 .ready) _ _ _ _ (c .before .before .before .before .before .before .loop .inv .1) (start .pre .1) (c .before .before .before .before .before .loop-test .taken) (sym (meaning-states (start .args .m))) (c .following .ensures)
 
 loop-again : tie.Need-loop-again Inv-loop μ-loop
 loop-again c =
     let start = c .before .before .before .before .before .before .before .before .before .before in
-    (c .before .before .before .block .kept .1 .1 .1 .1 .0 ∙ c .before .before .before .before .before .before .loop .inv .0, approaching-on (meaning (start .args .m)) (now (start .args .w)) (now (start .args .rows)) (start .pre .0 .ready) _ _ _ _ (c .before .before .before .before .before .before .loop .inv .1) (start .pre .1) (c .before .before .before .before .before .loop-test .taken) (sym (tabled-states (start .args .m .n) (start .args .m .k) (start .args .m .start) (start .args .m .next) (start .args .m .answer))) (c .before .before .before .block .ensures) (c .following .ensures))
+    (c .before .before .before .block .kept .1 .1 .1 .1 .0 ∙ c .before .before .before .before .before .before .loop .inv .0, approaching-on (meaning (start .args .m)) (now (start .args .w)) (now (start .args .rows)) (start .pre .0 .ready) _ _ _ _ (c .before .before .before .before .before .before .loop .inv .1) (start .pre .1) (c .before .before .before .before .before .loop-test .taken) (sym (meaning-states (start .args .m))) (c .before .before .before .block .ensures) (c .following .ensures))
 
 same-length : tie.Need-same-length Inv-loop μ-loop
 same-length c = c .before .loop .inv .0

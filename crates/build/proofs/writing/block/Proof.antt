@@ -3,7 +3,7 @@
 use mathlib.Core.Path.{refl}
 use denote.Ref.{now}
 use Rattle.build.proofs.Writes.{writes-append}
-use Rattle.build.proofs.Table.{writes-row}
+use Rattle.build.proofs.Rows.{writes-row}
 use borrow.Author.Needs.{needs}
 use Rattle.build.proofs.writing.block.Statement.{statement}
 use Rattle.build.proofs.writing.block.Tie as tie

@@ -3,7 +3,7 @@
 use mathlib.Core.Path.{sym}
 use denote.Ref.{now}
 use Rattle.machine.specs.Machine.{meaning}
-use Rattle.machine.specs.Machine.Laws.{tabled-states, tabled-next}
+use Rattle.machine.specs.Machine.Laws.{meaning-states, tabled-next}
 use Rattle.build.proofs.Parts.{command-room, led-low, led-asked, test-moves, approach-asked, below}
 use borrow.Author.Needs.{needs}
 use Rattle.build.proofs.writing.test.Statement.{statement}
@@ -39,7 +39,7 @@ block-requires c κs =
 following-requires : tie.Need-following-requires
 following-requires c κs =
     let start = c .before .before .before .before .before .before .before .before .before .before .before .before .before .before .before .before .before .before .before .before in
-    below (tabled-states (start .args .m .n) (start .args .m .k) (start .args .m .start) (start .args .m .next) (start .args .m .answer)) (led-low (meaning (start .args .m)) (now (start .args .w)) (now (start .args .rows)) (start .pre .0 .ready) (start .pre .0) (start .pre .1 .0) (start .pre .1 .1) (tabled-next (start .args .m .n) (start .args .m .k) (start .args .m .start) (start .args .m .next) (start .args .m .answer) (start .args .s) (start .args .c) (c .before .before .before .before .byte .ensures) (c .before .before .before .before .before .entry-at .ensures)))
+    below (meaning-states (start .args .m)) (led-low (meaning (start .args .m)) (now (start .args .w)) (now (start .args .rows)) (start .pre .0 .ready) (start .pre .0) (start .pre .1 .0) (start .pre .1 .1) (tabled-next (start .args .m .n) (start .args .m .k) (start .args .m .start) (start .args .m .next) (start .args .m .answer) (start .args .s) (start .args .c) (c .before .before .before .before .byte .ensures) (c .before .before .before .before .before .entry-at .ensures)))
 
 same-length : tie.Need-same-length
 same-length c = search needs
@@ -47,7 +47,7 @@ same-length c = search needs
 returns : tie.Need-returns
 returns c =
     let start = c .before .before .before .before .before .before .before .before .before .before .before .before .before .before .before .before .before .before .before .before .before in
-    test-moves (meaning (start .args .m)) (now (start .args .w)) (now (start .args .rows)) (start .pre .0 .ready) (start .pre .0) (start .pre .1 .0) (start .pre .1 .1) (sym (tabled-states (start .args .m .n) (start .args .m .k) (start .args .m .start) (start .args .m .next) (start .args .m .answer))) (tabled-next (start .args .m .n) (start .args .m .k) (start .args .m .start) (start .args .m .next) (start .args .m .answer) (start .args .s) (start .args .c) (c .before .before .before .before .before .byte .ensures) (c .before .before .before .before .before .before .entry-at .ensures)) (c .following .ensures) (c .before .before .before .before .before .before .before .before .before .before .before .before .before .before .before .before .approach .ensures) (c .before .before .before .before .before .before .before .before .before .before .before .put .ensures) (c .before .before .before .block .ensures)
+    test-moves (meaning (start .args .m)) (now (start .args .w)) (now (start .args .rows)) (start .pre .0 .ready) (start .pre .0) (start .pre .1 .0) (start .pre .1 .1) (sym (meaning-states (start .args .m))) (tabled-next (start .args .m .n) (start .args .m .k) (start .args .m .start) (start .args .m .next) (start .args .m .answer) (start .args .s) (start .args .c) (c .before .before .before .before .before .byte .ensures) (c .before .before .before .before .before .before .entry-at .ensures)) (c .following .ensures) (c .before .before .before .before .before .before .before .before .before .before .before .before .before .before .before .before .approach .ensures) (c .before .before .before .before .before .before .before .before .before .before .before .put .ensures) (c .before .before .before .block .ensures)
 
 pub test-spec : {M : Type 1} → statement M
 test-spec =

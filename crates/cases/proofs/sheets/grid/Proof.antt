@@ -16,11 +16,11 @@ abbrev μ-loop : tie.MeasureT-loop
 header-requires : tie.Need-header-requires Inv-loop μ-loop
 header-requires c κs = search needs
 
+slice-aggregate-put : tie.Need-slice-aggregate-put Inv-loop μ-loop
+slice-aggregate-put c = search needs
+
 put-requires : tie.Need-put-requires Inv-loop μ-loop
 put-requires c κs = search needs
-
-put-requires-2 : tie.Need-put-requires-2 Inv-loop μ-loop
-put-requires-2 c κs = search needs
 
 loop-holds : tie.Need-loop-holds Inv-loop μ-loop
 loop-holds c = search needs
@@ -53,8 +53,8 @@ grid-spec =
     Inv-loop
     μ-loop
     header-requires
+    slice-aggregate-put
     put-requires
-    put-requires-2
     loop-holds
     mul-times
     times-requires

@@ -8,13 +8,16 @@ use Rattle.cases.proofs.sheets.times.Statement.{statement}
 use Rattle.cases.proofs.sheets.times.Tie as tie
 
 abbrev Inv-loop : tie.InvT-loop
-Inv-loop buf₀ from b count at₀ i₀ buf at i = length buf ≡ length buf₀
+Inv-loop buf₀ from b count one at₀ i₀ buf at i = length buf ≡ length buf₀
 
 abbrev μ-loop : tie.MeasureT-loop
-μ-loop buf₀ from b count at₀ i₀ buf at i = count - i
+μ-loop buf₀ from b count one at₀ i₀ buf at i = count - i
 
 loop-holds : tie.Need-loop-holds Inv-loop μ-loop
 loop-holds c = search needs
+
+slice-aggregate-put : tie.Need-slice-aggregate-put Inv-loop μ-loop
+slice-aggregate-put c = search needs
 
 put-requires : tie.Need-put-requires Inv-loop μ-loop
 put-requires c κs = search needs
@@ -41,6 +44,7 @@ times-spec =
     Inv-loop
     μ-loop
     loop-holds
+    slice-aggregate-put
     put-requires
     add-i
     loop-less

@@ -14,14 +14,14 @@ add-x : tie.Need-add-x
 add-x c =
     omega (arith, mul-le-mul {n₁ = c .before .args .factor} {m₁ = c .before .args .e} {n₂ = 255} {m₂ = 255} (search needs) (search needs))
 
-cast-put : tie.Need-cast-put
-cast-put c = search needs
+cast-next : tie.Need-cast-next
+cast-next c = search needs
+
+slice-aggregate-put : tie.Need-slice-aggregate-put
+slice-aggregate-put c = search needs
 
 put-requires : tie.Need-put-requires
 put-requires c κs = search needs
-
-put-requires-2 : tie.Need-put-requires-2
-put-requires-2 c κs = search needs
 
 same-length : tie.Need-same-length
 same-length c = search needs
@@ -31,4 +31,4 @@ returns c = search needs
 
 pub entry-spec : {M : Type 1} → statement M
 entry-spec =
-    tie.close (tie.spec mul-x add-x cast-put put-requires put-requires-2 same-length returns)
+    tie.close (tie.spec mul-x add-x cast-next slice-aggregate-put put-requires same-length returns)

@@ -22,6 +22,9 @@ shared-slice-read-entry c = search needs
 entry-requires : tie.Need-entry-requires Inv-loop μ-loop
 entry-requires c κs = search needs
 
+slice-aggregate-put : tie.Need-slice-aggregate-put Inv-loop μ-loop
+slice-aggregate-put c = search needs
+
 put-requires : tie.Need-put-requires Inv-loop μ-loop
 put-requires c κs = search needs
 
@@ -49,6 +52,7 @@ run-spec =
     loop-holds
     shared-slice-read-entry
     entry-requires
+    slice-aggregate-put
     put-requires
     add-i
     loop-less

@@ -1,4 +1,4 @@
--- `certify::answer::answer_of` meets its contract.
+-- `certify::answer::answer_of` meets its contract, by the two cases of the check.
 -- Assumes nothing.
 use borrow.Author.Needs.{needs}
 use Rattle.certify.specs.Certification.Program.{answer-of-clear, answer-of-open}

@@ -1,4 +1,4 @@
--- `certify::answer::values_of` meets its contract.
+-- `certify::answer::values_of` meets its contract, by the three answers.
 -- Assumes nothing.
 use borrow.Author.Needs.{needs}
 use Rattle.certify.specs.Certification.Program.{values-certified, values-open, values-refused}

@@ -3,7 +3,7 @@
 use native.Mathlib.Omega.{arith}
 use borrow.Author.Needs.{needs}
 use mathlib.Core.Path.{refl}
-use Rattle.certify.specs.Sweep.{found, added}
+use Rattle.certify.specs.Folding.{found, added}
 use Rattle.certify.proofs.chains.advance.Statement.{statement}
 use Rattle.certify.proofs.chains.advance.Tie as tie
 

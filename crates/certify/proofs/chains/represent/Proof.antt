@@ -3,7 +3,7 @@
 use native.Mathlib.Omega.{arith}
 use borrow.Author.Needs.{needs}
 use mathlib.Core.Path.{refl, sym, _∙_}
-use Rattle.certify.specs.Sweep.{Rooted}
+use Rattle.certify.specs.Folding.{Rooted}
 use Rattle.certify.proofs.chains.represent.Statement.{statement}
 use Rattle.certify.proofs.chains.represent.Tie as tie
 

@@ -3,7 +3,7 @@
 use borrow.Author.Needs.{needs}
 use denote.Ref.{now}
 use Rattle.sheet.specs.Reader.Laws.{handed-content}
-use Rattle.certify.proofs.Answering.{sequence-loaded}
+use Rattle.certify.proofs.SequenceLoading.{sequence-loaded}
 use Rattle.certify.proofs.loading.load_sequence.Statement.{statement}
 use Rattle.certify.proofs.loading.load_sequence.Tie as tie
 
@@ -30,10 +30,10 @@ first-of-requires-2 c κs = search needs
 
 returns : tie.Need-returns
 returns c =
-    let start = c .before .before .before .before .before .before .before .before .before in
-    sequence-loaded (start .args .needs) (start .args .room) (now (start .args .sheet)) (c .before .before .before .before .before .before .before .load-sheet .ensures)
-    (handed-content _ (start .args .sheet) (c .before .before .before .before .before .read .result) (c .before .before .before .before .before .read .ensures))
-    (c .before .before .before .before .commands .ensures) (c .before .before .before .refuse .ensures) (c .before .before .first-of .ensures) (c .before .first-of2 .ensures)
+    let start = c .before .before .before .before .before .before .before .before in
+    sequence-loaded (start .args .needs) (start .args .room) (now (start .args .sheet)) (c .before .before .before .before .before .before .load-sheet .ensures)
+    (handed-content _ (start .args .sheet) (c .before .before .before .before .read .result) (c .before .before .before .before .read .ensures))
+    (c .before .before .before .commands .ensures) (c .before .before .refuse .ensures) (c .before .first-of .ensures) (c .first-of2 .ensures)
 
 pub load-sequence-spec : {M : Type 1} → statement M
 load-sequence-spec =

@@ -5,7 +5,7 @@ use Prim.Native.Nat.{_+_}
 use mathlib.Core.Path.{_≡_}
 use lib.ListN.{length}
 use Rattle.machine.specs.Machine.{Mealy}
-use Rattle.certify.specs.Folding.{Propagable}
+use Rattle.certify.specs.Propagation.{Propagable}
 use Rattle.certify.proofs.Following.{Propagating, propagation-starts, propagation-on}
 use Rattle.certify.proofs.propagation.propagate.Statement.{statement}
 use Rattle.certify.proofs.propagation.propagate.Tie as tie

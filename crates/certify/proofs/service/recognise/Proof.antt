@@ -25,12 +25,12 @@ cast-entries-2 c = search needs
 mul-entries : tie.Need-mul-entries
 mul-entries c =
     let start = c .before .before .before .before .before .before .before .before .before .before .before .before .before in
-    omega (arith, few-tabled (start .args .m .n) (start .args .m .k) (start .args .m .start) (start .args .m .next) (start .args .m .answer) (start .pre .0))
+    omega (arith, few-tabled (start .args .m) (start .pre .0))
 
 open-check-requires : tie.Need-open-check-requires
 open-check-requires c κs =
     let start = c .before .before .before .before .before .before .before .before .before .before .before .before .before .before .before in
-    (omega (arith, c .before .before .before .before .before .before .close .ensures .exact .long), few-tabled (start .args .m .n) (start .args .m .k) (start .args .m .start) (start .args .m .next) (start .args .m .answer) (start .pre .0))
+    (omega (arith, c .before .before .before .before .before .before .close .ensures .exact .long), few-tabled (start .args .m) (start .pre .0))
 
 count-requires : tie.Need-count-requires
 count-requires c κs = search needs
@@ -49,7 +49,7 @@ returns c =
     let words = c .before .before .before .before .before .before .before .before .before .before .before .before .before .before .mark-words .ensures in
     let closed = c .before .before .before .before .before .before .before .before .before .before .close .ensures in (
       outcome-is (meaning (start .args .m)) (now (start .args .w)) (now (start .args .xs)) (start .pre .0) (start .pre .1 .0) words closed
-          (entries-tabled (start .args .m .n) (start .args .m .k) (start .args .m .start) (start .args .m .next) (start .args .m .answer)) (c .before .before .before .open-check .ensures) (c .before .count .ensures) (c .answer-of .ensures),
+          (entries-tabled (start .args .m)) (c .before .before .before .open-check .ensures) (c .before .count .ensures) (c .answer-of .ensures),
       marks-are (meaning (start .args .m)) (now (start .args .w)) (now (start .args .xs)) (start .pre .0) (start .pre .1 .0) words closed,
     )
 

@@ -5,11 +5,9 @@ use borrow.Author.Needs.{needs}
 use Prim.Native.Nat.{_-_}
 use mathlib.Core.Path.{refl, sym}
 use lib.ListN.{length}
-use denote.Ref.{now}
 use Rattle.machine.specs.Machine.{meaning}
-use Rattle.machine.specs.Machine.Laws.{tabled-start}
-use Rattle.certify.proofs.Ends.{fresh}
-use Rattle.certify.proofs.Loop.{follows-tabled, Running, starts, running-long, running-rising, running-mergeable, running-roots, running-ends, running-entry, merged-long, learnt-long, turns}
+use Rattle.machine.specs.Machine.Laws.{meaning-start}
+use Rattle.certify.proofs.Loop.{next-tabled, Running, starts, running-long, running-rising, running-mergeable, running-roots, running-ends, running-entry, merged-long, learnt-long, turns}
 use Rattle.certify.proofs.sweep.sweep.Statement.{statement}
 use Rattle.certify.proofs.sweep.sweep.Tie as tie
 
@@ -22,17 +20,16 @@ abbrev μ-loop : tie.MeasureT-loop
 loop-holds : tie.Need-loop-holds Inv-loop μ-loop
 loop-holds c =
     let start = c .before .before .before in
-    starts (meaning (start .args .m)) (start .args .apply) (now (start .args .xs)) (now (start .args .marks)) (now (start .args .known)) (start .pre) (fresh 20355) (fresh 256)
-    (sym (tabled-start (start .args .m .n) (start .args .m .k) (start .args .m .start) (start .args .m .next) (start .args .m .answer)))
+    starts (start .pre)
+    (sym (meaning-start (start .args .m)))
 
 slice-aggregate-merge : tie.Need-slice-aggregate-merge Inv-loop μ-loop
 slice-aggregate-merge c = search needs
 
 merge-requires : tie.Need-merge-requires Inv-loop μ-loop
 merge-requires c κs =
-    let start = c .before .before .before .before .before .before .before .before .before in
     let h = c .before .before .before .before .before .loop .inv in
-    (omega (arith, h .head .low-cur, h .head .place), (h .head .place, (running-long (meaning (start .args .m)) (start .args .apply) (now (start .args .xs)) (now (start .args .marks)) (now (start .args .known)) h, (h .asked .commands .few, running-rising (meaning (start .args .m)) (start .args .apply) (now (start .args .xs)) (now (start .args .marks)) (now (start .args .known)) h))))
+    (omega (arith, h .head .low-cur, h .head .place), (h .head .place, (running-long h, (h .asked .closable .commands .few, running-rising h))))
 
 shared-slice-read-entry-at : tie.Need-shared-slice-read-entry-at Inv-loop μ-loop
 shared-slice-read-entry-at c = c .before .before .before .before .before .before .before .before .loop-test .taken
@@ -42,65 +39,55 @@ entry-at-requires c κs = search needs
 
 learn-requires : tie.Need-learn-requires Inv-loop μ-loop
 learn-requires c κs =
-    let start = c .before .before .before .before .before .before .before .before .before .before .before .before .before .before .before .before in
     let h = c .before .before .before .before .before .before .before .before .before .before .before .before .loop .inv in
-    let f = follows-tabled (start .args .m .n) (start .args .m .k) (start .args .m .start) (start .args .m .next) (start .args .m .answer) in
-    let merged = c .before .before .before .before .before .before .merge .ensures (meaning (start .args .m)) (running-mergeable (meaning (start .args .m)) (start .args .apply) (now (start .args .xs)) (now (start .args .marks)) (now (start .args .known)) h f) in
+    let f = next-tabled (c .before .before .before .before .before .before .before .before .before .before .before .before .before .before .before .before .args .m) in
+    let merged = c .before .before .before .before .before .before .merge .ensures _ (running-mergeable h f) in
     let tl = c .before .before .before .before .before .before .before .before .before .before .before .loop-test .taken in
-    (omega (arith, merged-long (meaning (start .args .m)) (start .args .apply) (now (start .args .xs)) (now (start .args .marks)) (now (start .args .known)) h tl merged), running-entry (meaning (start .args .m)) (start .args .apply) (now (start .args .xs)) (now (start .args .marks)) (now (start .args .known)) h tl (f .commands) (c .before .before .entry-at .ensures))
+    (omega (arith, merged-long h tl merged), running-entry h tl (f .commands) (c .before .before .entry-at .ensures))
 
 onward-requires : tie.Need-onward-requires Inv-loop μ-loop
 onward-requires c κs =
-    let start = c .before .before .before .before .before .before .before .before .before .before .before .before .before .before .before .before .before .before .before .before .before .before in
     let h = c .before .before .before .before .before .before .before .before .before .before .before .before .before .before .before .before .before .before .loop .inv in
-    let f = follows-tabled (start .args .m .n) (start .args .m .k) (start .args .m .start) (start .args .m .next) (start .args .m .answer) in
-    let merged = c .before .before .before .before .before .before .before .before .before .before .before .before .merge .ensures (meaning (start .args .m)) (running-mergeable (meaning (start .args .m)) (start .args .apply) (now (start .args .xs)) (now (start .args .marks)) (now (start .args .known)) h f) in
+    let f = next-tabled (c .before .before .before .before .before .before .before .before .before .before .before .before .before .before .before .before .before .before .before .before .before .before .args .m) in
+    let merged = c .before .before .before .before .before .before .before .before .before .before .before .before .merge .ensures _ (running-mergeable h f) in
     let tl = c .before .before .before .before .before .before .before .before .before .before .before .before .before .before .before .before .before .loop-test .taken in
-    (omega (arith, h .head .low-cur), (tl, (learnt-long (meaning (start .args .m)) (start .args .apply) (now (start .args .xs)) (now (start .args .marks)) (now (start .args .known)) h tl f (c .before .before .before .before .before .before .before .before .entry-at .ensures) merged (c .before .before .before .before .before .learn .ensures), (h .asked .commands .few, (running-rising (meaning (start .args .m)) (start .args .apply) (now (start .args .xs)) (now (start .args .marks)) (now (start .args .known)) h, running-roots (meaning (start .args .m)) (start .args .apply) (now (start .args .xs)) (now (start .args .marks)) (now (start .args .known)) h)))))
+    (omega (arith, h .head .low-cur), (tl, (learnt-long h tl f (c .before .before .before .before .before .before .before .before .entry-at .ensures) merged (c .before .before .before .before .before .learn .ensures), (h .asked .closable .commands .few, (running-rising h, running-roots h)))))
 
 array-read-s : tie.Need-array-read-s Inv-loop μ-loop
 array-read-s c =
-    let start = c .before .before .before .before .before .before .before .before .before .before .before .before .before .before .before .before .before .before .before .before .before .before .before in
     let h = c .before .before .before .before .before .before .before .before .before .before .before .before .before .before .before .before .before .before .before .loop .inv in
-    let f = follows-tabled (start .args .m .n) (start .args .m .k) (start .args .m .start) (start .args .m .next) (start .args .m .answer) in
-    running-entry (meaning (start .args .m)) (start .args .apply) (now (start .args .xs)) (now (start .args .marks)) (now (start .args .known)) h (c .before .before .before .before .before .before .before .before .before .before .before .before .before .before .before .before .before .before .loop-test .taken) (f .commands) (c .before .before .before .before .before .before .before .before .before .entry-at .ensures)
+    let f = next-tabled (c .before .before .before .before .before .before .before .before .before .before .before .before .before .before .before .before .before .before .before .before .before .before .before .args .m) in
+    running-entry h (c .before .before .before .before .before .before .before .before .before .before .before .before .before .before .before .before .before .before .loop-test .taken) (f .commands) (c .before .before .before .before .before .before .before .before .before .entry-at .ensures)
 
 add-t : tie.Need-add-t Inv-loop μ-loop
-add-t c = let tl = c .before .before .before .before .before .before .before .before .before .before .before .before .before .before .before .before .before .before .loop-test .taken in omega (arith, c .before .before .before .before .before .before .before .before .before .before .before .before .before .before .before .before .before .before .before .loop .inv .asked .commands .few)
+add-t c = let tl = c .before .before .before .before .before .before .before .before .before .before .before .before .before .before .before .before .before .before .loop-test .taken in omega (arith, c .before .before .before .before .before .before .before .before .before .before .before .before .before .before .before .before .before .before .before .loop .inv .asked .closable .commands .few)
 
 loop-less : tie.Need-loop-less Inv-loop μ-loop
 loop-less c = let tl = c .before .before .before .before .before .before .before .before .before .before .before .before .before .before .before .before .before .before .loop-test .taken in omega arith
 
 loop-again : tie.Need-loop-again Inv-loop μ-loop
 loop-again c =
-    let start = c .before .before .before .before .before .before .before .before .before .before .before .before .before .before .before .before .before .before .before .before .before .before .before in
     let h = c .before .before .before .before .before .before .before .before .before .before .before .before .before .before .before .before .before .before .before .loop .inv in
-    let f = follows-tabled (start .args .m .n) (start .args .m .k) (start .args .m .start) (start .args .m .next) (start .args .m .answer) in
-    let merged = c .before .before .before .before .before .before .before .before .before .before .before .before .before .merge .ensures (meaning (start .args .m)) (running-mergeable (meaning (start .args .m)) (start .args .apply) (now (start .args .xs)) (now (start .args .marks)) (now (start .args .known)) h f) in
-    turns (meaning (start .args .m)) (start .args .apply) (now (start .args .xs)) (now (start .args .marks)) (now (start .args .known)) h (c .before .before .before .before .before .before .before .before .before .before .before .before .before .before .before .before .before .before .loop-test .taken) f (c .before .before .before .before .before .before .before .before .before .entry-at .ensures) merged (c .before .before .before .before .before .before .learn .ensures) (c .onward .ensures) refl
+    let f = next-tabled (c .before .before .before .before .before .before .before .before .before .before .before .before .before .before .before .before .before .before .before .before .before .before .before .args .m) in
+    let merged = c .before .before .before .before .before .before .before .before .before .before .before .before .before .merge .ensures _ (running-mergeable h f) in
+    turns h (c .before .before .before .before .before .before .before .before .before .before .before .before .before .before .before .before .before .before .loop-test .taken) f (c .before .before .before .before .before .before .before .before .before .entry-at .ensures) merged (c .before .before .before .before .before .before .learn .ensures) (c .onward .ensures) refl
 
 slice-aggregate-merge-2 : tie.Need-slice-aggregate-merge-2 Inv-loop μ-loop
 slice-aggregate-merge-2 c = search needs
 
 merge-requires-2 : tie.Need-merge-requires-2 Inv-loop μ-loop
 merge-requires-2 c κs =
-    let start = c .before .before .before .before .before .before .before .before .before in
     let h = c .before .before .before .before .before .loop .inv in
-    (omega (arith, h .head .low-cur, h .head .place), (h .head .place, (running-long (meaning (start .args .m)) (start .args .apply) (now (start .args .xs)) (now (start .args .marks)) (now (start .args .known)) h, (h .asked .commands .few, running-rising (meaning (start .args .m)) (start .args .apply) (now (start .args .xs)) (now (start .args .marks)) (now (start .args .known)) h))))
+    (omega (arith, h .head .low-cur, h .head .place), (h .head .place, (running-long h, (h .asked .closable .commands .few, running-rising h))))
 
 same-length : tie.Need-same-length Inv-loop μ-loop
-same-length c =
-    let start = c .before .before .before .before .before .before .before .before .before .before .before .before in
-    let h = c .before .before .before .before .before .before .before .before .loop .inv in
-    let f = follows-tabled (start .args .m .n) (start .args .m .k) (start .args .m .start) (start .args .m .next) (start .args .m .answer) in
-    search needs
+same-length c = search needs
 
 returns : tie.Need-returns Inv-loop μ-loop
 returns c =
-    let start = c .before .before .before .before .before .before .before .before .before .before .before .before in
     let h = c .before .before .before .before .before .before .before .before .loop .inv in
-    let f = follows-tabled (start .args .m .n) (start .args .m .k) (start .args .m .start) (start .args .m .next) (start .args .m .answer) in
-    running-ends (meaning (start .args .m)) (start .args .apply) (now (start .args .xs)) (now (start .args .marks)) (now (start .args .known)) h (c .before .before .before .before .before .before .before .loop-test .left) (c .before .before .merge2 .ensures (meaning (start .args .m)) (running-mergeable (meaning (start .args .m)) (start .args .apply) (now (start .args .xs)) (now (start .args .marks)) (now (start .args .known)) h f))
+    let f = next-tabled (c .before .before .before .before .before .before .before .before .before .before .before .before .args .m) in
+    running-ends h (c .before .before .before .before .before .before .before .loop-test .left) (c .before .before .merge2 .ensures _ (running-mergeable h f))
 
 pub sweep-spec : {M : Type 1} → statement M
 sweep-spec =

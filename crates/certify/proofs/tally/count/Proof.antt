@@ -21,17 +21,20 @@ abbrev μ-loop : tie.MeasureT-loop
 loop-holds : tie.Need-loop-holds Inv-loop μ-loop
 loop-holds c = (search needs, sym (count-none (now (c .before .args .marks))))
 
-shared-slice-read-one : tie.Need-shared-slice-read-one Inv-loop μ-loop
-shared-slice-read-one c = search needs
+shared-slice-read-bit : tie.Need-shared-slice-read-bit Inv-loop μ-loop
+shared-slice-read-bit c = search needs
 
-one-requires : tie.Need-one-requires Inv-loop μ-loop
-one-requires c κs = search needs
+bit-requires : tie.Need-bit-requires Inv-loop μ-loop
+bit-requires c κs = search needs
+
+cast-n : tie.Need-cast-n Inv-loop μ-loop
+cast-n c = search needs
 
 add-n : tie.Need-add-n Inv-loop μ-loop
 add-n c =
     let marks = now (c .before .before .before .before .before .args .marks) in
     let next = count-next marks (c .before .before .before .loop .i) (c .before .before .loop-test .taken) in
-    omega (arith, c .before .before .before .loop .inv .1, c .one .ensures, count-most (take (c .before .before .before .loop .i + 1) marks), length-take (c .before .before .before .loop .i + 1) marks)
+    omega (arith, c .before .before .before .loop .inv .1, c .bit .ensures, count-most (take (c .before .before .before .loop .i + 1) marks), length-take (c .before .before .before .loop .i + 1) marks)
 
 add-i : tie.Need-add-i Inv-loop μ-loop
 add-i c = search needs
@@ -40,7 +43,7 @@ loop-less : tie.Need-loop-less Inv-loop μ-loop
 loop-less c = search needs
 
 loop-again : tie.Need-loop-again Inv-loop μ-loop
-loop-again c = (search needs, ap₂ _+_ (c .before .before .before .loop .inv .1) (c .one .ensures) ∙ sym (count-next (now (c .before .before .before .before .before .args .marks)) (c .before .before .before .loop .i) (c .before .before .loop-test .taken)))
+loop-again c = (search needs, ap₂ _+_ (c .before .before .before .loop .inv .1) (c .bit .ensures) ∙ sym (count-next (now (c .before .before .before .before .before .args .marks)) (c .before .before .before .loop .i) (c .before .before .loop-test .taken)))
 
 returns : tie.Need-returns Inv-loop μ-loop
 returns c = c .before .loop .inv .1 ∙ ap count (take-all (c .before .loop .i) (now (c .before .before .before .args .marks)) (c .loop-test .left))
@@ -52,8 +55,9 @@ count-spec =
     Inv-loop
     μ-loop
     loop-holds
-    shared-slice-read-one
-    one-requires
+    shared-slice-read-bit
+    bit-requires
+    cast-n
     add-n
     add-i
     loop-less

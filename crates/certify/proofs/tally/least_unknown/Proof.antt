@@ -6,7 +6,7 @@ use mathlib.Core.Path.{_≡_}
 use Rattle.sheet.specs.declared.check.Check.the-variants.{Clear}
 use Rattle.sheet.specs.Check.{first}
 use Rattle.sheet.specs.Check.Laws.{first-none, first-stops, first-goes-on, first-ends}
-use Rattle.certify.specs.Closing.{unknownAt}
+use Rattle.certify.specs.Certification.Program.{unknownAt}
 use Rattle.certify.proofs.tally.least_unknown.Statement.{statement}
 use Rattle.certify.proofs.tally.least_unknown.Tie as tie
 

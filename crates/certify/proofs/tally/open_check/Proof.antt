@@ -1,4 +1,4 @@
--- `certify::tally::open_check` meets its contract.
+-- `certify::tally::open_check` meets its contract: place 0's check, then that of the entries.
 -- Assumes nothing.
 use borrow.Author.Needs.{needs}
 use mathlib.Core.Path.{ap₂, _∙_}

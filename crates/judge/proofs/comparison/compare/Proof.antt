@@ -7,7 +7,7 @@ use mathlib.Core.Path.{refl}
 use Prim.Native.Nat.{_-_}
 use lib.ListN.{length}
 use Rattle.machine.specs.Machine.{meaning}
-use Rattle.judge.proofs.Comparing.{Asked, Compared, compared-start, entry-inside, compared-wrong, compared-next, compared-unfinished, compared-passed}
+use Rattle.judge.proofs.Comparing.{Compared, compared-start, entry-inside, compared-wrong, compared-next, compared-unfinished, compared-passed}
 use Rattle.judge.proofs.comparison.compare.Statement.{statement}
 use Rattle.judge.proofs.comparison.compare.Tie as tie
 
@@ -20,13 +20,12 @@ abbrev μ-loop : tie.MeasureT-loop
 loop-holds : tie.Need-loop-holds Inv-loop μ-loop
 loop-holds c =
     let start = c .before .before .before .before in
-    compared-start (start .args .m .n) (start .args .m .k) (start .args .m .start) (start .args .m .next) (start .args .m .answer) (now (start .args .xs)) (now (start .args .ys)) refl
+    compared-start (start .args .m) (now (start .args .xs)) (now (start .args .ys)) refl
 
 shared-slice-read-entry-at : tie.Need-shared-slice-read-entry-at Inv-loop μ-loop
 shared-slice-read-entry-at c =
     let start = c .before .before .before .before .before .before .before in
-    let h : Asked (meaning (start .args .m)) (now (start .args .xs)) (now (start .args .ys)) = record { proper = start .pre .0; commands = start .pre .1 .0; few = start .pre .1 .1 } in
-    omega (arith, c .before .loop-test .taken, h .few)
+    omega (arith, c .before .loop-test .taken, start .pre .few)
 
 entry-at-requires : tie.Need-entry-at-requires Inv-loop μ-loop
 entry-at-requires c κs =
@@ -35,8 +34,7 @@ entry-at-requires c κs =
 array-read-specified : tie.Need-array-read-specified Inv-loop μ-loop
 array-read-specified c =
     let start = c .before .before .before .before .before .before .before .before in
-    let h : Asked (meaning (start .args .m)) (now (start .args .xs)) (now (start .args .ys)) = record { proper = start .pre .0; commands = start .pre .1 .0; few = start .pre .1 .1 } in
-    entry-inside (start .args .m .n) (start .args .m .k) (start .args .m .start) (start .args .m .next) (start .args .m .answer) (now (start .args .xs)) (now (start .args .ys)) h (c .before .before .before .loop .inv) (c .before .before .loop-test .taken) (c .entry-at .ensures)
+    entry-inside (start .args .m) (now (start .args .xs)) (now (start .args .ys)) (start .pre) (c .before .before .before .loop .inv) (c .before .before .loop-test .taken) (c .entry-at .ensures)
 
 shared-slice-read-given : tie.Need-shared-slice-read-given Inv-loop μ-loop
 shared-slice-read-given c =
@@ -45,14 +43,12 @@ shared-slice-read-given c =
 returns : tie.Need-returns Inv-loop μ-loop
 returns c =
     let start = c .before .before .before .before .before .before .before .before .before .before in
-    let h : Asked (meaning (start .args .m)) (now (start .args .xs)) (now (start .args .ys)) = record { proper = start .pre .0; commands = start .pre .1 .0; few = start .pre .1 .1 } in
-    compared-wrong (start .args .m .n) (start .args .m .k) (start .args .m .start) (start .args .m .next) (start .args .m .answer) (now (start .args .xs)) (now (start .args .ys)) h (c .before .before .before .before .before .loop .inv) (c .before .before .before .before .loop-test .taken) (c .before .before .entry-at .ensures) refl refl (c .if1 .taken)
+    compared-wrong (start .args .m) (now (start .args .xs)) (now (start .args .ys)) (start .pre) (c .before .before .before .before .before .loop .inv) (c .before .before .before .before .loop-test .taken) (c .before .before .entry-at .ensures) refl refl (c .if1 .taken)
 
 array-read-s : tie.Need-array-read-s Inv-loop μ-loop
 array-read-s c =
     let start = c .before .before .before .before .before .before .before .before .before .before in
-    let h : Asked (meaning (start .args .m)) (now (start .args .xs)) (now (start .args .ys)) = record { proper = start .pre .0; commands = start .pre .1 .0; few = start .pre .1 .1 } in
-    entry-inside (start .args .m .n) (start .args .m .k) (start .args .m .start) (start .args .m .next) (start .args .m .answer) (now (start .args .xs)) (now (start .args .ys)) h (c .before .before .before .before .before .loop .inv) (c .before .before .before .before .loop-test .taken) (c .before .before .entry-at .ensures)
+    entry-inside (start .args .m) (now (start .args .xs)) (now (start .args .ys)) (start .pre) (c .before .before .before .before .before .loop .inv) (c .before .before .before .before .loop-test .taken) (c .before .before .entry-at .ensures)
 
 add-i : tie.Need-add-i Inv-loop μ-loop
 add-i c =
@@ -65,20 +61,17 @@ loop-less c =
 loop-again : tie.Need-loop-again Inv-loop μ-loop
 loop-again c =
     let start = c .before .before .before .before .before .before .before .before .before .before in
-    let h : Asked (meaning (start .args .m)) (now (start .args .xs)) (now (start .args .ys)) = record { proper = start .pre .0; commands = start .pre .1 .0; few = start .pre .1 .1 } in
-    compared-next (start .args .m .n) (start .args .m .k) (start .args .m .start) (start .args .m .next) (start .args .m .answer) (now (start .args .xs)) (now (start .args .ys)) h (c .before .before .before .before .before .loop .inv) (c .before .before .before .before .loop-test .taken) (c .before .before .entry-at .ensures) refl refl (c .if1 .left) refl
+    compared-next (start .args .m) (now (start .args .xs)) (now (start .args .ys)) (start .pre) (c .before .before .before .before .before .loop .inv) (c .before .before .before .before .loop-test .taken) (c .before .before .entry-at .ensures) refl refl (c .if1 .left) refl
 
 returns-2 : tie.Need-returns-2 Inv-loop μ-loop
 returns-2 c =
     let start = c .before .before .before .before .before .before .before in
-    let h : Asked (meaning (start .args .m)) (now (start .args .xs)) (now (start .args .ys)) = record { proper = start .pre .0; commands = start .pre .1 .0; few = start .pre .1 .1 } in
-    compared-unfinished (start .args .m .n) (start .args .m .k) (start .args .m .start) (start .args .m .next) (start .args .m .answer) (now (start .args .xs)) (now (start .args .ys)) h (c .before .before .loop .inv) (c .before .loop-test .left) (omega (arith, c .if2 .taken, h .few))
+    compared-unfinished (start .args .m) (now (start .args .xs)) (now (start .args .ys)) (start .pre) (c .before .before .loop .inv) (c .before .loop-test .left) (omega (arith, c .if2 .taken, start .pre .few))
 
 returns-3 : tie.Need-returns-3 Inv-loop μ-loop
 returns-3 c =
     let start = c .before .before .before .before .before .before .before in
-    let h : Asked (meaning (start .args .m)) (now (start .args .xs)) (now (start .args .ys)) = record { proper = start .pre .0; commands = start .pre .1 .0; few = start .pre .1 .1 } in
-    compared-passed (start .args .m .n) (start .args .m .k) (start .args .m .start) (start .args .m .next) (start .args .m .answer) (now (start .args .xs)) (now (start .args .ys)) h (c .before .before .loop .inv) (c .before .loop-test .left) (omega (arith, c .if2 .left))
+    compared-passed (start .args .m) (now (start .args .xs)) (now (start .args .ys)) (start .pre) (c .before .before .loop .inv) (c .before .loop-test .left) (omega (arith, c .if2 .left))
 
 pub compare-spec : {M : Type 1} → statement M
 compare-spec =

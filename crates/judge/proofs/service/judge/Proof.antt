@@ -2,9 +2,15 @@
 -- Assumes nothing.
 use borrow.Author.Needs.{needs}
 use denote.Ref.{now}
-use mathlib.Core.Path.{sym, _∙_}
+use Prim.Native.Nat.{ℕ}
+use mathlib.Core.Path.{_≡_, sym, _∙_}
+use mathlib.Core.List.{List}
 use lib.ListN.{length}
+use Rattle.sheet.specs.declared.check.Check.the-variants.{Clear}
+use Rattle.sheet.specs.Check.{firstCause}
+use Rattle.sheet.specs.Reader.{content}
 use Rattle.sheet.specs.Reader.Laws.{handed-content}
+use Rattle.judge.specs.Judging.{judgeCauses}
 use Rattle.judge.specs.Judging.Laws.{marking-clear}
 use Rattle.judge.proofs.Answering.{checks-are, few-here, promised, judges-refused, judges-never, judges-open, judges-certified}
 use Rattle.judge.proofs.service.judge.Statement.{statement}
@@ -31,16 +37,30 @@ first-of-requires c κs = search needs
 enum-known-check : tie.Need-enum-known-check
 enum-known-check c = search needs
 
+-- ---- what is known behind the checks
+abbrev sheet : tie.After-first-of → List ℕ
+sheet d = now (d .before .before .before .before .before .before .before .before .args .sheet)
+
+abbrev buffer : tie.After-first-of → List ℕ
+buffer d = now (d .before .before .before .before .before .before .before .before .args .marks)
+
+sequence-is : (d : tie.After-first-of) → now (d .before .before .before .read .result) ≡ content 3 (sheet d)
+sequence-is d = handed-content _ (d .before .before .before .before .before .before .before .before .args .sheet) (d .before .before .before .read .result) (d .before .before .before .read .ensures)
+
+answers-are : (d : tie.After-first-of) → now (d .before .before .read2 .result) ≡ content 4 (sheet d)
+answers-are d = handed-content _ (d .before .before .before .before .before .before .before .before .args .sheet) (d .before .before .read2 .result) (d .before .before .read2 .ensures)
+
+check-is : (d : tie.After-first-of) → d .first-of .result ≡ firstCause (judgeCauses (length (buffer d)) (sheet d))
+check-is d =
+    checks-are (length (buffer d)) (sheet d) (d .before .before .before .before .record-of .ensures) (sequence-is d) (answers-are d) (d .before .before .before .before .before .load-sequence .ensures .check) (d .before .refuse .ensures) (d .first-of .ensures)
+
+loaded-clear : (d : tie.After-first-of) → d .first-of .result ≡ Clear → d .before .before .before .before .before .load-sequence .result .check ≡ Clear
+loaded-clear d clear = d .before .before .before .before .before .load-sequence .ensures .check ∙ marking-clear (length (buffer d)) (sheet d) (sym (check-is d) ∙ clear)
+
 returns : tie.Need-returns
 returns c =
-    let start = c .before .before .before .before .before .before .before .before .before .before .before in
-    let s = now (start .args .sheet) in
-    let before = now (start .args .marks) in
-    let loaded = c .before .before .before .before .before .before .before .before .load-sequence .ensures in
-    let xe = handed-content _ (start .args .sheet) (c .before .before .before .before .before .before .read .result) (c .before .before .before .before .before .before .read .ensures) in
-    let ye = handed-content _ (start .args .sheet) (c .before .before .before .before .before .read2 .result) (c .before .before .before .before .before .read2 .ensures) in
-    let check = checks-are (length before) s (c .before .before .before .before .before .before .before .record-of .ensures) xe ye (loaded .check) (c .before .before .before .before .refuse .ensures) (c .before .before .before .first-of .ensures) in
-    promised (judges-refused s before check (c .before .check .given .1))
+    let d = c .before .before .before in
+    promised (judges-refused (sheet d) (buffer d) (check-is d) (c .before .check .given .1))
 
 enum-told : tie.Need-enum-told
 enum-told c = search needs
@@ -53,16 +73,15 @@ enum-told-2 c = search needs
 
 compare-requires : tie.Need-compare-requires
 compare-requires c κs =
-    let start = c .before .before .before .before .before .before .before .before .before .before .before .before .before .before .before .before in
-    let s = now (start .args .sheet) in
-    let before = now (start .args .marks) in
-    let loaded = c .before .before .before .before .before .before .before .before .before .before .before .before .before .load-sequence .ensures in
-    let xe = handed-content _ (start .args .sheet) (c .before .before .before .before .before .before .before .before .before .before .before .read .result) (c .before .before .before .before .before .before .before .before .before .before .before .read .ensures) in
-    let ye = handed-content _ (start .args .sheet) (c .before .before .before .before .before .before .before .before .before .before .read2 .result) (c .before .before .before .before .before .before .before .before .before .before .read2 .ensures) in
-    let check = checks-are (length before) s (c .before .before .before .before .before .before .before .before .before .before .before .before .record-of .ensures) xe ye (loaded .check) (c .before .before .before .before .before .before .before .before .before .refuse .ensures) (c .before .before .before .before .before .before .before .before .first-of .ensures) in
+    let d = c .before .before .before .before .before .before .before .before in
     let clear = c .before .before .before .before .before .before .enum-told .given .1 in
-    let ready = loaded .check ∙ marking-clear (length before) s (sym check ∙ clear) in
-    (loaded .proper ready, (rw xe (loaded .commands ready), few-here (length before) s (c .before .before .before .before .before .before .before .before .before .before .before .before .record-of .ensures) xe ye check clear))
+    let loaded = d .before .before .before .before .before .load-sequence .ensures in
+    let ready = loaded-clear d clear in
+    record {
+      proper = loaded .proper ready;
+      commands = rw (sequence-is d) (loaded .commands ready);
+      few = few-here (length (buffer d)) (sheet d) (d .before .before .before .before .record-of .ensures) (sequence-is d) (answers-are d) (check-is d) clear;
+    }
 
 enum-known-certified : tie.Need-enum-known-certified
 enum-known-certified c = search needs
@@ -75,46 +94,25 @@ same-length c = search needs
 
 returns-2 : tie.Need-returns-2
 returns-2 c =
-    let start = c .before .before .before .before .before .before .before .before .before .before .before .before .before .before .before .before .before in
-    let s = now (start .args .sheet) in
-    let before = now (start .args .marks) in
-    let loaded = c .before .before .before .before .before .before .before .before .before .before .before .before .before .before .load-sequence .ensures in
-    let xe = handed-content _ (start .args .sheet) (c .before .before .before .before .before .before .before .before .before .before .before .before .read .result) (c .before .before .before .before .before .before .before .before .before .before .before .before .read .ensures) in
-    let ye = handed-content _ (start .args .sheet) (c .before .before .before .before .before .before .before .before .before .before .before .read2 .result) (c .before .before .before .before .before .before .before .before .before .before .before .read2 .ensures) in
-    let check = checks-are (length before) s (c .before .before .before .before .before .before .before .before .before .before .before .before .before .record-of .ensures) xe ye (loaded .check) (c .before .before .before .before .before .before .before .before .before .before .refuse .ensures) (c .before .before .before .before .before .before .before .before .before .first-of .ensures) in
+    let d = c .before .before .before .before .before .before .before .before .before in
     let clear = c .before .before .before .before .before .before .before .enum-told .given .1 in
-    let ready = loaded .check ∙ marking-clear (length before) s (sym check ∙ clear) in
-    promised (judges-certified s before check clear (c .before .before .before .before .before .certify .ensures) (c .before .enum-told2 .given .1) (loaded .machine ready) xe ye (c .compare .ensures))
+    promised (judges-certified (sheet d) (buffer d) (check-is d) clear (c .before .before .before .before .before .certify .ensures) (c .before .enum-told2 .given .1) (d .before .before .before .before .before .load-sequence .ensures .machine (loaded-clear d clear)) (sequence-is d) (answers-are d) (c .compare .ensures))
 
 same-length-2 : tie.Need-same-length-2
 same-length-2 c = search needs
 
 returns-3 : tie.Need-returns-3
 returns-3 c =
-    let start = c .before .before .before .before .before .before .before .before .before .before .before .before .before .before .before .before .before in
-    let s = now (start .args .sheet) in
-    let before = now (start .args .marks) in
-    let loaded = c .before .before .before .before .before .before .before .before .before .before .before .before .before .before .load-sequence .ensures in
-    let xe = handed-content _ (start .args .sheet) (c .before .before .before .before .before .before .before .before .before .before .before .before .read .result) (c .before .before .before .before .before .before .before .before .before .before .before .before .read .ensures) in
-    let ye = handed-content _ (start .args .sheet) (c .before .before .before .before .before .before .before .before .before .before .before .read2 .result) (c .before .before .before .before .before .before .before .before .before .before .before .read2 .ensures) in
-    let check = checks-are (length before) s (c .before .before .before .before .before .before .before .before .before .before .before .before .before .record-of .ensures) xe ye (loaded .check) (c .before .before .before .before .before .before .before .before .before .before .refuse .ensures) (c .before .before .before .before .before .before .before .before .before .first-of .ensures) in
-    let clear = c .before .before .before .before .before .before .before .enum-told .given .1 in
-    promised (judges-open s before check clear (c .before .before .before .before .before .certify .ensures) (c .before .certified .given .1))
+    let d = c .before .before .before .before .before .before .before .before .before in
+    promised (judges-open (sheet d) (buffer d) (check-is d) (c .before .before .before .before .before .before .before .enum-told .given .1) (c .before .before .before .before .before .certify .ensures) (c .before .certified .given .1))
 
 same-length-3 : tie.Need-same-length-3
 same-length-3 c = search needs
 
 returns-4 : tie.Need-returns-4
 returns-4 c =
-    let start = c .before .before .before .before .before .before .before .before .before .before .before .before .before .before .before .before .before in
-    let s = now (start .args .sheet) in
-    let before = now (start .args .marks) in
-    let loaded = c .before .before .before .before .before .before .before .before .before .before .before .before .before .before .load-sequence .ensures in
-    let xe = handed-content _ (start .args .sheet) (c .before .before .before .before .before .before .before .before .before .before .before .before .read .result) (c .before .before .before .before .before .before .before .before .before .before .before .before .read .ensures) in
-    let ye = handed-content _ (start .args .sheet) (c .before .before .before .before .before .before .before .before .before .before .before .read2 .result) (c .before .before .before .before .before .before .before .before .before .before .before .read2 .ensures) in
-    let check = checks-are (length before) s (c .before .before .before .before .before .before .before .before .before .before .before .before .before .record-of .ensures) xe ye (loaded .check) (c .before .before .before .before .before .before .before .before .before .before .refuse .ensures) (c .before .before .before .before .before .before .before .before .before .first-of .ensures) in
-    let clear = c .before .before .before .before .before .before .before .enum-told .given .1 in
-    absurd (judges-never s before check clear (c .before .before .before .before .before .certify .ensures) (c .before .certified2 .given .1))
+    let d = c .before .before .before .before .before .before .before .before .before in
+    absurd (judges-never (sheet d) (buffer d) (check-is d) (c .before .before .before .before .before .before .before .enum-told .given .1) (c .before .before .before .before .before .certify .ensures) (c .before .certified2 .given .1))
 
 pub judge-spec : {M : Type 1} → statement M
 judge-spec =

@@ -6,8 +6,9 @@ use Prim.Native.Nat.{ℕ, _*_, _+_}
 use mathlib.Core.Path.{_∙_, ap₂}
 use denote.Ref.{now}
 use Rattle.sheet.specs.Check.{first}
-use Rattle.machine.proofs.Numbers.{bytes-product}
-use Rattle.machine.specs.Causes.Laws.{byteCause, cause4-is}
+use Rattle.machine.proofs.Products.{bytes-product}
+use Rattle.machine.specs.Causes.{byteCause}
+use Rattle.machine.specs.Causes.Laws.{cause4-is}
 use Rattle.machine.proofs.checks.next_states.Statement.{statement}
 use Rattle.machine.proofs.checks.next_states.Tie as tie
 

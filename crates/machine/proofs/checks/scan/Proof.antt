@@ -7,8 +7,9 @@ use mathlib.Core.Path.{_≡_}
 use Rattle.sheet.specs.declared.check.Check.the-variants.{Clear}
 use Rattle.sheet.specs.Check.{first}
 use Rattle.sheet.specs.Check.Laws.{first-none, first-stops, first-goes-on, first-ends}
-use Rattle.machine.specs.Causes.Laws.{byteCause, byte-check-is}
-use Rattle.machine.proofs.Numbers.{index-fits}
+use Rattle.machine.specs.Causes.{byteCause}
+use Rattle.machine.specs.Causes.Laws.{byte-check-is}
+use Rattle.machine.proofs.Products.{index-fits}
 use Rattle.machine.proofs.checks.scan.Statement.{statement}
 use Rattle.machine.proofs.checks.scan.Tie as tie
 

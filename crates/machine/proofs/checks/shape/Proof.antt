@@ -3,7 +3,7 @@
 use native.Mathlib.Omega.{arith}
 use borrow.Author.Needs.{needs}
 use mathlib.Core.Path.{_∙_}
-use Rattle.machine.proofs.Numbers.{bytes-product}
+use Rattle.machine.proofs.Products.{bytes-product}
 use Rattle.machine.specs.Causes.Laws.{cause3-is}
 use Rattle.machine.proofs.checks.shape.Statement.{statement}
 use Rattle.machine.proofs.checks.shape.Tie as tie

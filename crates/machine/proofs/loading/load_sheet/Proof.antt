@@ -1,4 +1,4 @@
--- `machine::loading::load_sheet` meets its contract.
+-- `machine::loading::load_sheet` meets its contract: the machine that it loads is the one that is held, and the checks say the rest.
 -- Assumes nothing.
 use borrow.Author.Needs.{needs}
 use denote.Ref.{now}
@@ -19,16 +19,12 @@ all-checks-requires c κs =
     let start = c .before .before .before in
     held-loaded (now (start .args .sheet)) (handed-content _ (start .args .sheet) (c .before .read .result) (c .before .read .ensures)) (c .load .ensures)
 
-part-of-requires : tie.Need-part-of-requires
-part-of-requires c κs = search needs
-
 returns : tie.Need-returns
 returns c =
-    let start = c .before .before .before .before .before in
-    loaded-from (start .args .needs) (now (start .args .sheet)) _ (c .before .all-checks .ensures)
-    (held-loaded (now (start .args .sheet)) (handed-content _ (start .args .sheet) (c .before .before .before .read .result) (c .before .before .before .read .ensures)) (c .before .before .load .ensures))
-    (c .part-of .ensures .0)
+    let start = c .before .before .before .before in
+    loaded-from (start .args .needs) (now (start .args .sheet)) _ (c .all-checks .ensures)
+    (held-loaded (now (start .args .sheet)) (handed-content _ (start .args .sheet) (c .before .before .read .result) (c .before .before .read .ensures)) (c .before .load .ensures))
 
 pub load-sheet-spec : {M : Type 1} → statement M
 load-sheet-spec =
-    tie.close (tie.spec read-requires load-requires all-checks-requires part-of-requires returns)
+    tie.close (tie.spec read-requires load-requires all-checks-requires returns)

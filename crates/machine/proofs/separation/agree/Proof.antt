@@ -39,9 +39,11 @@ byte-requires-2 c κs = search needs
 
 returns : tie.Need-returns Inv-loop μ-loop
 returns c =
-    alike-differs _ _ _ _ (c .before .before .before .before .before .before .before .before .loop .inv) (c .before .before .before .before .before .before .before .loop-test .taken)
-    (tabled-answer _ _ _ (now (c .before .before .before .before .before .before .before .before .before .before .before .before .args .next)) (now (c .before .before .before .before .before .before .before .before .before .before .before .before .args .answer)) _ _ (c .before .before .byte .ensures) (c .before .before .before .before .before .entry-at .ensures))
-    (tabled-answer _ _ _ (now (c .before .before .before .before .before .before .before .before .before .before .before .before .args .next)) (now (c .before .before .before .before .before .before .before .before .before .before .before .before .args .answer)) _ _ (c .before .byte2 .ensures) (c .before .before .before .entry-at2 .ensures))
+    let start = c .before .before .before .before .before .before .before .before .before .before .before .before in
+    let head = c .before .before .before .before .before .before .before .before in
+    alike-differs _ _ _ _ (head .loop .inv) (c .before .before .before .before .before .before .before .loop-test .taken)
+    (tabled-answer _ _ _ (now (start .args .next)) (now (start .args .answer)) _ _ (c .before .before .byte .ensures) (c .before .before .before .before .before .entry-at .ensures))
+    (tabled-answer _ _ _ (now (start .args .next)) (now (start .args .answer)) _ _ (c .before .byte2 .ensures) (c .before .before .before .entry-at2 .ensures))
     (c .if1 .taken)
 
 byte-requires-3 : tie.Need-byte-requires-3 Inv-loop μ-loop
@@ -58,12 +60,14 @@ loop-less c = search needs
 
 loop-again : tie.Need-loop-again Inv-loop μ-loop
 loop-again c =
-    alike-next _ _ _ _ (c .before .before .before .before .before .before .before .before .before .before .loop .inv) (c .before .before .before .before .before .before .before .before .before .loop-test .taken)
-    (tabled-answer _ _ _ (now (c .before .before .before .before .before .before .before .before .before .before .before .before .before .before .args .next)) (now (c .before .before .before .before .before .before .before .before .before .before .before .before .before .before .args .answer)) _ _ (c .before .before .before .before .byte .ensures) (c .before .before .before .before .before .before .before .entry-at .ensures))
-    (tabled-answer _ _ _ (now (c .before .before .before .before .before .before .before .before .before .before .before .before .before .before .args .next)) (now (c .before .before .before .before .before .before .before .before .before .before .before .before .before .before .args .answer)) _ _ (c .before .before .before .byte2 .ensures) (c .before .before .before .before .before .entry-at2 .ensures))
+    let start = c .before .before .before .before .before .before .before .before .before .before .before .before .before .before in
+    let head = c .before .before .before .before .before .before .before .before .before .before in
+    alike-next _ _ _ _ (head .loop .inv) (c .before .before .before .before .before .before .before .before .before .loop-test .taken)
+    (tabled-answer _ _ _ (now (start .args .next)) (now (start .args .answer)) _ _ (c .before .before .before .before .byte .ensures) (c .before .before .before .before .before .before .before .entry-at .ensures))
+    (tabled-answer _ _ _ (now (start .args .next)) (now (start .args .answer)) _ _ (c .before .before .before .byte2 .ensures) (c .before .before .before .before .before .entry-at2 .ensures))
     (c .before .before .if1 .left)
-    (tabled-next _ _ _ (now (c .before .before .before .before .before .before .before .before .before .before .before .before .before .before .args .next)) (now (c .before .before .before .before .before .before .before .before .before .before .before .before .before .before .args .answer)) _ _ (c .before .byte3 .ensures) (c .before .before .before .before .before .before .before .entry-at .ensures))
-    (tabled-next _ _ _ (now (c .before .before .before .before .before .before .before .before .before .before .before .before .before .before .args .next)) (now (c .before .before .before .before .before .before .before .before .before .before .before .before .before .before .args .answer)) _ _ (c .byte4 .ensures) (c .before .before .before .before .before .entry-at2 .ensures))
+    (tabled-next _ _ _ (now (start .args .next)) (now (start .args .answer)) _ _ (c .before .byte3 .ensures) (c .before .before .before .before .before .before .before .entry-at .ensures))
+    (tabled-next _ _ _ (now (start .args .next)) (now (start .args .answer)) _ _ (c .byte4 .ensures) (c .before .before .before .before .before .entry-at2 .ensures))
 
 returns-2 : tie.Need-returns-2 Inv-loop μ-loop
 returns-2 c = alike-end _ _ _ _ (c .before .loop .inv) (c .loop-test .left)

@@ -7,7 +7,8 @@ use Rattle.sheet.specs.declared.check.Check.the-variants.{Clear, Refused}
 use Rattle.sheet.specs.Check.{first}
 use Rattle.sheet.specs.Check.Laws.{first-stops, first-goes-on, first-ends}
 use Rattle.machine.specs.Machine.{tabled}
-use Rattle.machine.specs.Causes.Separation.{pairCause, low-clear, pair-present, pair-absent}
+use Rattle.machine.specs.Causes.{pairCause}
+use Rattle.machine.specs.Causes.Separation.{low-clear, pair-present, pair-absent}
 use Rattle.machine.proofs.separation.partner.Statement.{statement}
 use Rattle.machine.proofs.separation.partner.Tie as tie
 

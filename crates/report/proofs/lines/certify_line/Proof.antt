@@ -22,8 +22,8 @@ still-open-requires c κs = search needs
 enum-known-answer-3 : tie.Need-enum-known-answer-3
 enum-known-answer-3 c = search needs
 
-refused-requires : tie.Need-refused-requires
-refused-requires c κs = search needs
+refusal-line-requires : tie.Need-refusal-line-requires
+refusal-line-requires c κs = search needs
 
 returns : tie.Need-returns
 returns c = prints-same (ap certifyLine (c .before .before .before .answer .given .1)) (c .certified .ensures)
@@ -32,7 +32,7 @@ returns-2 : tie.Need-returns-2
 returns-2 c = prints-same (ap certifyLine (c .before .before .before .answer2 .given .1)) (c .still-open .ensures)
 
 returns-3 : tie.Need-returns-3
-returns-3 c = prints-same (ap certifyLine (c .before .before .before .answer3 .given .1)) (c .refused .ensures)
+returns-3 c = prints-same (ap certifyLine (c .before .before .before .answer3 .given .1)) (c .refusal-line .ensures)
 
 pub certify-line-spec : {M : Type 1} → statement M
 certify-line-spec =
@@ -43,7 +43,7 @@ certify-line-spec =
     enum-known-answer-2
     still-open-requires
     enum-known-answer-3
-    refused-requires
+    refusal-line-requires
     returns
     returns-2
     returns-3)

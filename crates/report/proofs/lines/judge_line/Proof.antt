@@ -28,8 +28,8 @@ unfinished-requires c κs = search needs
 enum-known-answer-4 : tie.Need-enum-known-answer-4
 enum-known-answer-4 c = search needs
 
-refused-requires : tie.Need-refused-requires
-refused-requires c κs = search needs
+refusal-line-requires : tie.Need-refusal-line-requires
+refusal-line-requires c κs = search needs
 
 returns : tie.Need-returns
 returns c =
@@ -45,7 +45,7 @@ returns-3 c =
 
 returns-4 : tie.Need-returns-4
 returns-4 c =
-    prints-same (ap judgeLine (c .before .before .before .answer4 .given .1)) (c .refused .ensures)
+    prints-same (ap judgeLine (c .before .before .before .answer4 .given .1)) (c .refusal-line .ensures)
 
 pub judge-line-spec : {M : Type 1} → statement M
 judge-line-spec =
@@ -58,7 +58,7 @@ judge-line-spec =
     enum-known-answer-3
     unfinished-requires
     enum-known-answer-4
-    refused-requires
+    refusal-line-requires
     returns
     returns-2
     returns-3

@@ -1,14 +1,47 @@
--- `report::lines::refusal_line` meets its contract: the buffer is long enough.
+-- `report::lines::refusal_line` meets its contract: the pieces make the line.
 -- Assumes nothing.
 use borrow.Author.Needs.{needs}
+use Rattle.report.specs.Lines.{refusalLine}
+use Rattle.report.proofs.Putting.{puts-append, prints-line}
 use Rattle.report.proofs.lines.refusal_line.Statement.{statement}
 use Rattle.report.proofs.lines.refusal_line.Tie as tie
 
-refused-requires : tie.Need-refused-requires
-refused-requires c κs = search needs
+slice-aggregate-put-labelled : tie.Need-slice-aggregate-put-labelled
+slice-aggregate-put-labelled c = search needs
+
+put-labelled-requires : tie.Need-put-labelled-requires
+put-labelled-requires c κs = search needs
+
+slice-aggregate-put-labelled-2 : tie.Need-slice-aggregate-put-labelled-2
+slice-aggregate-put-labelled-2 c = search needs
+
+put-labelled-requires-2 : tie.Need-put-labelled-requires-2
+put-labelled-requires-2 c κs = search needs
+
+put-phrase-requires : tie.Need-put-phrase-requires
+put-phrase-requires c κs = search needs
+
+slice-aggregate-put : tie.Need-slice-aggregate-put
+slice-aggregate-put c = search needs
+
+put-requires : tie.Need-put-requires
+put-requires c κs = search needs
 
 returns : tie.Need-returns
-returns c = search needs
+unfolding refusalLine
+returns c =
+    let args = c .before .before .before .before .before .before .before .before .before .before .before .args in
+    prints-line (refusalLine (args .number) (args .place)) (puts-append _ _ (puts-append _ _ (puts-append _ _ (c .before .before .before .before .before .before .before .before .put-labelled .ensures .0) (c .before .before .before .before .before .put-labelled2 .ensures .0)) (c .before .before .before .put-phrase .ensures .0)) (c .put .ensures))
 
 pub refusal-line-spec : {M : Type 1} → statement M
-refusal-line-spec = tie.close (tie.spec refused-requires returns)
+refusal-line-spec =
+    tie.close
+    (tie.spec
+    slice-aggregate-put-labelled
+    put-labelled-requires
+    slice-aggregate-put-labelled-2
+    put-labelled-requires-2
+    put-phrase-requires
+    slice-aggregate-put
+    put-requires
+    returns)

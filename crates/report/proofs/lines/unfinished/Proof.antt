@@ -6,11 +6,11 @@ use Rattle.report.proofs.Putting.{puts-append, prints-line}
 use Rattle.report.proofs.lines.unfinished.Statement.{statement}
 use Rattle.report.proofs.lines.unfinished.Tie as tie
 
-slice-aggregate-put-counted : tie.Need-slice-aggregate-put-counted
-slice-aggregate-put-counted c = search needs
+slice-aggregate-put-labelled : tie.Need-slice-aggregate-put-labelled
+slice-aggregate-put-labelled c = search needs
 
-put-counted-requires : tie.Need-put-counted-requires
-put-counted-requires c κs = search needs
+put-labelled-requires : tie.Need-put-labelled-requires
+put-labelled-requires c κs = search needs
 
 slice-aggregate-put : tie.Need-slice-aggregate-put
 slice-aggregate-put c = search needs
@@ -18,21 +18,18 @@ slice-aggregate-put c = search needs
 put-requires : tie.Need-put-requires
 put-requires c κs = search needs
 
-same-length : tie.Need-same-length
-same-length c = search needs
-
 returns : tie.Need-returns
 unfolding unfinishedLine
 returns c =
-    prints-line (unfinishedLine (c .before .before .before .before .before .before .before .before .before .before .before .args .number)) (puts-append _ _ (c .before .before .before .before .before .before .before .put-counted .ensures .0) (c .before .before .put .ensures))
+    let args = c .before .before .before .before .before .before .args in
+    prints-line (unfinishedLine (args .number)) (puts-append _ _ (c .before .before .before .put-labelled .ensures .0) (c .put .ensures))
 
 pub unfinished-spec : {M : Type 1} → statement M
 unfinished-spec =
     tie.close
     (tie.spec
-    slice-aggregate-put-counted
-    put-counted-requires
+    slice-aggregate-put-labelled
+    put-labelled-requires
     slice-aggregate-put
     put-requires
-    same-length
     returns)

@@ -6,23 +6,23 @@ use Rattle.report.proofs.Putting.{puts-append, prints-line}
 use Rattle.report.proofs.lines.wrong.Statement.{statement}
 use Rattle.report.proofs.lines.wrong.Tie as tie
 
-slice-aggregate-put-counted : tie.Need-slice-aggregate-put-counted
-slice-aggregate-put-counted c = search needs
+slice-aggregate-put-labelled : tie.Need-slice-aggregate-put-labelled
+slice-aggregate-put-labelled c = search needs
 
-put-counted-requires : tie.Need-put-counted-requires
-put-counted-requires c κs = search needs
+put-labelled-requires : tie.Need-put-labelled-requires
+put-labelled-requires c κs = search needs
 
-slice-aggregate-put-counted-2 : tie.Need-slice-aggregate-put-counted-2
-slice-aggregate-put-counted-2 c = search needs
+slice-aggregate-put-labelled-2 : tie.Need-slice-aggregate-put-labelled-2
+slice-aggregate-put-labelled-2 c = search needs
 
-put-counted-requires-2 : tie.Need-put-counted-requires-2
-put-counted-requires-2 c κs = search needs
+put-labelled-requires-2 : tie.Need-put-labelled-requires-2
+put-labelled-requires-2 c κs = search needs
 
-slice-aggregate-put-counted-3 : tie.Need-slice-aggregate-put-counted-3
-slice-aggregate-put-counted-3 c = search needs
+slice-aggregate-put-labelled-3 : tie.Need-slice-aggregate-put-labelled-3
+slice-aggregate-put-labelled-3 c = search needs
 
-put-counted-requires-3 : tie.Need-put-counted-requires-3
-put-counted-requires-3 c κs = search needs
+put-labelled-requires-3 : tie.Need-put-labelled-requires-3
+put-labelled-requires-3 c κs = search needs
 
 slice-aggregate-put : tie.Need-slice-aggregate-put
 slice-aggregate-put c = search needs
@@ -30,26 +30,22 @@ slice-aggregate-put c = search needs
 put-requires : tie.Need-put-requires
 put-requires c κs = search needs
 
-same-length : tie.Need-same-length
-same-length c = search needs
-
 returns : tie.Need-returns
 unfolding wrongLine
 returns c =
-    prints-line (wrongLine (c .before .before .before .before .before .before .before .before .before .before .before .before .before .before .before .before .before .before .before .before .before .args .place) (c .before .before .before .before .before .before .before .before .before .before .before .before .before .before .before .before .before .before .before .before .before .args .specified) (c .before .before .before .before .before .before .before .before .before .before .before .before .before .before .before .before .before .before .before .before .before .args .given))
-    (puts-append _ _ (puts-append _ _ (puts-append _ _ (c .before .before .before .before .before .before .before .before .before .before .before .before .before .before .before .before .before .put-counted .ensures .0) (c .before .before .before .before .before .before .before .before .before .before .before .before .put-counted2 .ensures .0)) (c .before .before .before .before .before .before .before .put-counted3 .ensures .0)) (c .before .before .put .ensures))
+    let args = c .before .before .before .before .before .before .before .before .before .before .before .before .args in
+    prints-line (wrongLine (args .place) (args .specified) (args .given)) (puts-append _ _ (puts-append _ _ (puts-append _ _ (c .before .before .before .before .before .before .before .before .before .put-labelled .ensures .0) (c .before .before .before .before .before .before .put-labelled2 .ensures .0)) (c .before .before .before .put-labelled3 .ensures .0)) (c .put .ensures))
 
 pub wrong-spec : {M : Type 1} → statement M
 wrong-spec =
     tie.close
     (tie.spec
-    slice-aggregate-put-counted
-    put-counted-requires
-    slice-aggregate-put-counted-2
-    put-counted-requires-2
-    slice-aggregate-put-counted-3
-    put-counted-requires-3
+    slice-aggregate-put-labelled
+    put-labelled-requires
+    slice-aggregate-put-labelled-2
+    put-labelled-requires-2
+    slice-aggregate-put-labelled-3
+    put-labelled-requires-3
     slice-aggregate-put
     put-requires
-    same-length
     returns)

@@ -32,7 +32,7 @@ slice-aggregate-compose c =
 compose-requires : tie.Need-compose-requires
 compose-requires c κs =
     let ready = built-ready (now (c .before .before .before .before .before .before .before .before .before .args .sheet)) _ _ (length-replicate {A = ℕ} mostSequence 0) (c .before .before .before .before .before .before .build .ensures) (c .before .before .before .answer .given .1) in
-    (ready .behind, (ready .short, (omega (arith, ready .few, ready .sized), search needs)))
+    (ready .behind, (ready .short, omega (arith, ready .few, ready .sized)))
 
 enum-known-answer-2 : tie.Need-enum-known-answer-2
 enum-known-answer-2 c = search needs

@@ -3,10 +3,12 @@
 use borrow.Author.Needs.{needs}
 use native.Mathlib.Omega.{arith}
 use denote.Ref.{now}
-use mathlib.Core.Path.{sym, ap}
-use lib.ListN.{length}
+use Prim.Native.Nat.{ℕ, _+_, _≤_}
+use mathlib.Core.Path.{_≡_, sym, ap, _∙_}
+use lib.ListN.{length, take}
+use Rattle.sheet.specs.Format.{header}
 use Rattle.report.proofs.Making.{end-of, front-fits, parts-are}
-use Rattle.sheet.specs.Writing.Reading.{header-size}
+use Rattle.sheet.specs.Writing.Laws.{header-size}
 use Rattle.report.proofs.Putting.{puts-same, puts-append, prints-line}
 use Rattle.report.proofs.sheets.compose.Statement.{statement}
 use Rattle.report.proofs.sheets.compose.Tie as tie
@@ -14,48 +16,62 @@ use Rattle.report.proofs.sheets.compose.Tie as tie
 record-of-requires : tie.Need-record-of-requires
 record-of-requires c κs = search needs
 
+-- ---- what is known of the two records and of the header
+abbrev started : tie.After-record-of → tie.Start
+started d = d .before .before .before
+
+abbrev behind : tie.After-record-of → ℕ
+behind d = d .record-of .result .start + header + d .record-of .result .size
+
+front : (d : tie.After-record-of) → (length (take (behind d) (now (started d .args .sheet))) ≡ behind d) × (behind d ≤ length (now (started d .args .sheet)))
+front d = front-fits (now (started d .args .sheet)) (d .record-of .ensures) (started d .pre .0)
+
+header-long : (h : tie.After-header-of) → length (h .header-of .result) ≡ header
+header-long h = ap length (h .header-of .ensures) ∙ header-size _ (length (now (h .before .before .before .before .before .before .args .xs)))
+
+-- ---- the parts fit one behind the other
 add-behind : tie.Need-add-behind
 add-behind c =
-    let front = front-fits (now (c .before .before .before .before .before .args .sheet)) (c .before .record-of .ensures) (c .before .before .before .before .before .pre .0) in
-    omega (arith, front .1, c .before .before .before .before .before .pre .1 .0)
+    let d = c .before in
+    omega (arith, front d .1, started d .pre .1 .0)
 
 add-behind-2 : tie.Need-add-behind-2
 add-behind-2 c =
-    let front = front-fits (now (c .before .before .before .before .before .before .args .sheet)) (c .before .before .record-of .ensures) (c .before .before .before .before .before .before .pre .0) in
-    omega (arith, front .1, c .before .before .before .before .before .before .pre .1 .0)
+    let d = c .before .before in
+    omega (arith, front d .1, started d .pre .1 .0)
 
 header-of-requires : tie.Need-header-of-requires
 header-of-requires c κs = search needs
 
 slice-aggregate-put : tie.Need-slice-aggregate-put
-slice-aggregate-put c =
-    let front = front-fits (now (c .before .before .before .before .before .before .before .before .args .sheet)) (c .before .before .before .before .record-of .ensures) (c .before .before .before .before .before .before .before .before .pre .0) in
-    sym (front .0)
+slice-aggregate-put c = sym (front (c .before .before .before .before) .0)
 
 put-requires : tie.Need-put-requires
 put-requires c κs =
-    let front = front-fits (now (c .before .before .before .before .before .before .before .before .before .args .sheet)) (c .before .before .before .before .before .record-of .ensures) (c .before .before .before .before .before .before .before .before .before .pre .0) in
-    omega (arith, front .1, c .before .before .before .before .before .before .before .before .before .pre .1 .0, c .before .before .before .before .before .before .before .before .before .pre .1 .1 .1, front .0)
+    let d = c .before .before .before .before .before in
+    omega (arith, front d .1, started d .pre .1 .0, front d .0)
 
 slice-aggregate-put-2 : tie.Need-slice-aggregate-put-2
 slice-aggregate-put-2 c = search needs
 
 put-requires-2 : tie.Need-put-requires-2
 put-requires-2 c κs =
-    let front = front-fits (now (c .before .before .before .before .before .before .before .before .before .before .before .before .before .before .args .sheet)) (c .before .before .before .before .before .before .before .before .before .before .record-of .ensures) (c .before .before .before .before .before .before .before .before .before .before .before .before .before .before .pre .0) in
-    omega (arith, front .1, c .before .before .before .before .before .before .before .before .before .before .before .before .before .before .pre .1 .0, c .before .before .before .before .before .before .before .before .before .before .before .before .before .before .pre .1 .1 .1, c .before .before .before .before .put .ensures .ends, header-size 3 (length (now (c .before .before .before .before .before .before .before .before .before .before .before .before .before .before .args .xs))), ap length (c .before .before .before .before .before .before .before .header-of .ensures), front .0)
+    let d = c .before .before .before .before .before .before .before .before in
+    omega (arith, front d .1, started d .pre .1 .0, c .before .before .put .ensures .ends, header-long (c .before .before .before .before .before), front d .0)
 
 put-requires-3 : tie.Need-put-requires-3
 put-requires-3 c κs =
-    let front = front-fits (now (c .before .before .before .before .before .before .before .before .before .before .before .before .before .before .before .before .before .before .args .sheet)) (c .before .before .before .before .before .before .before .before .before .before .before .before .before .before .record-of .ensures) (c .before .before .before .before .before .before .before .before .before .before .before .before .before .before .before .before .before .before .pre .0) in
-    omega (arith, front .1, c .before .before .before .before .before .before .before .before .before .before .before .before .before .before .before .before .before .before .pre .1 .0, c .before .before .before .before .before .before .before .before .before .before .before .before .before .before .before .before .before .before .pre .1 .1 .0, c .before .before .before .before .before .before .before .before .before .before .before .before .before .before .before .before .before .before .pre .1 .1 .1, c .before .before .before .before .before .before .before .before .put .ensures .ends, c .before .before .before .put2 .ensures .ends, header-size 3 (length (now (c .before .before .before .before .before .before .before .before .before .before .before .before .before .before .before .before .before .before .args .xs))), ap length (c .before .before .before .before .before .before .before .before .before .before .before .header-of .ensures), front .0)
-
-same-length : tie.Need-same-length
-same-length c = search needs
+    let d = c .before .before .before .before .before .before .before .before .before .before in
+    let pre = started d .pre in
+    omega (arith, front d .1, pre .1 .0, pre .1 .1, c .before .before .before .before .put .ensures .ends, c .before .put2 .ensures .ends, header-long (c .before .before .before .before .before .before .before), front d .0)
 
 returns : tie.Need-returns
 returns c =
-    prints-line _ (puts-same (parts-are (now (c .before .before .before .before .before .before .before .before .before .before .before .before .before .before .before .before .before .before .before .before .before .args .sheet)) (now (c .before .before .before .before .before .before .before .before .before .before .before .before .before .before .before .before .before .before .before .before .before .args .xs)) (end-of (c .before .before .before .before .before .before .before .before .before .before .before .before .before .before .before .before .before .record-of .ensures)) (c .before .before .before .before .before .before .before .before .before .before .before .before .before .before .header-of .ensures)) (puts-append _ _ (puts-append _ _ (c .before .before .before .before .before .before .before .before .before .before .before .put .ensures) (c .before .before .before .before .before .before .put2 .ensures)) (c .before .before .put3 .ensures)))
+    let d = c .before .before .before .before .before .before .before .before .before .before .before in
+    let args = started d .args in
+    let whole = parts-are (now (args .sheet)) (now (args .xs)) (end-of (d .record-of .ensures)) (c .before .before .before .before .before .before .before .before .header-of .ensures) in
+    let both = puts-append _ _ (c .before .before .before .before .before .put .ensures) (c .before .before .put2 .ensures) in
+    prints-line _ (puts-same whole (puts-append _ _ both (c .put3 .ensures)))
 
 pub compose-spec : {M : Type 1} → statement M
 compose-spec =
@@ -70,5 +86,4 @@ compose-spec =
     slice-aggregate-put-2
     put-requires-2
     put-requires-3
-    same-length
     returns)

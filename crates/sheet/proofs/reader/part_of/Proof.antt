@@ -11,8 +11,8 @@ use Rattle.sheet.proofs.reader.part_of.Tie as tie
 parse-requires : tie.Need-parse-requires
 parse-requires c κs = search needs
 
-outcome-requires : tie.Need-outcome-requires
-outcome-requires c κs = search needs
+refusal-by-requires : tie.Need-refusal-by-requires
+refusal-by-requires c κs = search needs
 
 enum-told : tie.Need-enum-told
 enum-told c = search needs
@@ -34,22 +34,22 @@ enum-told-3 c = search needs
 returns : tie.Need-returns
 returns c =
     let found = sym (c .before .before .found .given .1) ∙ c .before .before .before .before .before .before .before .parse .ensures .1 in
-    (part-clear _ _ (c .before .before .before .before .before .before .outcome .ensures) (c .before .before .before .before .enum-told .given .1) found, payload-inside _ _ _ found)
+    (part-clear _ _ (c .before .before .before .before .before .before .refusal-by .ensures) (c .before .before .before .before .enum-told .given .1) found, payload-inside _ _ _ found)
 
 returns-2 : tie.Need-returns-2
 returns-2 c =
     let found = sym (c .enum-told2 .given .1) ∙ c .before .before .before .before .before .parse .ensures .1 in
-    (part-clear _ _ (c .before .before .before .before .outcome .ensures) (c .before .before .enum-told .given .1) found, search needs)
+    (part-clear _ _ (c .before .before .before .before .refusal-by .ensures) (c .before .before .enum-told .given .1) found, search needs)
 
 returns-3 : tie.Need-returns-3
-returns-3 c = (part-refused _ _ (c .before .before .outcome .ensures) (c .enum-told3 .given .1), search needs)
+returns-3 c = (part-refused _ _ (c .before .before .refusal-by .ensures) (c .enum-told3 .given .1), search needs)
 
 pub part-of-spec : {M : Type 1} → statement M
 part-of-spec =
     tie.close
     (tie.spec
     parse-requires
-    outcome-requires
+    refusal-by-requires
     enum-told
     enum-known-found
     add-from

@@ -1,4 +1,4 @@
--- `sheet::record::check_at` meets its contract.
+-- `sheet::record::check_at` meets its contract: cause 1, then cause 2.
 -- Assumes nothing.
 use borrow.Author.Needs.{needs}
 use Rattle.sheet.specs.Format.{causeAt}

@@ -6,7 +6,7 @@ use Prim.Native.Nat.{_≤_}
 use mathlib.Core.Path.{_≡_, refl}
 use lib.ListN.{length}
 use borrow.Author.Tests.{ltb-true}
-use Rattle.streams.proofs.Counting.{counts-of, reached-more, failed-within}
+use Rattle.streams.proofs.Counting.{read-counts, failed-counts}
 use Rattle.streams.proofs.input.read_input.Statement.{statement}
 use Rattle.streams.proofs.input.read_input.Tie as tie
 
@@ -34,7 +34,7 @@ same-length c = search needs
 
 returns : tie.Need-returns Inv-loop μ-loop
 returns c =
-    counts-of _ _ (omega (arith, same-length c))
+    read-counts _ _ (omega (arith, same-length c))
 
 enum-told-2 : tie.Need-enum-told-2 Inv-loop μ-loop
 enum-told-2 c = search needs
@@ -47,7 +47,7 @@ same-length-2 c = search needs
 
 returns-2 : tie.Need-returns-2 Inv-loop μ-loop
 returns-2 c =
-    failed-within _ (c .failed .ensures)
+    failed-counts _ (c .failed .ensures)
 
 sub-turns : tie.Need-sub-turns Inv-loop μ-loop
 sub-turns c = search needs
@@ -58,7 +58,7 @@ loop-less c =
 
 loop-again : tie.Need-loop-again Inv-loop μ-loop
 loop-again c =
-    (reached-more _ (c .before .step .given .1) (c .before .before .before .before .before .read-more .ensures), search needs)
+    (c .before .before .before .before .before .read-more .ensures _ (c .before .step .given .1) .0, search needs)
 
 failed-requires-2 : tie.Need-failed-requires-2 Inv-loop μ-loop
 failed-requires-2 c κs = search needs
@@ -68,14 +68,14 @@ same-length-3 c = search needs
 
 returns-3 : tie.Need-returns-3 Inv-loop μ-loop
 returns-3 c =
-    failed-within _ (c .failed2 .ensures)
+    failed-counts _ (c .failed2 .ensures)
 
 same-length-4 : tie.Need-same-length-4 Inv-loop μ-loop
 same-length-4 c = search needs
 
 returns-4 : tie.Need-returns-4 Inv-loop μ-loop
 returns-4 c =
-    counts-of _ _ (omega (arith, c .before .before .loop .inv .0))
+    read-counts _ _ (omega (arith, c .before .before .loop .inv .0))
 
 pub read-input-spec : {M : Type 1} → statement M
 read-input-spec =

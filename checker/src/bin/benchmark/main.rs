@@ -1,0 +1,230 @@
+// The benchmark of certifying: what the proved functions cost beside an unverified near-linear
+// certifier, the checker's, on the same sheets, both with parsing and all checks. Prints tables in
+// Markdown; ends with status 1 only where the two sides answer differently.
+
+mod chains;
+mod clock;
+mod machines;
+mod measure;
+mod scratch;
+mod sides;
+mod stack;
+mod table;
+mod workloads;
+
+use checker::machine::LONGEST_SEQUENCE;
+use checker::random::Random;
+use checker::rig::{rig_certify, rig_judge};
+use measure::{medians, Times};
+use sides::{proved, Sides};
+use stack::PaintedStack;
+use std::process::ExitCode;
+use table::{figure, head, row, Bars};
+use workloads::Workload;
+
+/// The most stack that a call may take, in bytes.
+const STACK_BAR: f64 = 65_536.0;
+/// The lengths at which growth is looked at.
+const LENGTHS: [usize; 5] = [1_000, 2_000, 5_000, 10_000, LONGEST_SEQUENCE];
+const USAGE: &str = "usage: benchmark [--seed S]";
+
+fn main() -> ExitCode {
+    let Some(seed) = seed() else {
+        eprintln!("{USAGE}");
+        return ExitCode::from(2);
+    };
+    match benchmark(seed) {
+        Ok(bars) => {
+            println!("\n{}", bars.verdict());
+            ExitCode::SUCCESS
+        }
+        Err(difference) => {
+            println!("\nbenchmark: the answers differ: {difference}");
+            ExitCode::FAILURE
+        }
+    }
+}
+
+/// The seed that the arguments ask for; none if they are not understood.
+fn seed() -> Option<u64> {
+    let arguments: Vec<String> = std::env::args().skip(1).collect();
+    match arguments.as_slice() {
+        [] => Some(1),
+        [flag, seed] if flag == "--seed" => seed.parse().ok(),
+        _ => None,
+    }
+}
+
+fn benchmark(seed: u64) -> Result<Bars, String> {
+    let mut random = Random::new(seed);
+    let mut sides = Sides::new(seed);
+    let mut bars = Bars::default();
+    let built = workloads::built(&mut random);
+    let house = workloads::house_workloads();
+    let mut all: Vec<Workload> = Vec::new();
+    all.extend(built.iter().chain(&house).cloned());
+    all.extend(workloads::random_workloads(&mut random));
+    all.extend(workloads::hostile(&mut random));
+    println!("# Certifying: proved function and unverified baseline, seed {seed}");
+    ratios(&all, &mut sides, &mut bars)?;
+    growth(&[&house[0], &built[0], &built[5]], &mut sides)?;
+    judging(built.iter().chain(&house), &mut sides)?;
+    stack_taken(&all, &mut random, &mut bars);
+    println!(
+        "\nThe baseline's workspace: {} bytes.",
+        workspace(&built[5])
+    );
+    Ok(bars)
+}
+
+/// Both sides on every workload.
+fn ratios(workloads: &[Workload], sides: &mut Sides, bars: &mut Bars) -> Result<(), String> {
+    let columns = [
+        "workload",
+        "N",
+        "baseline µs",
+        "proved µs",
+        "ratio",
+        "bar",
+        "met",
+    ];
+    head("Ratio", &columns);
+    for workload in workloads {
+        let times = certifying(workload, sides)?;
+        row(&[
+            workload.name.clone(),
+            workload.sequence.len().to_string(),
+            figure(times.one),
+            figure(times.other),
+            figure(times.ratio()),
+            format!("{}", workload.bar()),
+            bars.hold(&workload.name, times.ratio(), workload.bar())
+                .into(),
+        ]);
+    }
+    Ok(())
+}
+
+/// The times of both sides on a workload, once their answers are found equal.
+fn certifying(workload: &Workload, sides: &mut Sides) -> Result<Times, String> {
+    let sheet = workload.sheet();
+    sides.certify(&workload.name, &sheet)?;
+    let Sides {
+        baseline,
+        ours,
+        theirs,
+        ..
+    } = sides;
+    let one = || {
+        baseline.certify(&sheet, ours);
+    };
+    let other = || {
+        proved(rig_certify, &sheet, theirs);
+    };
+    Ok(medians(one, other))
+}
+
+/// Nanoseconds a command at rising lengths.
+fn growth(workloads: &[&Workload], sides: &mut Sides) -> Result<(), String> {
+    let columns = [
+        "repeated or cut",
+        "N",
+        "baseline ns a command",
+        "proved ns a command",
+        "ratio",
+    ];
+    head("Time as N grows", &columns);
+    for workload in workloads {
+        for length in LENGTHS {
+            let part = workload.repeated(workload.name.clone(), length);
+            let times = certifying(&part, sides)?;
+            let each = |time: f64| figure(time * 1e3 / length as f64);
+            row(&[
+                part.name.clone(),
+                length.to_string(),
+                each(times.one),
+                each(times.other),
+                figure(times.ratio()),
+            ]);
+        }
+    }
+    Ok(())
+}
+
+/// Judging against certifying, both proved: with all right answers, and with none, where judging
+/// does nothing more than to load the sheet a second time.
+fn judging<'a>(
+    workloads: impl Iterator<Item = &'a Workload>,
+    sides: &mut Sides,
+) -> Result<(), String> {
+    let columns = [
+        "sheet",
+        "N",
+        "answers",
+        "certifying µs",
+        "judging µs",
+        "ratio",
+    ];
+    head("Judging", &columns);
+    for workload in workloads {
+        for answers in [workload.sequence.len(), 0] {
+            let sheet = workload.answered(answers);
+            sides.certify(&workload.name, &sheet)?;
+            sides.judge(&workload.name, &sheet)?;
+            let times = judged(&sheet, sides);
+            row(&[
+                workload.name.clone(),
+                workload.sequence.len().to_string(),
+                answers.to_string(),
+                figure(times.one),
+                figure(times.other),
+                figure(times.ratio()),
+            ]);
+        }
+    }
+    Ok(())
+}
+
+/// The times of both proved functions on a sheet.
+fn judged(sheet: &[u8], sides: &mut Sides) -> Times {
+    let Sides { ours, theirs, .. } = sides;
+    let one = || {
+        proved(rig_certify, sheet, ours);
+    };
+    let other = || {
+        proved(rig_judge, sheet, theirs);
+    };
+    medians(one, other)
+}
+
+/// The most stack that each function takes, over sheets of all kinds.
+fn stack_taken(workloads: &[Workload], random: &mut Random, bars: &mut Bars) {
+    let sheets = stack::sheets(workloads, random);
+    let mut painted = PaintedStack::new();
+    head("Stack", &["function", "calls", "most bytes", "bar", "met"]);
+    let functions: [(&str, sides::Proved); 2] =
+        [("rig_certify", rig_certify), ("rig_judge", rig_judge)];
+    for (name, function) in functions {
+        let depths = sheets
+            .iter()
+            .map(|(sheet, room)| painted.depth(function, sheet, *room));
+        let most = depths.max().unwrap_or_default();
+        row(&[
+            name.into(),
+            sheets.len().to_string(),
+            most.to_string(),
+            format!("{STACK_BAR}"),
+            bars.hold(name, most as f64, STACK_BAR).into(),
+        ]);
+    }
+}
+
+/// Bytes that the baseline has allocated once it has certified a sheet.
+fn workspace(workload: &Workload) -> usize {
+    let sheet = workload.sheet();
+    let mut marks = vec![0; sides::ROOM];
+    let before = scratch::allocated();
+    let mut baseline = checker::certifying::Certifier::new();
+    baseline.certify(&sheet, &mut marks);
+    scratch::allocated() - before
+}

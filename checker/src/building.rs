@@ -1,0 +1,62 @@
+// Building a checking sequence: transfers B(s), tests T(s), the sequence.
+
+use crate::checks::{check, Service};
+use crate::machine::Machine;
+use crate::refusal::Refusal;
+use crate::sheet::sheet_of;
+
+/// The sequence that document 01 prescribes, or cause 8. The word must fit the
+/// machine; whether it separates is not asked here.
+pub fn build(machine: &Machine, word: &[u8]) -> Result<Vec<u8>, Refusal> {
+    let mut tests = Vec::new();
+    for s in 0..machine.n {
+        let transfer = transfer(machine, machine.after(s, word), (s + 1) % machine.n)
+            .ok_or(Refusal::new(8, s))?;
+        tests.push([word, &transfer].concat());
+    }
+    let mut sequence = tests.concat();
+    sequence.extend(&tests[0]);
+    let mut present = 1 % machine.n;
+    for s in 0..machine.n {
+        for command in 0..machine.k as u8 {
+            while present != s {
+                sequence.extend(&tests[present]);
+                present = (present + 1) % machine.n;
+            }
+            sequence.push(command);
+            let reached = machine.step(s, command);
+            sequence.extend(&tests[reached]);
+            present = (reached + 1) % machine.n;
+        }
+    }
+    Ok(sequence)
+}
+
+/// The shortest transfer sequence, first in byte order among those.
+pub fn transfer(machine: &Machine, from: usize, to: usize) -> Option<Vec<u8>> {
+    let distance = machine.distances(to);
+    let mut transfer = Vec::new();
+    let mut state = from;
+    for left in (0..distance[from]?).rev() {
+        let nearer = |command: &u8| distance[machine.step(state, *command)] == Some(left);
+        let command = (0..machine.k as u8).find(nearer)?;
+        transfer.push(command);
+        state = machine.step(state, command);
+    }
+    Some(transfer)
+}
+
+/// Document 01's bound on the length of what is built.
+pub fn bound(n: usize, k: usize, word: usize) -> usize {
+    let c = word + n - 1;
+    (n + 1) * c + n * k * (n * c + 1)
+}
+
+/// What `bench_build` writes: records 1 and 2 of the sheet and the built
+/// sequence as record 3; document 01 leaves its form open.
+pub fn build_sheet(sheet: &[u8]) -> Result<Vec<u8>, Refusal> {
+    let mut machine = Machine::default();
+    let checked = check(sheet, Service::Building, &mut machine)?;
+    let sequence = build(&machine, checked.word)?;
+    Ok(sheet_of(&machine, checked.word, Some(&sequence), None))
+}

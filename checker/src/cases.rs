@@ -1,0 +1,154 @@
+// Document 01's own cases, held against the model, and fast against naive.
+
+use crate::building::{bound, build, build_sheet};
+use crate::certifying::{Certificate, Certifier};
+use crate::known::{house, twin, TWIN_ANSWERS, TWIN_BUILT};
+use crate::lines;
+use crate::machine::{Machine, LONGEST_SEQUENCE};
+use crate::naive;
+use crate::random::Random;
+use crate::refusal::Refusal;
+use crate::sheet::{record, sheet_of, LONGEST_SHEET};
+
+fn certificate(machine: &Machine, word: &[u8], sequence: &[u8]) -> (usize, Option<usize>) {
+    let sheet = sheet_of(machine, word, Some(sequence), None);
+    let mut marks = vec![7; sequence.len() + 2];
+    let found = Certifier::new().certificate(&sheet, &mut marks).unwrap();
+    let known = naive::recognised(machine, word, sequence);
+    let count = marks.iter().filter(|&&mark| mark == 1).count();
+    assert_eq!(marks.pop(), Some(7));
+    assert_eq!(
+        marks,
+        known.iter().map(|&k| u8::from(k)).collect::<Vec<_>>()
+    );
+    assert_eq!(count, found.recognised);
+    assert_eq!(naive::open_number(machine, sequence, &known), found.open);
+    (found.recognised, found.open)
+}
+
+fn bench(sheet: &[u8]) -> String {
+    lines::judged(Certifier::new().verdict(sheet, &mut vec![0; LONGEST_SEQUENCE + 1]))
+}
+
+fn twin_bench(answers: &[u8]) -> String {
+    bench(&sheet_of(&twin(), &[0], Some(&TWIN_BUILT), Some(answers)))
+}
+
+#[test]
+fn twin_is_built_and_certified() {
+    assert_eq!(build(&twin(), &[0]).unwrap(), TWIN_BUILT);
+    assert_eq!(certificate(&twin(), &[0], &TWIN_BUILT), (13, None));
+    assert_eq!(
+        certificate(&twin(), &[0], &[0, 0, 1, 0, 1, 0]),
+        (5, Some(2))
+    );
+    assert_eq!(
+        certificate(&twin(), &[0], &[0, 0, 1, 0, 1, 0, 0]),
+        (8, None)
+    );
+    assert_eq!(certificate(&twin(), &[0], &[0]), (1, Some(1)));
+    assert_eq!(certificate(&twin(), &[0], &[1, 0, 0]), (2, Some(0)));
+    assert_eq!(certificate(&twin(), &[0], &[0, 0, 0]), (4, Some(2)));
+}
+
+#[test]
+fn twin_is_judged() {
+    assert_eq!(twin_bench(&TWIN_ANSWERS), "PASS 12 end 0\n");
+    let mut wrong = TWIN_ANSWERS;
+    wrong[6] = 6;
+    assert_eq!(twin_bench(&wrong), "WRONG at 6 want 5 got 6\n");
+    assert_eq!(twin_bench(&TWIN_ANSWERS[..4]), "UNFINISHED 4\n");
+    assert_eq!(twin_bench(&[0; 13]), "REFUSED 10 at 41 answers\n");
+}
+
+#[test]
+fn twin_is_refused() {
+    let sheet = sheet_of(&twin(), &[1], Some(&TWIN_BUILT), Some(&TWIN_ANSWERS));
+    assert_eq!(bench(&sheet), "REFUSED 6 at 1 word does not separate\n");
+    let mut sheet = sheet_of(&twin(), &[0], Some(&TWIN_BUILT), Some(&TWIN_ANSWERS));
+    sheet[8] = 2;
+    assert_eq!(bench(&sheet), "REFUSED 4 at 8 next state\n");
+    assert_eq!(bench(&[]), "REFUSED 2 at 0 record kind\n");
+    let mut stuck = twin();
+    stuck.next[2] = 1;
+    assert_eq!(build(&stuck, &[0]), Err(Refusal::new(8, 1)));
+    let sheet = sheet_of(&stuck, &[0], None, None);
+    assert_eq!(build_sheet(&sheet), Err(Refusal::new(8, 1)));
+}
+
+#[test]
+fn smallest_machine() {
+    let machine = Machine::from_pairs(1, 1, &[(0, 77)]);
+    assert_eq!(build(&machine, &[0]).unwrap(), [0, 0, 0, 0]);
+    assert_eq!(certificate(&machine, &[0], &[0, 0]), (3, None));
+    assert_eq!(certificate(&machine, &[0], &[0]), (1, Some(1)));
+}
+
+#[test]
+fn house_is_built() {
+    let built = build(&house(), &[0, 1]).unwrap();
+    assert_eq!(built.len(), 203);
+    assert_eq!(bound(4, 4, 2), 361);
+    assert_eq!(bound(10, 8, 16), LONGEST_SEQUENCE);
+    assert_eq!(house().after(0, &built), 2);
+    assert_eq!(certificate(&house(), &[0, 1], &built).1, None);
+    // T(0) to T(3): the word with the transfers empty; 2; 3 1 2; 3 1.
+    let tests = [0, 1, 0, 1, 2, 0, 1, 3, 1, 2, 0, 1, 3, 1];
+    assert_eq!(&built[..14], &tests);
+}
+
+#[test]
+fn room_and_word_limits() {
+    // Document 01's case is of building, whose room no program shows; here the
+    // marks of 11 commands need 12 bytes.
+    let sheet = sheet_of(&twin(), &[0], Some(&TWIN_BUILT[..11]), None);
+    let room = |bytes: usize| Certifier::new().certificate(&sheet, &mut vec![0; bytes]);
+    assert_eq!(room(11), Err(Refusal::new(9, 12)));
+    assert!(room(12).is_ok());
+    let word = |length: usize| sheet_of(&twin(), &vec![0; length], Some(&[0; 40]), None);
+    let certify = |sheet: &[u8]| Certifier::new().certificate(sheet, &mut [0; 41]);
+    assert!(certify(&word(16)).is_ok());
+    assert_eq!(certify(&word(17)), Err(Refusal::new(5, 16)));
+    let longest = Machine::from_pairs(10, 8, &[(0, 0); 80]);
+    let sequence = [0; LONGEST_SEQUENCE];
+    let sheet = sheet_of(&longest, &[0; 16], Some(&sequence), Some(&sequence));
+    assert_eq!(sheet.len(), LONGEST_SHEET);
+    assert_eq!(record(3, &[9]), [1, 0, 0, 0, 3, 0, 9]);
+}
+
+#[test]
+fn fast_is_naive_on_random_walks() {
+    let mut random = Random::new(1);
+    let mut certifier = Certifier::new();
+    let mut compared = 0;
+    while compared < 20_000 {
+        let (n, k) = (random.range(1, 5), random.range(1, 4));
+        let pairs: Vec<(u8, u8)> = (0..n * k)
+            .map(|_| (random.below(n) as u8, random.below(4) as u8))
+            .collect();
+        let machine = Machine::from_pairs(n, k, &pairs);
+        let mut commands = |length| {
+            (0..length)
+                .map(|_| random.below(k) as u8)
+                .collect::<Vec<_>>()
+        };
+        let (word, sequence) = (commands(1 + compared % 5), commands(1 + compared % 60));
+        if machine.unseparated(&word).is_some() {
+            continue;
+        }
+        compared += 1;
+        let sheet = sheet_of(&machine, &word, Some(&sequence), None);
+        let mut marks = vec![0; sequence.len() + 1];
+        let fast = certifier.certificate(&sheet, &mut marks).unwrap();
+        let known = naive::recognised(&machine, &word, &sequence);
+        let expected = Certificate {
+            recognised: known.iter().filter(|&&known| known).count(),
+            open: naive::open_number(&machine, &sequence, &known),
+        };
+        assert_eq!(fast, expected);
+        assert!(marks
+            .iter()
+            .zip(&known)
+            .all(|(&mark, &known)| mark == u8::from(known)));
+    }
+}

@@ -1,0 +1,93 @@
+// One run: document 01's cases, random sheets, units, all lengths.
+
+use super::compare::Comparer;
+use super::counts::{Counts, ENOUGH};
+use super::difference::{Case, Difference};
+use super::exhaustive::agreeing_units;
+use super::options::Options;
+use super::sheets::case;
+use super::subjects::{subject, Subject};
+use super::units::units;
+use crate::random::Random;
+use crate::sheet::sheet_of;
+
+/// Of the units, one in this many times `--programs` also goes to `bench`.
+const UNITS_TO_PROGRAM: usize = 20;
+/// Longest sequence for which all agreeing units are searched.
+const SEARCHED: usize = 150;
+
+pub fn run(options: &Options) -> Result<Counts, Difference> {
+    let mut comparer = Comparer::new(options.seed, options.spoil);
+    comparer.documented(options.seed, &options.directory)?;
+    comparer.sheets(options)?;
+    comparer.subjects(options)?;
+    comparer.lengths(options.seed, options.lengths, &options.directory)?;
+    let missing = comparer.counts.missing(options.units >= ENOUGH);
+    if options.count >= ENOUGH && !missing.is_empty() {
+        let text = format!("never occurred in this run: {}", missing.join(", "));
+        return Err(Difference(text));
+    }
+    Ok(comparer.counts)
+}
+
+/// The random choices of one case of one part of the run.
+fn at(seed: u64, part: u64, index: usize) -> Random {
+    let mut mixed = Random::new(seed.wrapping_add(part << 56));
+    Random::new(mixed.bits() ^ index as u64)
+}
+
+impl Comparer {
+    fn sheets(&mut self, options: &Options) -> Result<(), Difference> {
+        for index in 0..options.count {
+            let mut random = at(options.seed, 1, index);
+            let case = case(options.seed, index, &mut random);
+            self.sheet(&case, &mut random)?;
+            self.model(&case)?;
+            if index.is_multiple_of(options.programs) {
+                self.programs(&case, &options.directory)?;
+            }
+        }
+        Ok(())
+    }
+
+    fn subjects(&mut self, options: &Options) -> Result<(), Difference> {
+        let mut index = 0;
+        while self.counts.units < options.units {
+            let mut random = at(options.seed, 2, index);
+            let subject = subject(&mut random);
+            for (kind, unit) in units(&mut random, &subject.machine) {
+                let share = UNITS_TO_PROGRAM * options.programs;
+                let to_program = self.counts.units.is_multiple_of(share);
+                let programs = to_program.then_some(options.directory.as_path());
+                self.unit(&subject, &unit, (options.seed, index, kind), programs)?;
+            }
+            if subject.sequence.len() <= SEARCHED {
+                self.agreeing(options.seed, index, &subject)?;
+            }
+            index += 1;
+        }
+        Ok(())
+    }
+
+    /// Judges every unit that gives the specified answers.
+    fn agreeing(&mut self, seed: u64, index: usize, subject: &Subject) -> Result<(), Difference> {
+        let Some(found) = agreeing_units(subject) else {
+            self.counts.given_up += 1;
+            return Ok(());
+        };
+        self.counts.searched += 1;
+        if found.is_empty() {
+            let (machine, word) = (&subject.machine, &subject.word);
+            let case = Case {
+                seed,
+                index,
+                kind: String::from("search for agreeing units"),
+                sheet: sheet_of(machine, word, Some(&subject.sequence), None),
+            };
+            return Err(case.difference("the checker's own: not even the machine agrees"));
+        }
+        found
+            .iter()
+            .try_for_each(|unit| self.unit(subject, unit, (seed, index, "agreeing"), None))
+    }
+}

@@ -1,0 +1,69 @@
+// The model against itself and against document 01's claims: fast recognition
+// is the naive one, and what is built is certified and within its bound.
+
+use super::compare::Comparer;
+use super::difference::{Case, Difference};
+use crate::building::{bound, build};
+use crate::certifying::Certificate;
+use crate::checks::{check, Checked, Service};
+use crate::machine::Machine;
+use crate::naive;
+use crate::sheet::sheet_of;
+
+/// Longest sequence for which the naive recognition is made.
+const SHORT: usize = 250;
+
+impl Comparer {
+    /// Both checks, where the sheet is one they apply to.
+    pub fn model(&mut self, case: &Case) -> Result<(), Difference> {
+        let mut machine = Machine::default();
+        if let Ok(checked) = check(&case.sheet, Service::Certifying, &mut machine) {
+            if checked.sequence.len() <= SHORT {
+                self.naive(case, &machine, &checked)?;
+            }
+        }
+        if let Ok(checked) = check(&case.sheet, Service::Building, &mut machine) {
+            self.built(case, &machine, checked.word)?;
+        }
+        Ok(())
+    }
+
+    fn naive(&mut self, case: &Case, machine: &Machine, sheet: &Checked) -> Result<(), Difference> {
+        let known = naive::recognised(machine, sheet.word, sheet.sequence);
+        let slow = Certificate {
+            recognised: known.iter().filter(|&&known| known).count(),
+            open: naive::open_number(machine, sheet.sequence, &known),
+        };
+        let mut marks = vec![0; known.len()];
+        let fast = self.certifier.certificate(&case.sheet, &mut marks);
+        let alike = marks.iter().map(|&mark| mark == 1).eq(known);
+        self.counts.naive += 1;
+        if fast != Ok(slow) || !alike {
+            let text = format!("the checker's own: naive {slow:?}, fast {fast:?}");
+            return Err(case.difference(&text));
+        }
+        Ok(())
+    }
+
+    /// Built exactly where the table is strongly connected.
+    fn built(&mut self, case: &Case, machine: &Machine, word: &[u8]) -> Result<(), Difference> {
+        let outcome = build(machine, word);
+        if outcome.is_ok() != machine.strongly_connected() {
+            return Err(case.difference("built or not, against strongly connected or not"));
+        }
+        let Ok(built) = outcome else {
+            return Ok(());
+        };
+        self.counts.built += 1;
+        if built.len() > bound(machine.n, machine.k, word.len()) {
+            return Err(case.difference("the built sequence is longer than its bound"));
+        }
+        let sheet = sheet_of(machine, word, Some(&built), None);
+        let mut marks = vec![0; built.len() + 1];
+        let certificate = self.certifier.certificate(&sheet, &mut marks);
+        if certificate.is_ok_and(|certificate| certificate.open.is_none()) {
+            return Ok(());
+        }
+        Err(case.difference("the built sequence is not certified"))
+    }
+}

@@ -1,0 +1,104 @@
+// Checks 1 to 7 in document 01's order, as far as a service needs them.
+
+use crate::machine::{Machine, LONGEST_SEQUENCE, LONGEST_WORD, MOST_COMMANDS, MOST_STATES};
+use crate::refusal::Refusal;
+use crate::sheet::{read, Part};
+
+#[derive(Clone, Copy, Debug, PartialEq, Eq)]
+pub enum Service {
+    Building,
+    Certifying,
+    Judging,
+}
+
+impl Service {
+    /// How many kinds, from 1 up, the service needs.
+    fn needed(self) -> usize {
+        match self {
+            Service::Building => 2,
+            Service::Certifying => 3,
+            Service::Judging => 4,
+        }
+    }
+}
+
+/// A sheet that passed; a part that the service does not need is empty.
+#[derive(Clone, Copy, Debug, Default)]
+pub struct Checked<'a> {
+    pub word: &'a [u8],
+    pub sequence: &'a [u8],
+    pub answers: Part<'a>,
+}
+
+/// Makes the checks and reads the machine into `machine`.
+pub fn check<'a>(
+    sheet: &'a [u8],
+    service: Service,
+    machine: &mut Machine,
+) -> Result<Checked<'a>, Refusal> {
+    let needed = service.needed();
+    let parts = read(sheet, needed)?;
+    let part = |kind: usize| {
+        parts[kind - 1]
+            .filter(|_| kind <= needed)
+            .unwrap_or_default()
+    };
+    read_machine(part(1), machine)?;
+    let word = part(2);
+    commands(word, LONGEST_WORD, machine.k, 5)?;
+    if let Some((i, j)) = machine.unseparated(word.payload) {
+        return Err(Refusal::new(6, 16 * i + j));
+    }
+    if needed >= 3 {
+        commands(part(3), LONGEST_SEQUENCE, machine.k, 7)?;
+    }
+    Ok(Checked {
+        word: word.payload,
+        sequence: part(3).payload,
+        answers: part(4),
+    })
+}
+
+/// Checks 3 and 4.
+fn read_machine(part: Part, machine: &mut Machine) -> Result<(), Refusal> {
+    let (n, k, pairs) = shape(part.payload).ok_or(Refusal::new(3, part.start))?;
+    machine.n = n;
+    machine.k = k;
+    machine.next.clear();
+    machine.answer.clear();
+    for (index, pair) in pairs.chunks_exact(2).enumerate() {
+        if usize::from(pair[0]) >= n {
+            return Err(Refusal::new(4, part.offset(2 + 2 * index)));
+        }
+        machine.next.push(pair[0]);
+        machine.answer.push(pair[1]);
+    }
+    Ok(())
+}
+
+/// n, k and the pairs, if the payload has the shape of a machine.
+fn shape(payload: &[u8]) -> Option<(usize, usize, &[u8])> {
+    let (&[n, k], pairs) = payload.split_first_chunk::<2>()?;
+    let (n, k) = (usize::from(n), usize::from(k));
+    let fits = (1..=MOST_STATES).contains(&n)
+        && (1..=MOST_COMMANDS).contains(&k)
+        && pairs.len() == 2 * n * k;
+    fits.then_some((n, k, pairs))
+}
+
+/// Checks 5 and 7: the length, then every command.
+fn commands(part: Part, longest: usize, k: usize, number: u8) -> Result<(), Refusal> {
+    if part.payload.is_empty() || part.payload.len() > longest {
+        return Err(Refusal::new(number, part.start));
+    }
+    let within = |command: &&u8| usize::from(**command) < k;
+    let highest = part
+        .payload
+        .iter()
+        .fold(0, |high, &command| high.max(command));
+    if within(&&highest) {
+        return Ok(());
+    }
+    let first = part.payload.iter().take_while(within).count();
+    Err(Refusal::new(number, part.offset(first)))
+}

@@ -1,0 +1,22 @@
+// An independent model of the control-unit bench, written from document 01 and,
+// where it leaves the form of an output open, from README.md; and the checker
+// that holds the proved program against it.
+
+pub mod building;
+pub mod certifying;
+pub mod checking;
+pub mod checks;
+pub mod judging;
+pub mod known;
+pub mod lines;
+pub mod machine;
+pub mod naive;
+pub mod number;
+pub mod random;
+pub mod recognition;
+pub mod refusal;
+pub mod rig;
+pub mod sheet;
+
+#[cfg(test)]
+mod cases;
