@@ -128,44 +128,59 @@ RING_WORD = list(range(8)) * 2
 rows = []
 
 
-def put(name, data, program, line):
+def row(service, name, expected):
+    rows.append((service, name, expected))
+
+
+def put(name, data, service, expected):
     with open(os.path.join(HERE, name), "wb") as f:
         f.write(data)
-    rows.append((name, program, line))
+    row(service, name, expected)
 
 
-def again(name, program, line):
-    rows.append((name, program, line))
+def listed(payload):
+    return " ".join(str(b) for b in payload)
 
 
 def unit(name, m, word):
     xs = build(m, word)
     ys = m.answers(0, xs)
     front = (m.payload(), bytes(word))
-    put(name, sheet(*front), "bench_build", f"{name}-built")
-    put(f"{name}-built", sheet(*front, xs), "bench_certify", certify(m, word, xs))
-    put(f"{name}-passed", sheet(*front, xs, ys), "bench", f"PASS {len(xs)} end {m.run(0, xs)}")
+    put(name, sheet(*front), "build", f"{name}-built")
+    row("read 1", name, listed(m.payload()))
+    row("read 2", name, listed(word))
+    put(f"{name}-built", sheet(*front, xs), "certify", certify(m, word, xs))
+    put(f"{name}-passed", sheet(*front, xs, ys), "judge", f"PASS {len(xs)} end {m.run(0, xs)}")
     bad = list(ys)
     bad[6] = 6 if ys[6] != 6 else 7
-    put(f"{name}-wrong", sheet(*front, xs, bad), "bench", f"WRONG at 6 want {ys[6]} got {bad[6]}")
-    put(f"{name}-unfinished", sheet(*front, xs, ys[:4]), "bench", "UNFINISHED 4")
+    put(f"{name}-wrong", sheet(*front, xs, bad), "judge", f"WRONG at 6 want {ys[6]} got {bad[6]}")
+    put(f"{name}-unfinished", sheet(*front, xs, ys[:4]), "judge", "UNFINISHED 4")
+    row("read 4", f"{name}-unfinished", listed(ys[:4]))
     start4 = len(sheet(*front, xs))
-    put(f"{name}-refused", sheet(*front, xs, ys + [0]), "bench", f"REFUSED 10 at {start4} answers")
+    put(f"{name}-refused", sheet(*front, xs, ys + [0]), "judge", f"REFUSED 10 at {start4} answers")
 
 
 unit("twin", TWIN, [0])
-put("twin-word", sheet(TWIN.payload(), [1], [0], []), "bench", "REFUSED 6 at 1 word does not separate")
-again("twin-word", "bench_build", "REFUSED 6 at 1 word does not separate")
-put("twin-open", sheet(TWIN.payload(), [0], [0, 0, 1, 0, 1, 0], []), "bench_certify", certify(TWIN, [0], [0, 0, 1, 0, 1, 0]))
-again("twin-open", "bench", "REFUSED 11 at 2 not certified")
+row("read 3", "twin-built", listed(build(TWIN, [0])))
+row("read 4", "twin-refused", listed(TWIN.answers(0, build(TWIN, [0])) + [0]))
+for kind in "3", "0", "7", "65535":
+    row(f"read {kind}", "twin", f"REFUSED 2 at {len(sheet(TWIN.payload(), [0]))} record kind")
+put("twin-word", sheet(TWIN.payload(), [1], [0], []), "judge", "REFUSED 6 at 1 word does not separate")
+row("build", "twin-word", "REFUSED 6 at 1 word does not separate")
+row("read 0002", "twin-word", "1")
+row("read 4", "twin-word", "")
+put("twin-open", sheet(TWIN.payload(), [0], [0, 0, 1, 0, 1, 0], []), "certify", certify(TWIN, [0], [0, 0, 1, 0, 1, 0]))
+row("judge", "twin-open", "REFUSED 11 at 2 not certified")
 DISCONNECTED = Machine([[(1, 0), (0, 5)], [(1, 1), (1, 5)]])  # entry (1, 0) leads to 1
-put("twin-split", sheet(DISCONNECTED.payload(), [0]), "bench_build", "REFUSED 8 at 1 not connected")
-put("twin-cut", sheet(TWIN.payload(), [0])[:-1], "bench_certify", "REFUSED 1 at 16 sheet cut or too long")
+put("twin-split", sheet(DISCONNECTED.payload(), [0]), "build", "REFUSED 8 at 1 not connected")
+put("twin-cut", sheet(TWIN.payload(), [0])[:-1], "certify", "REFUSED 1 at 16 sheet cut or too long")
+row("read 1", "twin-cut", "REFUSED 1 at 16 sheet cut or too long")
 unit("house", HOUSE, [0, 1])
+row("house", "none", "house")
 ring = build(RING, RING_WORD)
-put("longest", sheet(RING.payload(), RING_WORD, ring, RING.answers(0, ring)), "bench", f"PASS {len(ring)} end {RING.run(0, ring)}")
+put("longest", sheet(RING.payload(), RING_WORD, ring, RING.answers(0, ring)), "judge", f"PASS {len(ring)} end {RING.run(0, ring)}")
 
-print("| sheet | program | expected |")
+print("| service | sheet | expected |")
 print("|---|---|---|")
-for name, program, line in rows:
-    print(f"| {name} | {program} | `{line}` |")
+for service, name, expected in rows:
+    print(f"| {service} | {name} | `{expected}` |" if expected else f"| {service} | {name} | |")

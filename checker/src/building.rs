@@ -52,7 +52,7 @@ pub fn bound(n: usize, k: usize, word: usize) -> usize {
     (n + 1) * c + n * k * (n * c + 1)
 }
 
-/// What `bench_build` writes: records 1 and 2 of the sheet and the built
+/// What `bench build` writes: records 1 and 2 of the sheet and the built
 /// sequence as record 3; document 01 leaves its form open.
 pub fn build_sheet(sheet: &[u8]) -> Result<Vec<u8>, Refusal> {
     let mut machine = Machine::default();

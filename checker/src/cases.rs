@@ -2,7 +2,7 @@
 
 use crate::building::{bound, build, build_sheet};
 use crate::certifying::{Certificate, Certifier};
-use crate::known::{house, twin, TWIN_ANSWERS, TWIN_BUILT};
+use crate::known::{house, house_sheet, twin, TWIN_ANSWERS, TWIN_BUILT};
 use crate::lines;
 use crate::machine::{Machine, LONGEST_SEQUENCE};
 use crate::naive;
@@ -91,10 +91,23 @@ fn house_is_built() {
     assert_eq!(bound(4, 4, 2), 361);
     assert_eq!(bound(10, 8, 16), LONGEST_SEQUENCE);
     assert_eq!(house().after(0, &built), 2);
-    assert_eq!(certificate(&house(), &[0, 1], &built).1, None);
+    assert_eq!(certificate(&house(), &[0, 1], &built), (204, None));
     // T(0) to T(3): the word with the transfers empty; 2; 3 1 2; 3 1.
     let tests = [0, 1, 0, 1, 2, 0, 1, 3, 1, 2, 0, 1, 3, 1];
     assert_eq!(&built[..14], &tests);
+}
+
+#[test]
+fn house_has_a_sheet() {
+    let states = [
+        [0, 31, 1, 6, 2, 6, 0, 21],
+        [1, 2, 0, 6, 3, 6, 1, 21],
+        [2, 31, 2, 21, 2, 21, 0, 6],
+        [3, 2, 3, 21, 3, 21, 1, 6],
+    ];
+    let machine = [vec![34, 0, 0, 0, 1, 0, 4, 4], states.concat()].concat();
+    let word = vec![2, 0, 0, 0, 2, 0, 0, 1];
+    assert_eq!(house_sheet(), [machine, word].concat());
 }
 
 #[test]

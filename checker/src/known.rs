@@ -1,6 +1,7 @@
 // The machines that document 01 gives: the twin and the house unit.
 
 use crate::machine::Machine;
+use crate::sheet::sheet_of;
 
 /// The twin's built sequence and the answers to it; its word is 0.
 pub const TWIN_BUILT: [u8; 12] = [0, 0, 0, 0, 0, 0, 1, 0, 0, 0, 1, 0];
@@ -19,4 +20,9 @@ pub fn house() -> Machine {
         [(3, 2), (3, 21), (3, 21), (1, 6)],
     ];
     Machine::from_pairs(4, 4, &pairs.concat())
+}
+
+/// What `bench house` writes: records 1 and 2.
+pub fn house_sheet() -> Vec<u8> {
+    sheet_of(&house(), &[0, 1], None, None)
 }

@@ -1,6 +1,7 @@
 // An independent model of the control-unit bench, written from document 01 and,
-// where it leaves the form of an output open, from README.md; and the checker
-// that holds the proved program against it.
+// where it leaves words or the form of an output open, from the description of
+// the program's interface; and the checker that holds the proved program
+// against it.
 
 pub mod building;
 pub mod certifying;
@@ -13,10 +14,12 @@ pub mod machine;
 pub mod naive;
 pub mod number;
 pub mod random;
+pub mod reading;
 pub mod recognition;
 pub mod refusal;
 pub mod rig;
 pub mod sheet;
+pub mod words;
 
 #[cfg(test)]
 mod cases;

@@ -1,8 +1,25 @@
-// The lines that the programs print, newline included.
+// The lines that the program prints, newline included.
 
 use crate::certifying::Certificate;
 use crate::judging::Verdict;
 use crate::refusal::Refusal;
+use crate::words::Mistake;
+
+/// What `bench help` writes.
+pub const HELP: &str = "\
+bench, bench judge  judge the sheet on standard input: PASS, WRONG, UNFINISHED or REFUSED
+bench certify       certify the sequence of the sheet on standard input: CERTIFIED, OPEN or REFUSED
+bench build         build the sequence of the sheet on standard input: the sheet with it as record 3
+bench read KIND     the payload of the record of that kind in the sheet on standard input
+bench house         the house unit's sheet: machine and word
+bench help          these lines
+";
+
+/// The line of wrong words.
+pub fn mistaken(mistake: Mistake) -> String {
+    let phrase = mistake.phrase();
+    format!("bench: {phrase}; bench help lists the services\n")
+}
 
 pub fn refused(refusal: Refusal) -> String {
     let phrase = refusal.phrase().map(|text| format!(" {text}"));
@@ -13,7 +30,7 @@ pub fn refused(refusal: Refusal) -> String {
     )
 }
 
-/// The line of `bench`.
+/// The line of `bench judge`.
 pub fn judged(outcome: Result<Verdict, Refusal>) -> String {
     match outcome {
         Err(refusal) => refused(refusal),
@@ -25,7 +42,7 @@ pub fn judged(outcome: Result<Verdict, Refusal>) -> String {
     }
 }
 
-/// The line of `bench_certify`; its form is README.md's.
+/// The line of `bench certify`; document 01 leaves its form open.
 pub fn certified(outcome: Result<Certificate, Refusal>) -> String {
     match outcome {
         Err(refusal) => refused(refusal),

@@ -10,6 +10,12 @@ impl Random {
         Random { state: seed }
     }
 
+    /// The choices of one case of one part of a run.
+    pub fn at(seed: u64, part: u64, index: usize) -> Random {
+        let mut mixed = Random::new(seed.wrapping_add(part << 56));
+        Random::new(mixed.bits() ^ index as u64)
+    }
+
     pub fn bits(&mut self) -> u64 {
         self.state = self.state.wrapping_add(0x9E37_79B9_7F4A_7C15);
         let mut mixed = self.state;

@@ -1,16 +1,24 @@
-// What occurred in a run: calls by class, and how much was compared.
+// What occurred in a run: calls by class, runs of the program by service,
+// mistake and refusal, and how much was compared.
 
 use super::compare::Call;
 use crate::number;
+use crate::words::{Mistake, Service, Word, NAMES};
 use std::collections::BTreeMap;
+use std::fmt::Display;
 
 /// What a run of some thousands of sheets must have met: the classes of each
-/// function, and the refusals of `bench_build`, 0 where it built.
+/// function, and the refusals of `bench build` and `bench read`, 0 where there
+/// was none. Every service and mistake besides.
 const CERTIFY: [u64; 10] = [1, 2, 3, 4, 5, 6, 7, 9, 110, 111];
 const JUDGE: [u64; 13] = [1, 2, 3, 4, 5, 6, 7, 9, 10, 11, 100, 101, 102];
 const BUILD: [u64; 8] = [0, 1, 2, 3, 4, 5, 6, 8];
+const READ: [u64; 3] = [0, 1, 2];
 /// Runs with fewer sheets, or without units, need not meet all of it.
 pub const ENOUGH: usize = 2000;
+
+/// The name under which judging without a word is counted.
+const NO_WORD: &str = "no word";
 
 #[derive(Default)]
 pub struct Counts {
@@ -24,10 +32,14 @@ pub struct Counts {
     pub program_runs: usize,
     pub naive: usize,
     pub built: usize,
+    chains: usize,
     certify: BTreeMap<u64, usize>,
     judge: BTreeMap<u64, usize>,
-    /// Refusal numbers of `bench_build`, 0 where it built.
+    /// Refusal numbers of `bench build` and `bench read`, 0 for none.
     build: BTreeMap<u64, usize>,
+    read: BTreeMap<u64, usize>,
+    /// First words that name a service, and mistakes.
+    asked: BTreeMap<&'static str, usize>,
 }
 
 impl Counts {
@@ -39,25 +51,50 @@ impl Counts {
         *classes.entry(number::class(number)).or_default() += 1;
     }
 
-    pub fn build_program(&mut self, refusal: u64) {
+    pub fn built_or_refused(&mut self, refusal: u64) {
         *self.build.entry(refusal).or_default() += 1;
+    }
+
+    pub fn read_or_refused(&mut self, refusal: u64) {
+        *self.read.entry(refusal).or_default() += 1;
+    }
+
+    /// One run of the program with these words.
+    pub fn asked(&mut self, words: &[Word], asked: Result<Service, Mistake>) {
+        let named = |first: &Word| NAMES.into_iter().find(|name| name.as_bytes() == first);
+        let name = match asked {
+            Ok(_) => words.first().and_then(named).unwrap_or(NO_WORD),
+            Err(mistake) => mistake.name(),
+        };
+        *self.asked.entry(name).or_default() += 1;
+        self.program_runs += 1;
+    }
+
+    /// One chain of so many runs.
+    pub fn chained(&mut self, runs: usize) {
+        self.program_runs += runs;
+        self.chains += 1;
     }
 
     /// What never occurred in the run though it should have.
     pub fn missing(&self, units: bool) -> Vec<String> {
         let mut missing = Vec::new();
-        let rows: [(&str, &[u64], &BTreeMap<u64, usize>); 3] = [
+        let rows: [(&str, &[u64], &BTreeMap<u64, usize>); 4] = [
             ("rig_certify", &CERTIFY, &self.certify),
             ("rig_judge", &JUDGE, &self.judge),
-            ("bench_build", &BUILD, &self.build),
+            ("bench build", &BUILD, &self.build),
+            ("bench read", &READ, &self.read),
         ];
         for (name, expected, met) in rows {
             let absent = expected.iter().filter(|class| !met.contains_key(class));
             missing.extend(absent.map(|class| format!("{name} {class}")));
         }
+        let absent = words_expected().filter(|name| !self.asked.contains_key(name));
+        missing.extend(absent.map(|name| format!("words: {name}")));
         let compared = [
             ("fast against naive", self.naive, true),
             ("built sequences", self.built, true),
+            ("house unit through the chain", self.chains, true),
             ("units that pass", self.units_passed, units),
             ("units told wrong", self.units_wrong, units),
             ("sequences searched for all units", self.searched, units),
@@ -68,23 +105,21 @@ impl Counts {
     }
 
     pub fn summary(&self) -> String {
-        let row = |classes: &BTreeMap<u64, usize>| {
-            let pairs = classes
-                .iter()
-                .map(|(class, count)| format!(" {class}:{count}"));
-            pairs.collect::<String>()
-        };
         let of = |class| self.certify.get(&class).copied().unwrap_or_default();
         format!(
             "rig_certify, calls by class:{}\nrig_judge, calls by class:{}\n\
-             bench_build, runs by refusal (0 built):{}\n\
+             bench build, runs by refusal (0 built):{}\n\
+             bench read, runs by refusal (0 handed back):{}\n\
+             bench, runs by words:{}\n\
              certified {} and open {} in rig_certify\n\
              sheets of fixed lengths {}, built sequences checked {}, fast against naive {}\n\
              units: tried {}, passed {}, told wrong {}; sequences searched for all units {}, \
              given up {}",
-            row(&self.certify),
-            row(&self.judge),
-            row(&self.build),
+            row(&self.certify, ""),
+            row(&self.judge, ""),
+            row(&self.build, ""),
+            row(&self.read, ""),
+            row(&self.asked, ","),
             of(number::CERTIFIED),
             of(number::OPEN),
             self.lengths,
@@ -99,16 +134,32 @@ impl Counts {
     }
 }
 
+/// The names of all that words can ask for, and of all mistakes.
+fn words_expected() -> impl Iterator<Item = &'static str> {
+    let mistakes = Mistake::ALL.into_iter().map(Mistake::name);
+    [NO_WORD].into_iter().chain(NAMES).chain(mistakes)
+}
+
+/// Each class with its count, the separator between them.
+fn row<T: Display>(classes: &BTreeMap<T, usize>, separator: &str) -> String {
+    let pairs = classes
+        .iter()
+        .map(|(class, count)| format!(" {class}:{count}"));
+    pairs.collect::<Vec<_>>().join(separator)
+}
+
 #[cfg(test)]
 mod tests {
     use super::*;
+    use crate::words::service;
 
     #[test]
     fn every_class_is_missed_until_it_occurs() {
         let mut counts = Counts::default();
-        let classes = CERTIFY.len() + JUDGE.len() + BUILD.len();
-        assert_eq!(counts.missing(false).len(), classes + 2);
-        assert_eq!(counts.missing(true).len(), classes + 5);
+        let classes = CERTIFY.len() + JUDGE.len() + BUILD.len() + READ.len();
+        let words = 1 + NAMES.len() + Mistake::ALL.len();
+        assert_eq!(counts.missing(false).len(), classes + words + 3);
+        assert_eq!(counts.missing(true).len(), classes + words + 6);
         for class in CERTIFY {
             counts.called(Call::Certify, class << 40);
         }
@@ -116,9 +167,29 @@ mod tests {
             counts.called(Call::Judge, class << 40);
         }
         for refusal in BUILD {
-            counts.build_program(refusal);
+            counts.built_or_refused(refusal);
         }
+        for refusal in READ {
+            counts.read_or_refused(refusal);
+        }
+        counts.chained(3);
         let left = ["fast against naive", "built sequences"];
+        assert_eq!(counts.missing(false).len(), words + left.len());
+        ask_everything(&mut counts);
         assert_eq!(counts.missing(false), left);
+        assert_eq!(counts.program_runs, 3 + words);
+    }
+
+    /// Every service and mistake once; `read` alone is a mistake.
+    fn ask_everything(counts: &mut Counts) {
+        counts.asked(&[], service(&[]));
+        for name in NAMES {
+            let mut words = vec![name.as_bytes().to_vec()];
+            words.extend((name == "read").then(|| b"3".to_vec()));
+            counts.asked(&words, service(&words));
+        }
+        for mistake in Mistake::ALL {
+            counts.asked(&[], Err(mistake));
+        }
     }
 }

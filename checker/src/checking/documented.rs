@@ -1,4 +1,4 @@
-// Document 01's machines and sequences as sheets, for functions and programs.
+// Document 01's machines and sequences as sheets, for functions and program.
 
 use super::compare::{needed_room, Comparer};
 use super::difference::{Case, Difference};
@@ -76,7 +76,7 @@ impl Comparer {
                 self.both(&case, room)?;
             }
             self.model(&case)?;
-            self.programs(&case, directory)?;
+            self.services(&case, directory)?;
         }
         Ok(())
     }

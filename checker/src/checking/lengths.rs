@@ -90,11 +90,11 @@ impl Comparer {
                 }
             }
         }
-        self.lengths_to_programs(seed, &whole, directory)
+        self.lengths_to_program(seed, &whole, directory)
     }
 
-    /// The programs on the longest sheet, just cut, and on longer ones.
-    fn lengths_to_programs(
+    /// The program on the longest sheet, just cut, and on longer ones.
+    fn lengths_to_program(
         &mut self,
         seed: u64,
         whole: &[u8],
@@ -107,10 +107,10 @@ impl Comparer {
             let case = Case {
                 seed,
                 index: length,
-                kind: String::from("length, to the programs"),
+                kind: String::from("length, to the program"),
                 sheet: whole[..length].to_vec(),
             };
-            self.programs(&case, directory)?;
+            self.services(&case, directory)?;
         }
         Ok(())
     }

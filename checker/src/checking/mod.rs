@@ -1,5 +1,7 @@
 // The checker: generators, the comparison with the proved program, the units.
 
+mod chain;
+mod command_lines;
 mod compare;
 mod counts;
 mod damage;
@@ -7,10 +9,13 @@ mod difference;
 mod documented;
 mod exhaustive;
 mod isomorphism;
+mod kinds;
 mod lengths;
 mod machines;
 mod options;
-mod programs;
+mod process;
+mod program;
+mod readings;
 mod records;
 mod run;
 mod self_check;

@@ -1,4 +1,4 @@
-// One run: document 01's cases, random sheets, units, all lengths.
+// One run: document 01's cases, words, random sheets, units, all lengths.
 
 use super::compare::Comparer;
 use super::counts::{Counts, ENOUGH};
@@ -11,14 +11,17 @@ use super::units::units;
 use crate::random::Random;
 use crate::sheet::sheet_of;
 
-/// Of the units, one in this many times `--programs` also goes to `bench`.
-const UNITS_TO_PROGRAM: usize = 20;
+/// Of the units, one in this many times `--programs` also goes to the program.
+const UNITS_TO_PROGRAM: usize = 30;
 /// Longest sequence for which all agreeing units are searched.
 const SEARCHED: usize = 150;
 
 pub fn run(options: &Options) -> Result<Counts, Difference> {
     let mut comparer = Comparer::new(options.seed, options.spoil);
     comparer.documented(options.seed, &options.directory)?;
+    comparer.command_lines(options)?;
+    comparer.chain(&options.directory)?;
+    comparer.readings(options.seed, &options.directory)?;
     comparer.sheets(options)?;
     comparer.subjects(options)?;
     comparer.lengths(options.seed, options.lengths, &options.directory)?;
@@ -30,21 +33,15 @@ pub fn run(options: &Options) -> Result<Counts, Difference> {
     Ok(comparer.counts)
 }
 
-/// The random choices of one case of one part of the run.
-fn at(seed: u64, part: u64, index: usize) -> Random {
-    let mut mixed = Random::new(seed.wrapping_add(part << 56));
-    Random::new(mixed.bits() ^ index as u64)
-}
-
 impl Comparer {
     fn sheets(&mut self, options: &Options) -> Result<(), Difference> {
         for index in 0..options.count {
-            let mut random = at(options.seed, 1, index);
+            let mut random = Random::at(options.seed, 1, index);
             let case = case(options.seed, index, &mut random);
             self.sheet(&case, &mut random)?;
             self.model(&case)?;
             if index.is_multiple_of(options.programs) {
-                self.programs(&case, &options.directory)?;
+                self.services(&case, &options.directory)?;
             }
         }
         Ok(())
@@ -53,13 +50,13 @@ impl Comparer {
     fn subjects(&mut self, options: &Options) -> Result<(), Difference> {
         let mut index = 0;
         while self.counts.units < options.units {
-            let mut random = at(options.seed, 2, index);
+            let mut random = Random::at(options.seed, 2, index);
             let subject = subject(&mut random);
             for (kind, unit) in units(&mut random, &subject.machine) {
                 let share = UNITS_TO_PROGRAM * options.programs;
                 let to_program = self.counts.units.is_multiple_of(share);
-                let programs = to_program.then_some(options.directory.as_path());
-                self.unit(&subject, &unit, (options.seed, index, kind), programs)?;
+                let directory = to_program.then_some(options.directory.as_path());
+                self.unit(&subject, &unit, (options.seed, index, kind), directory)?;
             }
             if subject.sequence.len() <= SEARCHED {
                 self.agreeing(options.seed, index, &subject)?;

@@ -1,7 +1,10 @@
 // Spoils what the bench answered, on purpose, before it is compared: shows
 // that the checker can fail. Not used in a real run.
 
+use super::process::Printed;
+use crate::lines::mistaken;
 use crate::number::{class, CERTIFIED, OPEN, PASS, UNFINISHED, WRONG};
+use crate::words::{Mistake, Service, Word};
 
 #[derive(Clone, Copy, Debug, PartialEq, Eq)]
 pub enum Spoil {
@@ -19,15 +22,31 @@ pub enum Spoil {
     WrongUnitPasses,
     RightUnitFails,
     LineCut,
+    LineOnError,
     BuiltByte,
     BuiltCut,
     BuildRefusalOnOutput,
+    ReadByte,
+    ReadCut,
+    ReadMore,
+    ReadRefusalOnOutput,
+    ReadRefusalLost,
+    HouseByte,
+    HelpCut,
+    MistakeOnOutput,
+    MistakeChanged,
+    MistakeTwice,
+    MistakeJudged,
+    MistakeStatus,
+    InputRead,
+    InputAwaited,
+    ChainOpen,
     ErrorNoise,
     Status,
 }
 
 /// The names on the command line.
-const NAMES: [(&str, Spoil); 19] = [
+const NAMES: [(&str, Spoil); 35] = [
     ("place-off-by-one", Spoil::PlaceOffByOne),
     ("low-field-changed", Spoil::LowFieldChanged),
     ("certified-for-open", Spoil::CertifiedForOpen),
@@ -42,9 +61,25 @@ const NAMES: [(&str, Spoil); 19] = [
     ("wrong-unit-passes", Spoil::WrongUnitPasses),
     ("right-unit-fails", Spoil::RightUnitFails),
     ("line-cut", Spoil::LineCut),
+    ("line-on-error", Spoil::LineOnError),
     ("built-byte", Spoil::BuiltByte),
     ("built-cut", Spoil::BuiltCut),
     ("build-refusal-on-output", Spoil::BuildRefusalOnOutput),
+    ("read-byte", Spoil::ReadByte),
+    ("read-cut", Spoil::ReadCut),
+    ("read-more", Spoil::ReadMore),
+    ("read-refusal-on-output", Spoil::ReadRefusalOnOutput),
+    ("read-refusal-lost", Spoil::ReadRefusalLost),
+    ("house-byte", Spoil::HouseByte),
+    ("help-cut", Spoil::HelpCut),
+    ("mistake-on-output", Spoil::MistakeOnOutput),
+    ("mistake-changed", Spoil::MistakeChanged),
+    ("mistake-twice", Spoil::MistakeTwice),
+    ("mistake-judged", Spoil::MistakeJudged),
+    ("mistake-status", Spoil::MistakeStatus),
+    ("input-read", Spoil::InputRead),
+    ("input-awaited", Spoil::InputAwaited),
+    ("chain-open", Spoil::ChainOpen),
     ("error-noise", Spoil::ErrorNoise),
     ("status", Spoil::Status),
 ];
@@ -57,14 +92,6 @@ pub struct Seen<'a> {
     pub marks: &'a mut [u8],
     pub sheet: &'a mut [u8],
     pub guard: usize,
-}
-
-/// What a program left.
-#[derive(Debug, PartialEq, Eq)]
-pub struct Printed {
-    pub output: Vec<u8>,
-    pub error: Vec<u8>,
-    pub status: Option<i32>,
 }
 
 impl Spoil {
@@ -118,20 +145,89 @@ impl Spoil {
         }
     }
 
-    /// Spoils what a program printed.
-    pub fn program(self, builds: bool, seen: &mut Printed) {
-        match self {
-            Spoil::LineCut if !builds => drop(seen.output.pop()),
-            Spoil::BuiltByte if builds => {
-                if let Some(last) = seen.output.last_mut() {
-                    *last ^= 1;
-                }
-            }
-            Spoil::BuiltCut if builds => drop(seen.output.pop()),
-            Spoil::BuildRefusalOnOutput if builds => seen.output.append(&mut seen.error),
-            Spoil::ErrorNoise if !builds => seen.error.push(b'\n'),
-            Spoil::Status => seen.status = Some(1),
+    /// Spoils what the program printed.
+    pub fn program(self, asked: Result<Service, Mistake>, seen: &mut Printed) {
+        match asked {
+            Ok(Service::Judge | Service::Certify) => self.line(seen),
+            Ok(Service::Build) => self.build(seen),
+            Ok(Service::Read(_)) => self.read(seen),
+            Ok(Service::House) if self == Spoil::HouseByte => change_last(&mut seen.output),
+            Ok(Service::Help) if self == Spoil::HelpCut => drop(seen.output.pop()),
+            Ok(_) => {}
+            Err(mistake) => self.mistake(mistake, seen),
+        }
+        match (self, &mut seen.left) {
+            (Spoil::InputRead, Some(left)) => *left -= 1,
+            (Spoil::Status, _) => seen.status = Some(1),
             _ => {}
         }
+    }
+
+    /// Judging and certifying: one line on standard output.
+    fn line(self, seen: &mut Printed) {
+        match self {
+            Spoil::LineCut => drop(seen.output.pop()),
+            Spoil::LineOnError if seen.output.starts_with(b"REFUSED") => {
+                seen.error.append(&mut seen.output);
+            }
+            Spoil::ErrorNoise => seen.error.push(b'\n'),
+            _ => {}
+        }
+    }
+
+    fn build(self, seen: &mut Printed) {
+        match self {
+            Spoil::BuiltByte => change_last(&mut seen.output),
+            Spoil::BuiltCut => drop(seen.output.pop()),
+            Spoil::BuildRefusalOnOutput => seen.output.append(&mut seen.error),
+            _ => {}
+        }
+    }
+
+    fn read(self, seen: &mut Printed) {
+        match self {
+            Spoil::ReadByte => change_last(&mut seen.output),
+            Spoil::ReadCut => drop(seen.output.pop()),
+            Spoil::ReadMore if seen.error.is_empty() => seen.output.push(b'\n'),
+            Spoil::ReadRefusalOnOutput => seen.output.append(&mut seen.error),
+            Spoil::ReadRefusalLost => seen.error.clear(),
+            _ => {}
+        }
+    }
+
+    /// Wrong words: one line on standard error.
+    fn mistake(self, mistake: Mistake, seen: &mut Printed) {
+        match self {
+            Spoil::MistakeOnOutput => seen.output.append(&mut seen.error),
+            Spoil::MistakeChanged if mistake == Mistake::TooFew => {
+                seen.error = mistaken(Mistake::TooMany).into_bytes();
+            }
+            Spoil::MistakeTwice => seen.error.extend(seen.error.clone()),
+            Spoil::MistakeJudged => seen.output.extend(b"PASS 12 end 0\n"),
+            Spoil::MistakeStatus => seen.status = Some(2),
+            _ => {}
+        }
+    }
+
+    /// Spoils what was asked where nothing may be read: judging waits for its
+    /// input, which stays open.
+    pub fn words(self, words: &[Word]) -> &[Word] {
+        match self {
+            Spoil::InputAwaited => &[],
+            _ => words,
+        }
+    }
+
+    /// Spoils what the runs of the chain printed.
+    pub fn chain(self, seen: &mut [Printed]) {
+        if let (Spoil::ChainOpen, Some(last)) = (self, seen.last_mut()) {
+            last.output = b"OPEN 2 recognised 204\n".to_vec();
+        }
+    }
+}
+
+fn change_last(bytes: &mut [u8]) {
+    if let Some(last) = bytes.last_mut() {
+        *last ^= 1;
     }
 }

@@ -5,7 +5,6 @@ use super::compare::{Call, Comparer};
 use super::difference::{Case, Difference};
 use super::isomorphism::{renaming, Unit};
 use super::machines::{permutation, table};
-use super::programs::Program;
 use super::subjects::Subject;
 use crate::machine::Machine;
 use crate::number::{class, PASS, WRONG};
@@ -174,13 +173,14 @@ fn pairs(n: usize) -> impl Iterator<Item = (usize, usize)> {
 }
 
 impl Comparer {
-    /// Judges the unit's own answers and holds the verdict against isomorphism.
+    /// Judges the unit's own answers and holds the verdict against isomorphism;
+    /// with a directory, the program there judges them too.
     pub fn unit(
         &mut self,
         subject: &Subject,
         unit: &Unit,
         origin: (u64, usize, &str),
-        programs: Option<&Path>,
+        directory: Option<&Path>,
     ) -> Result<(), Difference> {
         let (machine, sequence) = (&subject.machine, &subject.sequence);
         let answers = unit.table.answers(unit.start, sequence);
@@ -200,8 +200,8 @@ impl Comparer {
         if let Err(text) = claim(subject, unit, got) {
             return Err(case.difference(&text));
         }
-        match programs {
-            Some(directory) => self.program(&case, directory, Program::Bench),
+        match directory {
+            Some(directory) => self.judging(&case, directory),
             None => Ok(()),
         }
     }

@@ -1,21 +1,47 @@
-// Reads a sheet from standard input, judges it and prints one line.
+// The bench program: takes the words that it is started with, reads a sheet from standard input
+// where the service wants one, and writes to standard output and standard error.
+mod services;
+mod words;
+
 use report::INPUT;
-use report::LINE;
-use report::judge_sheet;
+use report::OUTPUT;
+use services::bench;
+use services::reads_sheet;
 use streams::Input;
 use streams::read_input;
+use streams::read_word;
+use streams::write_error;
 use streams::write_output;
+use words::WORD_BUFFER;
 
-fn answer(sheet: &[u8]) {
-    let mut line = [0u8; LINE];
-    let size = judge_sheet(sheet, &mut line);
-    write_output(&line[..size]);
+// Writes what the bench answers to its words and a sheet.
+fn answer(given: usize, first: &[u8], second: &[u8], sheet: &[u8]) {
+    let mut bytes = [0u8; OUTPUT];
+    let written = bench(given, first, second, sheet, &mut bytes);
+    let out = written.out;
+    let end = written.end;
+    write_output(&bytes[..out]);
+    write_error(&bytes[out..end]);
 }
 
-fn main() {
+// Reads a sheet, and answers.
+fn answer_input(given: usize, first: &[u8], second: &[u8]) {
     let mut sheet = [0u8; INPUT];
     let input = read_input(&mut sheet);
     if let Input::Read { size } = input {
-        answer(&sheet[..size]);
+        answer(given, first, second, &sheet[..size]);
+    }
+}
+
+fn main() {
+    let mut first = [0u8; WORD_BUFFER];
+    let mut second = [0u8; WORD_BUFFER];
+    let given = os::arg_count();
+    let a = read_word(1, &mut first);
+    let b = read_word(2, &mut second);
+    if reads_sheet(given, &first[..a], &second[..b]) {
+        answer_input(given, &first[..a], &second[..b]);
+    } else {
+        answer(given, &first[..a], &second[..b], b"");
     }
 }

@@ -1,31 +1,18 @@
--- The house table: one test over the sixteen entries, which antt computes, and what it says of each.
+-- The house table: the constants of the code pass the test over the sixteen entries; above 3; and its machine record, byte by byte.
 -- Assumes nothing.
 use Prim.Native.Nat.{ℕ, zero, suc, _+_, _*_, _/_, _%_, _≤_, _<_}
-use mathlib.Core.Path.{_≡_, refl, sym, ap, ap₂, _∙_}
-use mathlib.Core.Bool.{Bool, true, _&&_}
-use mathlib.Core.Logic.{⊎-elim}
+use mathlib.Core.Path.{_≡_, refl, sym, ap, _∙_}
+use mathlib.Core.Bool.{true}
 use mathlib.Core.List.{List, [], _∷_}
 use native.Mathlib.Omega.{arith}
-use native.Mathlib.Nat.{le-of-suc-le-suc, not-suc-le-zero, eq-or-lt-of-le}
-use lib.Dec.{eqb}
-use lib.ListN.{length, getD, List·getD-eq-default}
-use borrow.Author.Tests.{eqb-true}
-use Rattle.sheet.specs.Tests.{both-true}
+use lib.ListN.{length, getD, set, take, replicate, length-set, List·getD-eq-default}
+use lib.Seq.{take-all}
 use Rattle.machine.specs.declared.house.Entry.{Entry}
-use Rattle.machine.specs.House.{houseTable, houseEntry}
-
--- a test passes at every number below n
-every : ℕ → (ℕ → Bool) → Bool
-every zero f = true
-every (suc n) f = f n && every n f
-
-every-at : (n : ℕ) (f : ℕ → Bool) → every n f ≡ true → (i : ℕ) → i < n → f i ≡ true
-unfolding every
-every-at zero f e i l = absurd (not-suc-le-zero l)
-every-at (suc n) f e i l =
-    ⊎-elim (λ (q : i ≡ n). ap f q ∙ both-true (f n) (every n f) e .0)
-    (λ (q : i < n). every-at n f (both-true (f n) (every n f) e .1) i q)
-    (eq-or-lt-of-le (le-of-suc-le-suc l))
+use Rattle.machine.specs.Limits.{mostMachine}
+use Rattle.machine.specs.Machine.{pairAt, machineOf}
+use Rattle.machine.specs.House.{houseTable, houseEntry, housePayload, house}
+use Rattle.machine.specs.House.Laws.{every, rightAt, allRight, right-table, payload-entry, payload-long}
+use Rattle.machine.proofs.Columns.{column-more}
 
 abbrev pub nextColumn : List ℕ
 nextColumn = 0 ∷ 1 ∷ 2 ∷ 0 ∷ 1 ∷ 0 ∷ 3 ∷ 1 ∷ 2 ∷ 2 ∷ 2 ∷ 0 ∷ 3 ∷ 3 ∷ 3 ∷ 1 ∷ []
@@ -33,25 +20,13 @@ nextColumn = 0 ∷ 1 ∷ 2 ∷ 0 ∷ 1 ∷ 0 ∷ 3 ∷ 1 ∷ 2 ∷ 2 ∷ 2 ∷ 0
 abbrev pub answerColumn : List ℕ
 answerColumn = 31 ∷ 6 ∷ 6 ∷ 21 ∷ 2 ∷ 6 ∷ 6 ∷ 21 ∷ 31 ∷ 21 ∷ 21 ∷ 6 ∷ 2 ∷ 21 ∷ 21 ∷ 6 ∷ []
 
-houseCell : ℕ → Entry
-houseCell e = houseEntry (e / 4) (e % 4)
-
-right : ℕ → Bool
-right e = eqb (getD nextColumn e 0) (houseCell e .next) && eqb (getD answerColumn e 0) (houseCell e .answer)
-
-all-right : every 16 right ≡ true
-unfolding every right houseCell houseEntry
-all-right = refl
+columns-right : allRight (λ e. getD nextColumn e 0) (λ e. getD answerColumn e 0) ≡ true
+unfolding every rightAt allRight houseEntry
+columns-right = refl
 
 -- the entries of the constant tables are those of the document's table
 pub house-inside : (s c : ℕ) → s ≤ 3 → c ≤ 3 → record { next = getD nextColumn (s * 4 + c) 0; answer = getD answerColumn (s * 4 + c) 0 } ≡ houseEntry s c
-unfolding right houseCell
-house-inside s c p q =
-    let e = s * 4 + c in
-    let t = both-true (eqb (getD nextColumn e 0) (houseCell e .next)) (eqb (getD answerColumn e 0) (houseCell e .answer)) (every-at 16 right all-right e (omega arith)) in
-    let h : record { next = getD nextColumn e 0; answer = getD answerColumn e 0 } ≡ houseEntry (e / 4) (e % 4) =
-    ap₂ (λ (x y : ℕ). record { next = x; answer = y }) (eqb-true _ _ (t .0)) (eqb-true _ _ (t .1)) in
-    h ∙ ap₂ houseEntry (omega arith) (omega arith)
+house-inside s c p q = right-table (λ e. getD nextColumn e 0) (λ e. getD answerColumn e 0) columns-right s c p q
 
 row-length : (s : ℕ) → length (getD houseTable s []) ≤ 4
 row-length zero = omega arith
@@ -68,3 +43,25 @@ house-command s c h = sym (List·getD-eq-default (getD houseTable s []) (record 
 pub house-state : (s c : ℕ) → 3 < s → record { next = 255; answer = 0 } ≡ houseEntry s c
 unfolding houseEntry
 house-state s c h = ap (λ (row : List Entry). getD row c (record { next = 255; answer = 0 })) (sym (List·getD-eq-default houseTable [] {n = s} (omega arith)))
+
+-- one more entry of the machine record is stored
+pub payload-more : (payload : List ℕ) (e : ℕ) {x : Entry} → e < 16 → length payload ≡ 34 → x ≡ houseEntry (e / 4) (e % 4)
+    → ((j : ℕ) → j < pairAt e → getD payload j 0 ≡ getD housePayload j 0)
+    → (j : ℕ) → j < pairAt (e + 1) → getD (set (set payload (pairAt e) (x .next)) (pairAt e + 1) (x .answer)) j 0 ≡ getD housePayload j 0
+payload-more payload e {x} l long q h j k =
+    let entry = q ∙ sym (payload-entry e l) in
+    let one = column-more payload (λ j. getD housePayload j 0) (pairAt e) (x .next) (omega arith) h (ap (λ (y : Entry). y .next) entry) in
+    column-more (set payload (pairAt e) (x .next)) (λ j. getD housePayload j 0) (pairAt e + 1) (x .answer) (simp length-set (omega arith)) one
+    (ap (λ (y : Entry). y .answer) entry) j (omega arith)
+
+-- n and k, before the first entry
+pub payload-starts : (j : ℕ) → j < pairAt 0 → getD (set (set (replicate 34 0) 0 4) 1 4) j 0 ≡ getD housePayload j 0
+unfolding housePayload
+payload-starts zero l = refl
+payload-starts (suc zero) l = refl
+payload-starts (suc (suc j)) l = absurd (omega arith)
+
+-- the machine that is loaded from it
+pub house-loaded : {p : List ℕ} → p ≡ housePayload → machineOf (take mostMachine p) ≡ house
+unfolding house
+house-loaded {p} e = ap (λ (q : List ℕ). machineOf (take mostMachine q)) e ∙ ap machineOf (take-all mostMachine housePayload (omega (arith, payload-long)))

@@ -1,8 +1,11 @@
--- The house control unit (document 01, "The house unit and the twin"): its entries as the table there has them, next/answer.
+-- The house control unit (document 01, "The house unit and the twin"): its entries as the table there has them, next/answer; its machine record,
+-- the machine and the word. The laws stand in House.Laws.
 use Prim.Native.Nat.{ℕ}
-use mathlib.Core.List.{List, [], _∷_}
+use mathlib.Core.List.{List, [], _∷_, _++_}
 use lib.ListN.{getD}
 use Rattle.machine.specs.declared.house.Entry.{Entry}
+use Rattle.machine.specs.Machine.{Mealy, machineOf}
+pub mod Laws
 
 infix 75 _▹_
 -- an entry; document 01 writes next/answer
@@ -21,3 +24,24 @@ houseTable =
 -- "Looking up a state or command above 3 gives next state 255 and answer 0."
 unfoldable pub houseEntry : ℕ → ℕ → Entry
 houseEntry s c = getD (getD houseTable s []) c (255 ▹ 0)
+
+-- entries as a machine record has them: "pairs (next state, answer)", one row a state, "all commands of state 0 first"
+abbrev pub pairs : List Entry → List ℕ
+pairs [] = []
+pairs (e ∷ es) = e .next ∷ e .answer ∷ pairs es
+
+abbrev pub rowPairs : List (List Entry) → List ℕ
+rowPairs [] = []
+rowPairs (row ∷ rows) = pairs row ++ rowPairs rows
+
+-- the payload of its machine record: "n=4, k=4", then the table
+unfoldable pub housePayload : List ℕ
+housePayload = 4 ∷ 4 ∷ rowPairs houseTable
+
+-- the house unit as a machine
+unfoldable pub house : Mealy
+house = machineOf housePayload
+
+-- "word 0 1"
+abbrev pub houseWord : List ℕ
+houseWord = 0 ∷ 1 ∷ []

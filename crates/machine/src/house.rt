@@ -1,6 +1,6 @@
 // The house control unit, which ships inside the program.
 ghost use mathlib.Core.Path.{_≡_};
-ghost use Rattle.machine.specs.House.{houseEntry};
+ghost use Rattle.machine.specs.House.{houseEntry, housePayload};
 
 // An entry of a machine's table.
 pub struct Entry {
@@ -34,4 +34,29 @@ pub fn house_entry(state: u8, command: u8) -> Entry
         next: NEXT[at],
         answer: ANSWER[at],
     }
+}
+
+// The bytes of the house unit's machine record, its header left out.
+pub const HOUSE_PAYLOAD: usize = 34;
+
+// The house unit's word.
+pub const HOUSE_WORD: [u8; 2] = [0, 1];
+
+// The payload of the house unit's machine record: n, k, then its entries, all commands of state 0
+// first.
+pub fn house_payload() -> [u8; HOUSE_PAYLOAD]
+    ensures { λ r. ⌜ r ≡ housePayload ⌝ }
+{
+    let mut payload = [0u8; HOUSE_PAYLOAD];
+    payload[0] = 4;
+    payload[1] = 4;
+    let mut e: u8 = 0;
+    while e < 16 {
+        let entry = house_entry(e / 4, e % 4);
+        let at = 2 + 2 * (e as usize);
+        payload[at] = entry.next;
+        payload[at + 1] = entry.answer;
+        e += 1;
+    }
+    payload
 }

@@ -7,7 +7,10 @@ mod separation;
 
 pub use checks::commands;
 pub use house::Entry;
+pub use house::HOUSE_PAYLOAD;
+pub use house::HOUSE_WORD;
 pub use house::house_entry;
+pub use house::house_payload;
 pub use loading::Loaded;
 pub use loading::load_sheet;
 pub use machine::Limits;

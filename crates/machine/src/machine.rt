@@ -5,6 +5,8 @@ ghost use lib.ListN.{getD, take};
 ghost use Rattle.machine.specs.Limits.{mostEntries, mostMachine};
 ghost use Rattle.machine.specs.Limits.{limits as theLimits};
 ghost use Rattle.machine.specs.Machine.{machineOf, meaning};
+ghost use Rattle.machine.specs.House.{house as theHouse};
+use crate::house::house_payload;
 use sheet::byte;
 
 // A machine: n states, k commands, the start, and its table, entry (s, c) at s * k + c.
@@ -50,6 +52,14 @@ impl Machine {
             next,
             answer,
         }
+    }
+
+    // The house unit.
+    pub fn house() -> Machine
+        ensures { λ m. ⌜ meaning m ≡ theHouse ⌝ }
+    {
+        let payload = house_payload();
+        Machine::load(&payload)
     }
 
     // The limits as document 01 has them.

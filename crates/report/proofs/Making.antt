@@ -2,7 +2,7 @@
 -- Assumes nothing.
 use Prim.Native.Nat.{ℕ, _+_, _≤_}
 use mathlib.Core.Path.{_≡_, refl, sym, ap, subst, _∙_}
-use mathlib.Core.List.{List, _++_}
+use mathlib.Core.List.{List, _++_, append-nil}
 use native.Mathlib.Omega.{arith}
 use lib.ListN.{length, take, length-take}
 use lib.Seq.{length-take-le}
@@ -12,7 +12,7 @@ use Rattle.sheet.specs.Format.{longest, header, end}
 use Rattle.sheet.specs.Format.Laws.{end-size}
 use Rattle.sheet.specs.Reader.{the, content}
 use Rattle.sheet.specs.Reader.Laws.{clear-reads}
-use Rattle.sheet.specs.Writing.{headerOf}
+use Rattle.sheet.specs.Writing.{recordBytes, written}
 use Rattle.machine.specs.Limits.{mostSequence}
 use Rattle.machine.specs.Causes.{machineIn}
 use Rattle.machine.specs.Causes.Lists.{load-word}
@@ -22,10 +22,10 @@ use Rattle.build.specs.declared.service.Answer.the-variants.{Built, Refused as 
 use Rattle.build.specs.Sequence.{sequence}
 use Rattle.build.specs.Building.{buildNeeds, building, Builds}
 use Rattle.build.specs.Building.Service.{load-clear, answer-built, built-shows, built-buffer}
-use Rattle.report.specs.declared.sheets.Made.the-variants.{Sheet, Refused}
+use Rattle.report.specs.declared.output.Written.{Written}
 use Rattle.report.specs.Printing.{Prints}
-use Rattle.report.specs.Sheets.{withSequence, builtSheet, madeOf, bufferOf, Makes}
-use Rattle.report.specs.Sheets.Certified.{with-sequence-is}
+use Rattle.report.specs.Sheets.{withSequence, builtSheet}
+use Rattle.report.specs.Output.{Output, onOutput, onError, Writes}
 
 -- ---- the place behind a record
 pub end-of : {r w : Record} → w ≡ r → w .start + header + w .size ≡ end r
@@ -36,8 +36,9 @@ pub front-fits : (s : List ℕ) {w : Record} → w ≡ the 2 s → end (the 2 s)
     → (length (take (w .start + header + w .size) s) ≡ w .start + header + w .size) × (w .start + header + w .size ≤ length s)
 front-fits s {w} e l = let inside : w .start + header + w .size ≤ length s = omega (arith, end-of e) in (length-take-le (w .start + header + w .size) s inside, inside)
 
-pub parts-are : (s xs : List ℕ) {n : ℕ} {h : List ℕ} → n ≡ end (the 2 s) → h ≡ headerOf 3 (length xs) → (take n s ++ h) ++ xs ≡ withSequence s xs
-parts-are s xs {n} {h} e f = ap (λ (m : ℕ). (take m s ++ h) ++ xs) e ∙ ap (λ (l : List ℕ). (take (end (the 2 s)) s ++ l) ++ xs) f ∙ with-sequence-is s xs
+pub parts-are : (s xs : List ℕ) {n : ℕ} → n ≡ end (the 2 s) → take n s ++ recordBytes 3 xs ≡ withSequence s xs
+unfolding withSequence
+parts-are s xs e = ap (λ (m : ℕ). take m s ++ recordBytes 3 xs) e
 
 -- ---- a built answer
 pub record Ready (s buffer : List ℕ) (n : ℕ) : Type 0 where
@@ -67,20 +68,21 @@ built-ready s before after {a} {n} l h e =
       built = xs;
     }
 
--- ---- the answers
-pub makes-sheet : (s : List ℕ) {before after : List ℕ} {n size : ℕ} {xs : List ℕ} → building mostSequence s ≡ Built n → xs ≡ sequence (machineIn s) (content 2 s)
-    → Prints (withSequence s xs) before after size → Makes s before after (Sheet size)
-makes-sheet s {before} {after} {n} {size} {xs} e f h =
-    let p : Prints (builtSheet s) before after size = subst (λ (l : List ℕ). Prints (withSequence s l) before after size) f h in
-    record {
-      answer = ap Sheet (p .sized) ∙ ap (madeOf (builtSheet s)) (sym e);
-      buffer = p .printed ∙ ap (λ (a : Answer). bufferOf (builtSheet s) a before) (sym e);
-      within = λ n same. subst (λ (m : ℕ). Counts m after) (cc) (p .counts);
-    }
+-- ---- what is written to one stream
+pub writes-output : {before after : List ℕ} {size : ℕ} (xs : List ℕ) {o : Output} → o ≡ onOutput xs → Prints xs before after size
+    → Writes o before after (record { out = size; end = size })
+writes-output {before} {after} {size} xs {o} e h = subst (λ (p : Output). Writes p before after (record { out = size; end = size })) (sym e) (record {
+  out = h .sized;
+  end = h .sized ∙ ap length (sym (append-nil xs));
+  counts = h .counts;
+  holds = h .printed ∙ ap (λ (l : List ℕ). written l before) (sym (append-nil xs));
+})
 
-pub makes-nothing : (s : List ℕ) {before : List ℕ} {number place : ℕ} → building mostSequence s ≡ RefusedAnswer number place → Makes s before before (Refused number place)
-makes-nothing s {before} {number} {place} e = record {
-  answer = ap (madeOf (builtSheet s)) (sym e);
-  buffer = ap (λ (a : Answer). bufferOf (builtSheet s) a before) (sym e);
-  within = λ n same. let z : _≡_ {A = ℕ} 0 1 = cc in absurd (omega arith);
-}
+pub writes-error : {before after : List ℕ} {size : ℕ} (xs : List ℕ) {o : Output} → o ≡ onError xs → Prints xs before after size
+    → Writes o before after (record { out = 0; end = size })
+writes-error {before} {after} {size} xs {o} e h = subst (λ (p : Output). Writes p before after (record { out = 0; end = size })) (sym e) (record {
+  out = refl;
+  end = h .sized;
+  counts = h .counts;
+  holds = h .printed;
+})

@@ -1,6 +1,9 @@
 pub mod Text
 pub mod Phrases
 pub mod Lines
+pub mod Words
 pub mod Pieces
 pub mod Printing
 pub mod Sheets
+pub mod Output
+pub mod Services

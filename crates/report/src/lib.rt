@@ -1,20 +1,26 @@
-// What the programs print and write: the cause phrases, the output lines and the sheet that
-// carries a built sequence, made in lent buffers.
+// What the bench writes: the cause phrases, the output lines, the sheets and the list of services,
+// each service's bytes for each stream, made in a lent buffer.
 mod lines;
+mod output;
 mod phrases;
 mod pieces;
 mod services;
 mod sheets;
+mod words;
 
-pub use lines::LINE;
 pub use lines::certify_line;
 pub use lines::judge_line;
 pub use lines::refusal_line;
+pub use output::OUTPUT;
+pub use output::Written;
 pub use phrases::Phrase;
 pub use phrases::phrase_of;
 pub use services::INPUT;
 pub use services::certify_sheet;
 pub use services::judge_sheet;
-pub use sheets::BUILT_SHEET;
-pub use sheets::Made;
+pub use services::read_record;
 pub use sheets::build_sheet;
+pub use sheets::house_sheet;
+pub use words::Mistake;
+pub use words::help;
+pub use words::tell;

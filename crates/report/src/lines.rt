@@ -2,17 +2,15 @@
 // bytes stay as they were.
 ghost use Rattle.report.specs.Lines.{passLine, wrongLine, unfinishedLine, judgeLine, certifiedLine, openLine, certifyLine, refusalLine};
 ghost use Rattle.report.specs.Printing.{Prints};
+use crate::output::OUTPUT;
 use crate::pieces::put;
 use crate::pieces::put_labelled;
 use crate::pieces::put_phrase;
 use certify::Answer as Certification;
 use judge::Answer as Judgement;
 
-// The bytes of a buffer for a line: no line has more.
-pub const LINE: usize = 96;
-
 // A refusal: number, place and phrase.
-pub fn refusal_line(number: u8, place: usize, out: &mut [u8; LINE]) -> usize
+pub fn refusal_line(number: u8, place: usize, out: &mut [u8; OUTPUT]) -> usize
     ensures { λ r. ⌜ Prints (refusalLine number place) (now (out .entry)) (now (out .exit)) r ⌝ }
 {
     let a = put_labelled(b"REFUSED ", number as u64, 0, out);
@@ -21,7 +19,7 @@ pub fn refusal_line(number: u8, place: usize, out: &mut [u8; LINE]) -> usize
     put(b"\n", c, out)
 }
 
-fn passed(size: usize, end: u8, out: &mut [u8; LINE]) -> usize
+fn passed(size: usize, end: u8, out: &mut [u8; OUTPUT]) -> usize
     ensures { λ r. ⌜ Prints (passLine size end) (now (out .entry)) (now (out .exit)) r ⌝ }
 {
     let a = put_labelled(b"PASS ", size as u64, 0, out);
@@ -29,7 +27,7 @@ fn passed(size: usize, end: u8, out: &mut [u8; LINE]) -> usize
     put(b"\n", b, out)
 }
 
-fn wrong(place: usize, specified: u8, given: u8, out: &mut [u8; LINE]) -> usize
+fn wrong(place: usize, specified: u8, given: u8, out: &mut [u8; OUTPUT]) -> usize
     ensures { λ r. ⌜ Prints (wrongLine place specified given) (now (out .entry)) (now (out .exit)) r ⌝ }
 {
     let a = put_labelled(b"WRONG at ", place as u64, 0, out);
@@ -38,21 +36,21 @@ fn wrong(place: usize, specified: u8, given: u8, out: &mut [u8; LINE]) -> usize
     put(b"\n", c, out)
 }
 
-fn unfinished(number: usize, out: &mut [u8; LINE]) -> usize
+fn unfinished(number: usize, out: &mut [u8; OUTPUT]) -> usize
     ensures { λ r. ⌜ Prints (unfinishedLine number) (now (out .entry)) (now (out .exit)) r ⌝ }
 {
     let a = put_labelled(b"UNFINISHED ", number as u64, 0, out);
     put(b"\n", a, out)
 }
 
-fn certified(recognised: usize, out: &mut [u8; LINE]) -> usize
+fn certified(recognised: usize, out: &mut [u8; OUTPUT]) -> usize
     ensures { λ r. ⌜ Prints (certifiedLine recognised) (now (out .entry)) (now (out .exit)) r ⌝ }
 {
     let a = put_labelled(b"CERTIFIED ", recognised as u64, 0, out);
     put(b"\n", a, out)
 }
 
-fn still_open(recognised: usize, number: usize, out: &mut [u8; LINE]) -> usize
+fn still_open(recognised: usize, number: usize, out: &mut [u8; OUTPUT]) -> usize
     ensures { λ r. ⌜ Prints (openLine recognised number) (now (out .entry)) (now (out .exit)) r ⌝ }
 {
     let a = put_labelled(b"OPEN ", number as u64, 0, out);
@@ -61,7 +59,7 @@ fn still_open(recognised: usize, number: usize, out: &mut [u8; LINE]) -> usize
 }
 
 // What judging answers.
-pub fn judge_line(answer: Judgement, out: &mut [u8; LINE]) -> usize
+pub fn judge_line(answer: Judgement, out: &mut [u8; OUTPUT]) -> usize
     ensures { λ r. ⌜ Prints (judgeLine answer) (now (out .entry)) (now (out .exit)) r ⌝ }
 {
     match answer {
@@ -77,7 +75,7 @@ pub fn judge_line(answer: Judgement, out: &mut [u8; LINE]) -> usize
 }
 
 // What certifying answers.
-pub fn certify_line(answer: Certification, out: &mut [u8; LINE]) -> usize
+pub fn certify_line(answer: Certification, out: &mut [u8; OUTPUT]) -> usize
     ensures { λ r. ⌜ Prints (certifyLine answer) (now (out .entry)) (now (out .exit)) r ⌝ }
 {
     match answer {

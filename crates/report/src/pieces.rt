@@ -1,12 +1,15 @@
-// The pieces of a line, put into a buffer one behind the other.
+// The pieces of a line or a sheet, put into a buffer one behind the other.
 ghost use Prim.Native.Nat.{_+_, _≤_};
 ghost use mathlib.Core.List.{_++_};
 ghost use lib.ListN.{length};
+ghost use Rattle.sheet.specs.Format.{header};
+ghost use Rattle.sheet.specs.Writing.{recordBytes};
 ghost use Rattle.report.specs.Text.{mostDigits, decimal};
 ghost use Rattle.report.specs.Phrases.{longestPhrase, phrase};
 ghost use Rattle.report.specs.Lines.{spaced};
 ghost use Rattle.report.specs.Pieces.{Puts};
 use crate::phrases::phrase_of;
+use sheet::header_of;
 
 // The most digits of a 64-bit number.
 const DIGITS: usize = 20;
@@ -53,4 +56,14 @@ pub fn put_phrase(number: u8, at: usize, out: &mut [u8]) -> usize
     }
     let next = put(b" ", at, out);
     put(&bytes[..size], next, out)
+}
+
+// A record: its header, then its payload.
+pub fn put_record(kind: u16, payload: &[u8], at: usize, out: &mut [u8]) -> usize
+    requires { ⌜ at + header + length (now payload) ≤ length (now out) ⌝ }
+    ensures { λ r. ⌜ Puts (now (out .entry)) at (recordBytes kind (now (payload .entry))) (now (out .exit)) r ⌝ }
+{
+    let header = header_of(kind, payload.len());
+    let next = put(&header, at, out);
+    put(payload, next, out)
 }

@@ -13,6 +13,10 @@ pub mod Reading
 unfoldable pub headerOf : ℕ → ℕ → List ℕ
 headerOf kind size = (size % 256) ∷ (size / 256 % 256) ∷ (size / 65536 % 256) ∷ (size / 16777216 % 256) ∷ (kind % 256) ∷ (kind / 256 % 256) ∷ []
 
+-- a record as it stands in a sheet: its header, "then the payload"
+abbrev pub recordBytes : ℕ → List ℕ → List ℕ
+recordBytes kind payload = headerOf kind (length payload) ++ payload
+
 -- a buffer after bytes were put at a place: where all of them fit they stand there and all else is as it was; else nothing is changed
 unfoldable pub putAt : List ℕ → ℕ → List ℕ → List ℕ
 putAt before at xs = cond (leb (at + length xs) (length before)) (paste before at xs (length xs)) before

@@ -14,7 +14,7 @@ use Rattle.sheet.specs.Check.Laws.{absent, else-end}
 use Rattle.sheet.specs.Format.{recordAt, offset, end, kindOf, cause1, cause2, causeAt, onward, parseFrom, parse, parsed, ofKind, _or_, find}
 use Rattle.sheet.specs.Reader.{sheetCauses, when, needed, refusalOf, the, part, bytes, content}
 use Rattle.sheet.specs.Writing.{written}
-use Rattle.machine.specs.House.{houseEntry}
+use Rattle.machine.specs.House.{housePayload, house, houseWord}
 use Rattle.machine.specs.Machine.{Mealy, machineOf, run, answers}
 use Rattle.machine.specs.Causes.{cause3, cause4, commandsCause, cause6, machineIn, machineCauses, wordCauses, loadCauses}
 use Rattle.certify.specs.Marks.Twin.{twin, single}
@@ -117,13 +117,10 @@ unfolding lengthBound single machineOf
 single-longest answer = ap length (single-sequence answer)
 
 -- ---- "Built length 203 (bound 361)", of the house unit and the word 0 1
-unfoldable pub house : Mealy
-house = record { n = 4; k = 4; start = 0; next = λ s c. houseEntry s c .next; answer = λ s c. houseEntry s c .answer }
-
-pub house-length : length (sequence house (0 ∷ 1 ∷ [])) ≡ 203
-unfolding sequence tests stateTests test approach opening firstBlocks nthState T following transfer firstPath firstOf orElse guard run house houseEntry
+pub house-length : length (sequence house houseWord) ≡ 203
+unfolding sequence tests stateTests test approach opening firstBlocks nthState T following transfer firstPath firstOf orElse guard run house machineOf housePayload
 house-length = refl
 
-pub house-bound : lengthBound house (0 ∷ 1 ∷ []) ≡ 361
-unfolding lengthBound house
+pub house-bound : lengthBound house houseWord ≡ 361
+unfolding lengthBound house machineOf housePayload
 house-bound = refl

@@ -2,7 +2,7 @@
 use Prim.Native.Nat.{ℕ, _+_, _^_, _≤_, _<_}
 use mathlib.Core.Path.{_≡_, refl, sym, ap, ap₂, subst, _∙_}
 use mathlib.Core.Bool.{true, false}
-use mathlib.Core.List.{List, _++_}
+use mathlib.Core.List.{List, _++_, append-assoc}
 use native.Mathlib.Omega.{arith}
 use lib.ListN.{length, take}
 use Rattle.sheet.specs.declared.check.Check.the-variants.{Clear}
@@ -35,7 +35,7 @@ use Rattle.sheet.specs.Writing.Reading as reading
 -- ---- the sheet with a sequence added, in its parts
 pub with-sequence-is : (s xs : List ℕ) → take (end (the 2 s)) s ++ headerOf 3 (length xs) ++ xs ≡ withSequence s xs
 unfolding withSequence
-with-sequence-is s xs = refl
+with-sequence-is s xs = append-assoc (take (end (the 2 s)) s) (headerOf 3 (length xs)) xs
 
 -- ---- a sheet from which a sequence was built
 record Source (s : List ℕ) : Type 0 where

@@ -18,7 +18,7 @@ use Rattle.sheet.specs.Check.Places.{WhereRefused, place-clear, place-of
 use Rattle.sheet.specs.Format.{longest, offset, cause1, cause2, causeAt, Parsed, parsed, find}
 use Rattle.sheet.specs.Format.Laws.{parsed-is, parse-induction}
 use Rattle.sheet.specs.Reader.{tooLong, isMissing, missing, sheetCauses, refusalOf, recordOr, the, payloadPart, partWhen, part, bytes, content}
-use Rattle.sheet.specs.Reader.Laws.{payload-inside}
+use Rattle.sheet.specs.Reader.Laws.{payload-inside, the-inside}
 
 -- ---- causes 1 and 2
 -- a refusal that the capture rig's number can hold: its number is below the results' classes, which begin with "100 pass", and its place is at most
@@ -63,6 +63,11 @@ sheet-small needed s =
 pub sheet-short : (needed s : List ℕ) → firstCause (sheetCauses needed s) ≡ Clear → length s ≤ longest
 unfolding sheetCauses
 sheet-short needed s e = not-long s (both-clear (tooLong s) _ (sym (cause-cons (tooLong s) (parsed s .stop ∷ map (missing s) needed)) ∙ e) .0)
+
+-- what reading hands back is no longer
+pub read-short : (k : ℕ) (s : List ℕ) → refusalOf k s ≡ Clear → length (content k s) ≤ longest
+unfolding refusalOf
+read-short k s e = omega (arith, the-inside k s, sheet-short (k ∷ []) s e)
 
 -- ---- offsets in what reading hands back
 offset-of : (s : List ℕ) (c : Check) (f : Found) → payloadPart f .from + payloadPart f .size ≤ length s → (i : ℕ) → i < length (bytes (partWhen c f) s)

@@ -8,7 +8,7 @@ use borrow.Author.Tests.{le-leb, lt-leb}
 use lib.ListN.{length, getD, length-append, List·getD-append}
 use lib.Seq.{paste, getD-append-add}
 use Rattle.sheet.specs.Format.{header, recordAt}
-use Rattle.sheet.specs.Writing.{headerOf, putAt, putEnd}
+use Rattle.sheet.specs.Writing.{headerOf, recordBytes, putAt, putEnd}
 
 -- ---- putting
 module _ (before : List ℕ) (at : ℕ) (xs : List ℕ) where
@@ -32,6 +32,9 @@ module _ (before : List ℕ) (at : ℕ) (xs : List ℕ) where
 pub header-size : (kind size : ℕ) → length (headerOf kind size) ≡ header
 unfolding headerOf
 header-size kind size = refl
+
+pub record-size : (kind : ℕ) (payload : List ℕ) → length (recordBytes kind payload) ≡ header + length payload
+record-size kind payload = length-append (headerOf kind (length payload)) payload ∙ ap (λ (n : ℕ). n + length payload) (header-size kind (length payload))
 
 -- a number from its two or four bytes
 two-bytes : (n : ℕ) → n < 65536 → n % 256 + 256 * (n / 256 % 256) ≡ n

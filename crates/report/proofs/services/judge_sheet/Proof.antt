@@ -1,9 +1,11 @@
 -- `report::services::judge_sheet` meets its contract: the line of the answer, for a buffer of as many marks as the longest sequence has places.
 -- Assumes nothing.
 use borrow.Author.Needs.{needs}
-use mathlib.Core.Path.{sym, ap}
+use mathlib.Core.Path.{refl, sym, ap}
 use Rattle.report.specs.Lines.{judgeLine}
+use Rattle.report.specs.Services.{judged}
 use Rattle.report.proofs.Putting.{prints-same}
+use Rattle.report.proofs.Making.{writes-output}
 use Rattle.report.proofs.services.judge_sheet.Statement.{statement}
 use Rattle.report.proofs.services.judge_sheet.Tie as tie
 
@@ -17,8 +19,9 @@ judge-line-requires : tie.Need-judge-line-requires
 judge-line-requires c κs = search needs
 
 returns : tie.Need-returns
+unfolding judged
 returns c =
-    prints-same (ap judgeLine (sym (c .before .before .before .judge .ensures .0 .answer))) (c .judge-line .ensures)
+    writes-output _ refl (prints-same (ap judgeLine (sym (c .before .before .before .judge .ensures .0 .answer))) (c .judge-line .ensures))
 
 pub judge-sheet-spec : {M : Type 1} → statement M
 judge-sheet-spec =

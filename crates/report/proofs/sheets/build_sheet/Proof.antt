@@ -1,4 +1,4 @@
--- `report::sheets::build_sheet` meets its contract: a sheet where a sequence was built, else the refusal.
+-- `report::sheets::build_sheet` meets its contract: a sheet where a sequence was built, else the refusal's line.
 -- Assumes nothing.
 use borrow.Author.Needs.{needs}
 use native.Mathlib.Omega.{arith}
@@ -6,7 +6,12 @@ use denote.Ref.{now}
 use Prim.Native.Nat.{ℕ}
 use lib.ListN.{length-replicate}
 use Rattle.machine.specs.Limits.{mostSequence}
-use Rattle.report.proofs.Making.{answer-is, built-ready, makes-sheet, makes-nothing}
+use mathlib.Core.List.{List}
+use mathlib.Core.Path.{sym, ap}
+use Rattle.report.specs.Sheets.{withSequence}
+use Rattle.report.specs.Services.Laws.{built-clear, built-refused}
+use Rattle.report.proofs.Putting.{prints-same}
+use Rattle.report.proofs.Making.{answer-is, built-ready, writes-output, writes-error}
 use Rattle.report.proofs.sheets.build_sheet.Statement.{statement}
 use Rattle.report.proofs.sheets.build_sheet.Tie as tie
 
@@ -37,14 +42,23 @@ compose-requires c κs =
 enum-known-answer-2 : tie.Need-enum-known-answer-2
 enum-known-answer-2 c = search needs
 
+refusal-line-requires : tie.Need-refusal-line-requires
+refusal-line-requires c κs = search needs
+
 returns : tie.Need-returns
 returns c =
-    let ready = built-ready (now (c .before .before .before .before .before .before .before .before .before .before .args .sheet)) _ _ (length-replicate {A = ℕ} mostSequence 0) (c .before .before .before .before .before .before .before .build .ensures) (c .before .before .before .before .answer .given .1) in
-    makes-sheet (now (c .before .before .before .before .before .before .before .before .before .before .args .sheet)) (answer-is (length-replicate {A = ℕ} mostSequence 0) (c .before .before .before .before .before .before .before .build .ensures) (c .before .before .before .before .answer .given .1)) (ready .built) (c .compose .ensures)
+    let s = now (c .before .before .before .before .before .before .before .before .before .before .args .sheet) in
+    let build = c .before .before .before .before .before .before .before .build .ensures in
+    let answer = c .before .before .before .before .answer .given .1 in
+    let ready = built-ready s _ _ (length-replicate {A = ℕ} mostSequence 0) build answer in
+    writes-output _ (built-clear s (answer-is (length-replicate {A = ℕ} mostSequence 0) build answer))
+    (prints-same (ap (λ (l : List ℕ). withSequence s l) (sym (ready .built))) (c .compose .ensures))
 
 returns-2 : tie.Need-returns-2
 returns-2 c =
-    makes-nothing (now (c .before .before .before .before .before .before .before .args .sheet)) (answer-is (length-replicate {A = ℕ} mostSequence 0) (c .before .before .before .before .build .ensures) (c .before .answer2 .given .1))
+    let s = now (c .before .before .before .before .before .before .before .before .before .args .sheet) in
+    writes-error _ (built-refused s (answer-is (length-replicate {A = ℕ} mostSequence 0) (c .before .before .before .before .before .before .build .ensures) (c .before .before .before .answer2 .given .1)))
+    (c .refusal-line .ensures)
 
 pub build-sheet-spec : {M : Type 1} → statement M
 build-sheet-spec =
@@ -57,5 +71,6 @@ build-sheet-spec =
     slice-aggregate-compose
     compose-requires
     enum-known-answer-2
+    refusal-line-requires
     returns
     returns-2)

@@ -1,14 +1,13 @@
--- `report::sheets::compose` meets its contract: the two records, the header, the sequence.
+-- `report::sheets::compose` meets its contract: the two records, then the sequence's.
 -- Assumes nothing.
 use borrow.Author.Needs.{needs}
 use native.Mathlib.Omega.{arith}
 use denote.Ref.{now}
 use Prim.Native.Nat.{ℕ, _+_, _≤_}
-use mathlib.Core.Path.{_≡_, sym, ap, _∙_}
+use mathlib.Core.Path.{_≡_, sym}
 use lib.ListN.{length, take}
 use Rattle.sheet.specs.Format.{header}
 use Rattle.report.proofs.Making.{end-of, front-fits, parts-are}
-use Rattle.sheet.specs.Writing.Laws.{header-size}
 use Rattle.report.proofs.Putting.{puts-same, puts-append, prints-line}
 use Rattle.report.proofs.sheets.compose.Statement.{statement}
 use Rattle.report.proofs.sheets.compose.Tie as tie
@@ -16,7 +15,7 @@ use Rattle.report.proofs.sheets.compose.Tie as tie
 record-of-requires : tie.Need-record-of-requires
 record-of-requires c κs = search needs
 
--- ---- what is known of the two records and of the header
+-- ---- what is known of the two records
 abbrev started : tie.After-record-of → tie.Start
 started d = d .before .before .before
 
@@ -25,9 +24,6 @@ behind d = d .record-of .result .start + header + d .record-of .result .size
 
 front : (d : tie.After-record-of) → (length (take (behind d) (now (started d .args .sheet))) ≡ behind d) × (behind d ≤ length (now (started d .args .sheet)))
 front d = front-fits (now (started d .args .sheet)) (d .record-of .ensures) (started d .pre .0)
-
-header-long : (h : tie.After-header-of) → length (h .header-of .result) ≡ header
-header-long h = ap length (h .header-of .ensures) ∙ header-size _ (length (now (h .before .before .before .before .before .before .args .xs)))
 
 -- ---- the parts fit one behind the other
 add-behind : tie.Need-add-behind
@@ -40,38 +36,26 @@ add-behind-2 c =
     let d = c .before .before in
     omega (arith, front d .1, started d .pre .1 .0)
 
-header-of-requires : tie.Need-header-of-requires
-header-of-requires c κs = search needs
-
 slice-aggregate-put : tie.Need-slice-aggregate-put
-slice-aggregate-put c = sym (front (c .before .before .before .before) .0)
+slice-aggregate-put c = sym (front (c .before .before .before) .0)
 
 put-requires : tie.Need-put-requires
 put-requires c κs =
-    let d = c .before .before .before .before .before in
+    let d = c .before .before .before .before in
     omega (arith, front d .1, started d .pre .1 .0, front d .0)
 
-slice-aggregate-put-2 : tie.Need-slice-aggregate-put-2
-slice-aggregate-put-2 c = search needs
-
-put-requires-2 : tie.Need-put-requires-2
-put-requires-2 c κs =
-    let d = c .before .before .before .before .before .before .before .before in
-    omega (arith, front d .1, started d .pre .1 .0, c .before .before .put .ensures .ends, header-long (c .before .before .before .before .before), front d .0)
-
-put-requires-3 : tie.Need-put-requires-3
-put-requires-3 c κs =
-    let d = c .before .before .before .before .before .before .before .before .before .before in
+put-record-requires : tie.Need-put-record-requires
+put-record-requires c κs =
+    let d = c .before .before .before .before .before .before in
     let pre = started d .pre in
-    omega (arith, front d .1, pre .1 .0, pre .1 .1, c .before .before .before .before .put .ensures .ends, c .before .put2 .ensures .ends, header-long (c .before .before .before .before .before .before .before), front d .0)
+    omega (arith, front d .1, pre .1 .0, pre .1 .1, c .before .put .ensures .ends, front d .0)
 
 returns : tie.Need-returns
 returns c =
-    let d = c .before .before .before .before .before .before .before .before .before .before .before in
+    let d = c .before .before .before .before .before .before .before in
     let args = started d .args in
-    let whole = parts-are (now (args .sheet)) (now (args .xs)) (end-of (d .record-of .ensures)) (c .before .before .before .before .before .before .before .before .header-of .ensures) in
-    let both = puts-append _ _ (c .before .before .before .before .before .put .ensures) (c .before .before .put2 .ensures) in
-    prints-line _ (puts-same whole (puts-append _ _ both (c .put3 .ensures)))
+    let whole = parts-are (now (args .sheet)) (now (args .xs)) (end-of (d .record-of .ensures)) in
+    prints-line _ (puts-same whole (puts-append _ _ (c .before .before .put .ensures) (c .put-record .ensures)))
 
 pub compose-spec : {M : Type 1} → statement M
 compose-spec =
@@ -80,10 +64,7 @@ compose-spec =
     record-of-requires
     add-behind
     add-behind-2
-    header-of-requires
     slice-aggregate-put
     put-requires
-    slice-aggregate-put-2
-    put-requires-2
-    put-requires-3
+    put-record-requires
     returns)

@@ -1,0 +1,145 @@
+// Runs the program: on a sheet, with an input that it must leave alone, or
+// several times in a chain.
+
+use crate::words::Word;
+use std::ffi::OsStr;
+use std::io::{self, ErrorKind, Read, Write};
+use std::os::unix::ffi::OsStrExt;
+use std::path::Path;
+use std::process::{Child, Command, Output, Stdio};
+use std::thread::sleep;
+use std::time::{Duration, Instant};
+
+/// A run that reads nothing has to end within this time.
+pub const LIMIT: Duration = Duration::from_secs(20);
+const PAUSE: Duration = Duration::from_micros(300);
+
+/// What a run left.
+#[derive(Clone, Debug, PartialEq, Eq)]
+pub struct Printed {
+    pub output: Vec<u8>,
+    pub error: Vec<u8>,
+    pub status: Option<i32>,
+    /// How many bytes of the input are unread, where it must be left alone.
+    pub left: Option<usize>,
+}
+
+impl From<Output> for Printed {
+    fn from(ended: Output) -> Printed {
+        Printed {
+            output: ended.stdout,
+            error: ended.stderr,
+            status: ended.status.code(),
+            left: None,
+        }
+    }
+}
+
+fn command(program: &Path, words: &[Word]) -> Command {
+    let mut command = Command::new(program);
+    command
+        .args(words.iter().map(|word| OsStr::from_bytes(word)))
+        .stdout(Stdio::piped())
+        .stderr(Stdio::piped());
+    command
+}
+
+/// A run on a sheet. It may stop reading early: a broken pipe is fine.
+pub fn on_sheet(program: &Path, words: &[Word], sheet: &[u8]) -> io::Result<Printed> {
+    let mut child = command(program, words).stdin(Stdio::piped()).spawn()?;
+    if let Some(mut input) = child.stdin.take() {
+        match input.write_all(sheet) {
+            Err(error) if error.kind() != ErrorKind::BrokenPipe => return Err(error),
+            _ => {}
+        }
+    }
+    Ok(child.wait_with_output()?.into())
+}
+
+/// A run that must leave its input alone. The input, which has to fit in a
+/// pipe, stays open until the run has ended, and then the rest is counted.
+pub fn unread(
+    program: &Path,
+    words: &[Word],
+    input: &[u8],
+    limit: Duration,
+) -> io::Result<Printed> {
+    let (mut reader, mut writer) = io::pipe()?;
+    writer.write_all(input)?;
+    let mut child = command(program, words).stdin(reader.try_clone()?).spawn()?;
+    wait(&mut child, limit)?;
+    drop(writer);
+    let mut left = Vec::new();
+    reader.read_to_end(&mut left)?;
+    Ok(Printed {
+        left: Some(left.len()),
+        ..child.wait_with_output()?.into()
+    })
+}
+
+/// Waits for the end; after the time limit the run is ended and it is an error.
+fn wait(child: &mut Child, limit: Duration) -> io::Result<()> {
+    let start = Instant::now();
+    while child.try_wait()?.is_none() {
+        if start.elapsed() > limit {
+            child.kill()?;
+            child.wait()?;
+            let text = format!("had not ended after {limit:?}, its input still open");
+            return Err(io::Error::new(ErrorKind::TimedOut, text));
+        }
+        sleep(PAUSE);
+    }
+    Ok(())
+}
+
+/// Runs with one word each, all at once, the output of one being the input of
+/// the next; so only the last one's output is seen here.
+pub fn chain(program: &Path, services: &[&str]) -> io::Result<Vec<Printed>> {
+    let mut input = Stdio::null();
+    let mut children = Vec::new();
+    for (index, service) in services.iter().enumerate() {
+        let words = [service.as_bytes().to_vec()];
+        let mut child = command(program, &words).stdin(input).spawn()?;
+        input = Stdio::null();
+        if index + 1 < services.len() {
+            input = child.stdout.take().map_or(input, Stdio::from);
+        }
+        children.push(child);
+    }
+    let ended = children.into_iter().map(Child::wait_with_output);
+    ended.map(|output| Ok(output?.into())).collect()
+}
+
+#[cfg(test)]
+mod tests {
+    use super::*;
+
+    fn unread_by(program: &str, words: &[&[u8]], limit: Duration) -> io::Result<Printed> {
+        let words: Vec<Word> = words.iter().map(|word| word.to_vec()).collect();
+        unread(Path::new(program), &words, b"12345", limit)
+    }
+
+    #[test]
+    fn input_left_alone() {
+        let printed = unread_by("echo", &[b"a\xff\nb"], LIMIT).unwrap();
+        assert_eq!(printed.output, b"a\xff\nb\n");
+        assert_eq!((printed.status, printed.left), (Some(0), Some(5)));
+    }
+
+    #[test]
+    fn input_read() {
+        let printed = unread_by("head", &[b"-c", b"1"], LIMIT).unwrap();
+        assert_ne!(printed.left, Some(5));
+        let waiting = unread_by("cat", &[], Duration::from_millis(200)).unwrap_err();
+        assert_eq!(waiting.kind(), ErrorKind::TimedOut);
+    }
+
+    #[test]
+    fn sheet_and_chain() {
+        let printed = on_sheet(Path::new("cat"), &[], b"sheet").unwrap();
+        assert_eq!((printed.output, printed.left), (b"sheet".to_vec(), None));
+        let printed = chain(Path::new("echo"), &["one", "two"]).unwrap();
+        let outputs: Vec<&[u8]> = printed.iter().map(|it| it.output.as_slice()).collect();
+        assert_eq!(outputs, [&b""[..], b"two\n"]);
+    }
+}

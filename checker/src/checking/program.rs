@@ -1,0 +1,167 @@
+// The program against the model: for a sheet or for words, its output, error
+// output and exit status, and whether it left its input alone.
+
+use super::compare::Comparer;
+use super::difference::{Case, Difference};
+use super::kinds;
+use super::process::{on_sheet, unread, Printed, LIMIT};
+use crate::building::build_sheet;
+use crate::known::house_sheet;
+use crate::lines;
+use crate::machine::LONGEST_SEQUENCE;
+use crate::random::Random;
+use crate::reading::payload;
+use crate::refusal::Refusal;
+use crate::words::{service, Service, Word};
+use std::io;
+use std::path::Path;
+
+/// The program's name in its directory.
+pub const NAME: &str = "bench";
+
+/// The choices made for a sheet that goes to the program.
+fn choices(case: &Case) -> Random {
+    Random::at(case.seed, 3, case.index)
+}
+
+/// Judging, with its word or without one.
+fn judge(random: &mut Random) -> Vec<Word> {
+    match random.below(2) {
+        0 => Vec::new(),
+        _ => vec![b"judge".to_vec()],
+    }
+}
+
+impl Comparer {
+    /// Gives the sheet to the four services that take one.
+    pub fn services(&mut self, case: &Case, directory: &Path) -> Result<(), Difference> {
+        let mut random = choices(case);
+        let lines = [
+            judge(&mut random),
+            vec![b"certify".to_vec()],
+            vec![b"build".to_vec()],
+            vec![b"read".to_vec(), kinds::for_sheet(&mut random)],
+        ];
+        lines
+            .iter()
+            .try_for_each(|words| self.program(case, directory, words))
+    }
+
+    /// Gives the sheet to judging alone.
+    pub fn judging(&mut self, case: &Case, directory: &Path) -> Result<(), Difference> {
+        self.program(case, directory, &judge(&mut choices(case)))
+    }
+
+    /// One run with these words; the sheet is on standard input. Where it must
+    /// not be read, it has to fit in a pipe.
+    pub fn program(
+        &mut self,
+        case: &Case,
+        directory: &Path,
+        words: &[Word],
+    ) -> Result<(), Difference> {
+        let want = self.printed(words, &case.sheet);
+        let differs = |got: &str| {
+            let (words, want) = (spelled(words), shown(&want));
+            case.difference(&format!(
+                "{words}: the model gives {want}\nthe program {got}"
+            ))
+        };
+        let mut got = self
+            .started(&directory.join(NAME), words, &case.sheet)
+            .map_err(|error| differs(&error.to_string()))?;
+        if let Some(spoil) = self.spoil {
+            spoil.program(service(words), &mut got);
+        }
+        self.count(words, &got);
+        if got == want {
+            return Ok(());
+        }
+        Err(differs(&shown(&got)))
+    }
+
+    fn count(&mut self, words: &[Word], got: &Printed) {
+        let asked = service(words);
+        self.counts.asked(words, asked);
+        match asked {
+            Ok(Service::Build) => self.counts.built_or_refused(refusal_number(&got.error)),
+            Ok(Service::Read(_)) => self.counts.read_or_refused(refusal_number(&got.error)),
+            _ => {}
+        }
+    }
+
+    /// Runs the program in the way that the words call for.
+    fn started(&self, program: &Path, words: &[Word], sheet: &[u8]) -> io::Result<Printed> {
+        if service(words).is_ok_and(Service::takes_sheet) {
+            return on_sheet(program, words, sheet);
+        }
+        let words = self.spoil.map_or(words, |spoil| spoil.words(words));
+        unread(program, words, sheet, LIMIT)
+    }
+
+    /// What the program should print.
+    fn printed(&mut self, words: &[Word], sheet: &[u8]) -> Printed {
+        let mut marks = vec![0; LONGEST_SEQUENCE + 1];
+        match service(words) {
+            Ok(Service::Judge) => {
+                let outcome = self.certifier.verdict(sheet, &mut marks);
+                printed(lines::judged(outcome), "", None)
+            }
+            Ok(Service::Certify) => {
+                let outcome = self.certifier.certificate(sheet, &mut marks);
+                printed(lines::certified(outcome), "", None)
+            }
+            Ok(Service::Build) => bytes_or_refusal(build_sheet(sheet)),
+            Ok(Service::Read(kind)) => bytes_or_refusal(payload(sheet, kind).map(Vec::from)),
+            Ok(Service::House) => printed(house_sheet(), "", Some(sheet)),
+            Ok(Service::Help) => printed(lines::HELP, "", Some(sheet)),
+            Err(mistake) => printed("", lines::mistaken(mistake), Some(sheet)),
+        }
+    }
+}
+
+/// Both outputs, status 0, and all of the input left if it is given.
+fn printed(output: impl Into<Vec<u8>>, error: impl Into<Vec<u8>>, left: Option<&[u8]>) -> Printed {
+    Printed {
+        output: output.into(),
+        error: error.into(),
+        status: Some(0),
+        left: left.map(<[u8]>::len),
+    }
+}
+
+/// Bytes go to standard output, a refusal's line to standard error.
+fn bytes_or_refusal(outcome: Result<Vec<u8>, Refusal>) -> Printed {
+    match outcome {
+        Ok(bytes) => printed(bytes, "", None),
+        Err(refusal) => printed("", lines::refused(refusal), None),
+    }
+}
+
+/// The number in a REFUSED line, 0 if there is none.
+fn refusal_number(line: &[u8]) -> u64 {
+    let text = String::from_utf8_lossy(line);
+    let number = text
+        .strip_prefix("REFUSED ")
+        .and_then(|rest| rest.split(' ').next());
+    number.and_then(|digits| digits.parse().ok()).unwrap_or(0)
+}
+
+/// The program's name and the words, each in quotes.
+fn spelled(words: &[Word]) -> String {
+    let quoted = words
+        .iter()
+        .map(|word| format!(" \"{}\"", word.escape_ascii()));
+    format!("{NAME}{}", quoted.collect::<String>())
+}
+
+pub fn shown(printed: &Printed) -> String {
+    let left = printed.left.map(|bytes| format!(" input left {bytes}"));
+    format!(
+        "output \"{}\" error \"{}\" status {:?}{}",
+        printed.output.escape_ascii(),
+        printed.error.escape_ascii(),
+        printed.status,
+        left.unwrap_or_default()
+    )
+}

@@ -1,0 +1,40 @@
+-- The laws of the words: how many there are and the first two are enough, and of each the first 4,096 bytes.
+use Prim.Native.Nat.{ℕ, zero, suc, _+_, _≤_, _<_}
+use mathlib.Core.Path.{_≡_, refl, sym, ap, ap₂, _∙_}
+use mathlib.Core.Bool.{Bool, true, false, cond}
+use mathlib.Core.List.{List, [], _∷_, map}
+use native.Mathlib.Omega.{arith}
+use borrow.Author.Tests.{ltb-true, ltb-false, lt-ltb, ne-eqb}
+use lib.Dec.{eqb, ltb}
+use lib.ListN.{length, getD, take}
+use lib.Seq.{take-all, length-take-le}
+use Rattle.report.specs.declared.words.Mistake.the-variants.{Empty, Long}
+use Rattle.bench.specs.declared.words.Service.{Service}
+use Rattle.bench.specs.declared.words.Service.the-variants.{Wrong}
+use Rattle.bench.specs.Words.{mostBytes, unlessUnfit, alone, withKind, services, named, serviceOf, behind, wordsOf}
+
+-- ---- the number of words, and the first two of them
+pub words-are : (ws : List (List ℕ)) → serviceOf (wordsOf (length ws) (getD ws 0 []) (getD ws 1 [])) ≡ serviceOf ws
+unfolding serviceOf wordsOf behind named services alone withKind
+words-are [] = refl
+words-are (w ∷ []) = refl
+words-are (w ∷ v ∷ []) = refl
+words-are (w ∷ v ∷ u ∷ ws) = refl
+
+-- ---- the first bytes of a word, one more than a word may have
+abbrev pub cut : List ℕ → List ℕ
+cut w = take (mostBytes + 1) w
+
+too-long : (w : List ℕ) (service : Service) → mostBytes < length w → unlessUnfit w service ≡ Wrong Long
+unfolding unlessUnfit
+too-long w service l = ap₂ (λ (a b : Bool). cond a (Wrong Empty) (cond b (Wrong Long) service)) (ne-eqb (length w) 0 (λ e. omega arith)) (lt-ltb mostBytes (length w) l)
+
+-- whatever a word stands for
+cut-word : (w : List ℕ) (f : List ℕ → Service) → unlessUnfit (cut w) (f (cut w)) ≡ unlessUnfit w (f w)
+cut-word w f = go (ltb mostBytes (length w)) refl
+  where
+    go : (t : Bool) → ltb mostBytes (length w) ≡ t → unlessUnfit (cut w) (f (cut w)) ≡ unlessUnfit w (f w)
+    go true e =
+        let l = ltb-true mostBytes (length w) e in
+        too-long (cut w) (f (cut w)) (omega (arith, length-take-le (mostBytes + 1) w (omega arith))) ∙ sym (too-long w (f w) l)
+    go false e = ap (λ (u : List ℕ). unlessUnfit u (f u)) (take-all (mostBytes + 1) w (omega (arith, ltb-false mostBytes (length w) e)))

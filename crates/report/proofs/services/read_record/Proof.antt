@@ -1,0 +1,62 @@
+-- `report::services::read_record` meets its contract: what reading hands back, or the refusal.
+-- Assumes nothing.
+use borrow.Author.Needs.{needs}
+use native.Mathlib.Omega.{arith}
+use mathlib.Core.Path.{sym, ap, _∙_}
+use denote.Ref.{now}
+use lib.ListN.{length}
+use Rattle.sheet.specs.Reader.Laws.{handed-content}
+use Rattle.sheet.specs.Reader.Places.{read-short}
+use Rattle.report.specs.Services.Laws.{read-clear, read-refused}
+use Rattle.report.proofs.Putting.{puts-same, prints-line}
+use Rattle.report.proofs.Making.{writes-output, writes-error}
+use Rattle.report.proofs.services.read_record.Statement.{statement}
+use Rattle.report.proofs.services.read_record.Tie as tie
+
+refusal-requires : tie.Need-refusal-requires
+refusal-requires c κs = search needs
+
+enum-told : tie.Need-enum-told
+enum-told c = search needs
+
+read-requires : tie.Need-read-requires
+read-requires c κs = search needs
+
+put-requires : tie.Need-put-requires
+put-requires c κs =
+    let start = c .before .before .before .before .before .before in
+    let clear = read-short (start .args .kind) (now (start .args .sheet)) (sym (c .before .before .before .before .refusal .ensures) ∙ c .before .before .enum-told .given .1) in
+    let handed = handed-content _ (start .args .sheet) (c .before .read .result) (c .before .read .ensures) in
+    omega (arith, clear, ap length handed)
+
+enum-known-check : tie.Need-enum-known-check
+enum-known-check c = search needs
+
+refusal-line-requires : tie.Need-refusal-line-requires
+refusal-line-requires c κs = search needs
+
+returns : tie.Need-returns
+returns c =
+    let start = c .before .before .before .before .before .before .before in
+    let clear = sym (c .before .before .before .before .before .refusal .ensures) ∙ c .before .before .before .enum-told .given .1 in
+    let handed = handed-content _ (start .args .sheet) (c .before .before .read .result) (c .before .before .read .ensures) in
+    writes-output _ (read-clear (now (start .args .sheet)) (start .args .kind) clear) (prints-line _ (puts-same handed (c .put .ensures)))
+
+returns-2 : tie.Need-returns-2
+returns-2 c =
+    let start = c .before .before .before .before .before .before .before in
+    let refused = sym (c .before .before .before .before .before .refusal .ensures) ∙ c .before .before .before .check .given .1 in
+    writes-error _ (read-refused (now (start .args .sheet)) (start .args .kind) refused) (c .refusal-line .ensures)
+
+pub read-record-spec : {M : Type 1} → statement M
+read-record-spec =
+    tie.close
+    (tie.spec
+    refusal-requires
+    enum-told
+    read-requires
+    put-requires
+    enum-known-check
+    refusal-line-requires
+    returns
+    returns-2)

@@ -1,0 +1,49 @@
+-- `report::sheets::house_sheet` meets its contract: the machine's record, then the word's.
+-- Assumes nothing.
+use borrow.Author.Needs.{needs}
+use native.Mathlib.Omega.{arith}
+use Prim.Native.Nat.{ℕ}
+use mathlib.Core.Path.{refl, ap}
+use mathlib.Core.List.{List, _++_}
+use Rattle.sheet.specs.Writing.{recordBytes}
+use Rattle.sheet.specs.Writing.Laws.{record-size}
+use Rattle.machine.specs.House.{houseWord}
+use Rattle.report.specs.Sheets.{houseSheet}
+use Rattle.report.specs.Services.{houseShown}
+use Rattle.report.proofs.Putting.{puts-append, puts-same, prints-line}
+use Rattle.report.proofs.Making.{writes-output}
+use Rattle.report.proofs.sheets.house_sheet.Statement.{statement}
+use Rattle.report.proofs.sheets.house_sheet.Tie as tie
+
+house-payload-requires : tie.Need-house-payload-requires
+house-payload-requires c κs = search needs
+
+slice-aggregate-put-record : tie.Need-slice-aggregate-put-record
+slice-aggregate-put-record c = search needs
+
+put-record-requires : tie.Need-put-record-requires
+put-record-requires c κs = search needs
+
+slice-aggregate-put-record-2 : tie.Need-slice-aggregate-put-record-2
+slice-aggregate-put-record-2 c = search needs
+
+put-record-requires-2 : tie.Need-put-record-requires-2
+put-record-requires-2 c κs = omega (arith, c .before .before .put-record .ensures .ends, record-size 1 (c .before .before .before .before .before .house-payload .result))
+
+returns : tie.Need-returns
+unfolding houseShown houseSheet
+returns c =
+    let payload = c .before .before .before .before .before .before .house-payload in
+    writes-output houseSheet refl (prints-line houseSheet (puts-same (ap (λ (p : List ℕ). recordBytes 1 p ++ recordBytes 2 houseWord) (payload .ensures))
+    (puts-append _ _ (c .before .before .before .put-record .ensures) (c .put-record2 .ensures))))
+
+pub house-sheet-spec : {M : Type 1} → statement M
+house-sheet-spec =
+    tie.close
+    (tie.spec
+    house-payload-requires
+    slice-aggregate-put-record
+    put-record-requires
+    slice-aggregate-put-record-2
+    put-record-requires-2
+    returns)

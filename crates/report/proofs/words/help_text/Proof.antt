@@ -1,0 +1,75 @@
+-- `report::words::help_text` meets its contract: the lines, one behind the other.
+-- Assumes nothing.
+use borrow.Author.Needs.{needs}
+use Rattle.report.specs.Words.{helpText}
+use Rattle.report.proofs.Putting.{puts-append, prints-line}
+use Rattle.report.proofs.words.help_text.Statement.{statement}
+use Rattle.report.proofs.words.help_text.Tie as tie
+
+slice-aggregate-put : tie.Need-slice-aggregate-put
+slice-aggregate-put c = search needs
+
+put-requires : tie.Need-put-requires
+put-requires c κs = search needs
+
+slice-aggregate-put-2 : tie.Need-slice-aggregate-put-2
+slice-aggregate-put-2 c = search needs
+
+put-requires-2 : tie.Need-put-requires-2
+put-requires-2 c κs = search needs
+
+slice-aggregate-put-3 : tie.Need-slice-aggregate-put-3
+slice-aggregate-put-3 c = search needs
+
+put-requires-3 : tie.Need-put-requires-3
+put-requires-3 c κs = search needs
+
+slice-aggregate-put-4 : tie.Need-slice-aggregate-put-4
+slice-aggregate-put-4 c = search needs
+
+put-requires-4 : tie.Need-put-requires-4
+put-requires-4 c κs = search needs
+
+slice-aggregate-put-5 : tie.Need-slice-aggregate-put-5
+slice-aggregate-put-5 c = search needs
+
+put-requires-5 : tie.Need-put-requires-5
+put-requires-5 c κs = search needs
+
+slice-aggregate-put-6 : tie.Need-slice-aggregate-put-6
+slice-aggregate-put-6 c = search needs
+
+put-requires-6 : tie.Need-put-requires-6
+put-requires-6 c κs = search needs
+
+returns : tie.Need-returns
+unfolding helpText
+returns c =
+    prints-line helpText
+    (puts-append _ _
+    (puts-append _ _
+    (puts-append _ _
+    (puts-append _ _
+    (puts-append _ _ (c .before .before .before .before .before .before .before .before .before .before .before .before .before .before .before .put .ensures) (c .before .before .before .before .before .before .before .before .before .before .before .before .put2 .ensures))
+    (c .before .before .before .before .before .before .before .before .before .put3 .ensures))
+    (c .before .before .before .before .before .before .put4 .ensures))
+    (c .before .before .before .put5 .ensures))
+    (c .put6 .ensures))
+
+pub help-text-spec : {M : Type 1} → statement M
+help-text-spec =
+    tie.close
+    (tie.spec
+    slice-aggregate-put
+    put-requires
+    slice-aggregate-put-2
+    put-requires-2
+    slice-aggregate-put-3
+    put-requires-3
+    slice-aggregate-put-4
+    put-requires-4
+    slice-aggregate-put-5
+    put-requires-5
+    slice-aggregate-put-6
+    put-requires-6
+    returns)

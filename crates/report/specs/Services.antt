@@ -1,0 +1,42 @@
+-- What each service of the bench writes to which stream, of the bytes of its sheet. The laws stand in Services.Laws.
+use Prim.Native.Nat.{ℕ, _+_}
+use mathlib.Core.List.{List}
+use Rattle.sheet.specs.Check.{firstCause}
+use Rattle.sheet.specs.Reader.{refusalOf, content}
+use Rattle.machine.specs.Limits.{mostSequence}
+use Rattle.certify.specs.Certification.{certification}
+use Rattle.build.specs.Building.{buildCauses}
+use Rattle.judge.specs.Judging.{judgement}
+use Rattle.report.specs.declared.words.Mistake.{Mistake}
+use Rattle.report.specs.Lines.{judgeLine, certifyLine}
+use Rattle.report.specs.Words.{helpText, mistakeLine}
+use Rattle.report.specs.Sheets.{builtSheet, houseSheet}
+use Rattle.report.specs.Output.{Output, onOutput, onError, bytesUnless}
+pub mod Laws
+
+-- ---- services whose result is a line, which also tells a refusal. There is room for the marks of every sequence
+unfoldable pub judged : List ℕ → Output
+judged s = onOutput (judgeLine (judgement (mostSequence + 1) s))
+
+unfoldable pub certified : List ℕ → Output
+certified s = onOutput (certifyLine (certification (mostSequence + 1) s))
+
+-- ---- services whose result is bytes
+-- the sheet with the built sequence, with room for every sequence
+unfoldable pub built : List ℕ → Output
+built s = bytesUnless (firstCause (buildCauses mostSequence s)) (builtSheet s)
+
+-- the payload of the record of a kind, nothing added
+unfoldable pub recordRead : ℕ → List ℕ → Output
+recordRead kind s = bytesUnless (refusalOf kind s) (content kind s)
+
+-- the house unit's sheet
+unfoldable pub houseShown : Output
+houseShown = onOutput houseSheet
+
+-- ---- the words themselves
+unfoldable pub helped : Output
+helped = onOutput helpText
+
+unfoldable pub mistaken : Mistake → Output
+mistaken mistake = onError (mistakeLine mistake)

@@ -1,0 +1,21 @@
+-- The house unit's sheet carries the house unit and its word, and a sequence is built from it.
+use Prim.Native.Nat.{ℕ, _≤_}
+use mathlib.Core.Path.{_≡_, refl, ap₂, _∙_}
+use lib.ListN.{length}
+use Rattle.sheet.specs.declared.check.Check.the-variants.{Clear}
+use Rattle.sheet.specs.Check.{refusal_with_if_, _else_, firstCause}
+use Rattle.sheet.specs.Format.{recordAt, offset, end, kindOf, cause1, cause2, causeAt, onward, parseFrom, parse, parsed, ofKind, _or_, find}
+use Rattle.sheet.specs.Reader.{sheetCauses, refusalOf, part, bytes, content}
+use Rattle.sheet.specs.Writing.{headerOf}
+use Rattle.machine.specs.Machine.{machineOf}
+use Rattle.machine.specs.Causes.{machineIn}
+use Rattle.machine.specs.House.{housePayload, house, houseWord}
+use Rattle.report.specs.Sheets.{houseSheet}
+
+pub house-machine : machineIn houseSheet ≡ house
+unfolding houseSheet headerOf housePayload house machineOf machineIn content bytes part refusalOf sheetCauses firstCause _else_ refusal_with_if_ parsed parse parseFrom recordAt end kindOf cause1 cause2 causeAt onward find ofKind _or_ offset
+house-machine = refl
+
+pub house-word : content 2 houseSheet ≡ houseWord
+unfolding houseSheet headerOf housePayload content bytes part refusalOf sheetCauses firstCause _else_ refusal_with_if_ parsed parse parseFrom recordAt end kindOf cause1 cause2 causeAt onward find ofKind _or_ offset
+house-word = refl

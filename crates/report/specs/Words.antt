@@ -1,0 +1,37 @@
+-- The lines that answer the words that the bench is started with: the list of services, and what is wrong with other words. Document 01 leaves
+-- their form to us.
+use Prim.Native.Nat.{ℕ}
+use mathlib.Core.List.{List, _++_}
+use Rattle.report.specs.Text.{bytes}
+use Rattle.report.specs.declared.words.Mistake.{Mistake}
+use Rattle.report.specs.declared.words.Mistake.the-variants.{Unknown, Empty, Long, Many, Few, Kind}
+
+-- the services, a line each
+unfoldable pub helpText : List ℕ
+helpText =
+    bytes "bench, bench judge  judge the sheet on standard input: PASS, WRONG, UNFINISHED or REFUSED\n"
+    ++ bytes "bench certify       certify the sequence of the sheet on standard input: CERTIFIED, OPEN or REFUSED\n"
+    ++ bytes "bench build         build the sequence of the sheet on standard input: the sheet with it as record 3\n"
+    ++ bytes "bench read KIND     the payload of the record of that kind in the sheet on standard input\n"
+    ++ bytes "bench house         the house unit's sheet: machine and word\n"
+    ++ bytes "bench help          these lines\n"
+
+-- what is wrong with the words
+abbrev pub mistakeText : Mistake → List ℕ
+mistakeText Unknown = bytes "the first word names no service"
+mistakeText Empty = bytes "a word is empty"
+mistakeText Long = bytes "a word is longer than 4095 bytes"
+mistakeText Many = bytes "too many words for this service"
+mistakeText Few = bytes "too few words for this service"
+mistakeText Kind = bytes "KIND is not a decimal number from 0 to 65535"
+
+-- the bytes of the longest of these
+abbrev pub longestMistake : ℕ
+longestMistake = 44
+
+-- a text of what is wrong, in its line
+unfoldable pub mistakeOf : List ℕ → List ℕ
+mistakeOf text = bytes "bench: " ++ text ++ bytes "; bench help lists the services\n"
+
+abbrev pub mistakeLine : Mistake → List ℕ
+mistakeLine mistake = mistakeOf (mistakeText mistake)

@@ -1,0 +1,95 @@
+// What the bench says of the words that it is started with: its services, and what is wrong with
+// other words.
+ghost use Prim.Native.Nat.{_≤_};
+ghost use lib.ListN.{length};
+ghost use Rattle.report.specs.Printing.{Prints};
+ghost use Rattle.report.specs.Output.{Writes};
+ghost use Rattle.report.specs.Words.{longestMistake, mistakeOf, mistakeLine, helpText};
+ghost use Rattle.report.specs.Services.{helped, mistaken};
+use crate::output::OUTPUT;
+use crate::output::Written;
+use crate::pieces::put;
+
+// What is wrong: a first word that names no service, an empty word, one that is too long, too many
+// or too few words, a word that is no kind.
+pub enum Mistake {
+    Unknown,
+    Empty,
+    Long,
+    Many,
+    Few,
+    Kind,
+}
+
+// A line that says what is wrong, and where the services are listed.
+fn told(text: &[u8], out: &mut [u8; OUTPUT]) -> usize
+    requires { ⌜ length (now text) ≤ longestMistake ⌝ }
+    ensures { λ r. ⌜ Prints (mistakeOf (now (text .entry))) (now (out .entry)) (now (out .exit)) r ⌝ }
+{
+    let a = put(b"bench: ", 0, out);
+    let b = put(text, a, out);
+    put(b"; bench help lists the services\n", b, out)
+}
+
+fn mistake_line(mistake: Mistake, out: &mut [u8; OUTPUT]) -> usize
+    ensures { λ r. ⌜ Prints (mistakeLine mistake) (now (out .entry)) (now (out .exit)) r ⌝ }
+{
+    match mistake {
+        Mistake::Unknown => told(b"the first word names no service", out),
+        Mistake::Empty => told(b"a word is empty", out),
+        Mistake::Long => told(b"a word is longer than 4095 bytes", out),
+        Mistake::Many => told(b"too many words for this service", out),
+        Mistake::Few => told(b"too few words for this service", out),
+        Mistake::Kind => told(b"KIND is not a decimal number from 0 to 65535", out),
+    }
+}
+
+// Says what is wrong with the words.
+pub fn tell(mistake: Mistake, out: &mut [u8; OUTPUT]) -> Written
+    ensures { λ r. ⌜ Writes (mistaken mistake) (now (out .entry)) (now (out .exit)) r ⌝ }
+{
+    let size = mistake_line(mistake, out);
+    Written { out: 0, end: size }
+}
+
+fn help_text(out: &mut [u8; OUTPUT]) -> usize
+    ensures { λ r. ⌜ Prints helpText (now (out .entry)) (now (out .exit)) r ⌝ }
+{
+    let a = put(
+        b"bench, bench judge  judge the sheet on standard input: PASS, WRONG, UNFINISHED or REFUSED\n",
+        0,
+        out,
+    );
+    let b = put(
+        b"bench certify       certify the sequence of the sheet on standard input: CERTIFIED, OPEN or REFUSED\n",
+        a,
+        out,
+    );
+    let c = put(
+        b"bench build         build the sequence of the sheet on standard input: the sheet with it as record 3\n",
+        b,
+        out,
+    );
+    let d = put(
+        b"bench read KIND     the payload of the record of that kind in the sheet on standard input\n",
+        c,
+        out,
+    );
+    let e = put(
+        b"bench house         the house unit's sheet: machine and word\n",
+        d,
+        out,
+    );
+    put(b"bench help          these lines\n", e, out)
+}
+
+// Lists the services.
+pub fn help(out: &mut [u8; OUTPUT]) -> Written
+    ensures { λ r. ⌜ Writes helped (now (out .entry)) (now (out .exit)) r ⌝ }
+{
+    let size = help_text(out);
+    Written {
+        out: size,
+        end: size,
+    }
+}
