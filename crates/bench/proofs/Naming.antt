@@ -1,18 +1,20 @@
 -- What the words ask for, step by step as the program finds it.
 -- Assumes nothing.
 use Prim.Native.Nat.{ℕ, zero, suc, _+_, _-_, _≤_, _<_}
-use mathlib.Core.Path.{_≡_, refl, sym, ap, _∙_}
+use mathlib.Core.Path.{_≡_, refl, sym, ap, ap₂, _∙_}
 use mathlib.Core.Bool.{Bool, true, false, cond}
 use mathlib.Core.List.{List, [], _∷_}
 use native.Mathlib.Omega.{arith}
 use borrow.Author.Tests.{eq-eqb, ne-eqb, lt-ltb, le-ltb}
-use lib.ListN.{length}
+use lib.ListN.{length, length-replicate}
 use Rattle.machine.specs.Causes.{same}
 use Rattle.machine.specs.Causes.Separation.{same-refl, same-equal}
 use Rattle.report.specs.declared.words.Mistake.the-variants.{Unknown, Empty, Long, Many, Few}
+use Rattle.bench.specs.declared.words.Lookup.{Lookup}
+use Rattle.bench.specs.declared.words.Lookup.the-variants.{Found, Nothing}
 use Rattle.bench.specs.declared.words.Service.{Service}
 use Rattle.bench.specs.declared.words.Service.the-variants.{Judge, Wrong}
-use Rattle.bench.specs.Words.{mostBytes, unlessUnfit, kindIn, alone, withKind, Row, services, named, serviceOf, behind, wordsOf}
+use Rattle.bench.specs.Words.{mostBytes, unlessUnfit, services, foundOr, named, counted, serviceOf, behindFirst, wordsOf}
 
 -- ---- one word
 module _ (w : List ℕ) (service : Service) where
@@ -28,35 +30,6 @@ module _ (w : List ℕ) (service : Service) where
   unfolding unlessUnfit
   word-fit d l = rw (ne-eqb (length w) 0 d, le-ltb mostBytes (length w) l)
 
--- ---- the words behind the first
-module _ (service : Service) where
-  pub alone-none : (n : ℕ) (second : List ℕ) → n ≡ 0 → service ≡ alone service (behind n second)
-  unfolding alone behind
-  alone-none zero second e = refl
-  alone-none (suc n) second e = absurd (omega arith)
-
-  pub alone-more : (n : ℕ) (second : List ℕ) → (n ≡ 0 → ⊥) → Wrong Many ≡ alone service (behind n second)
-  unfolding alone behind
-  alone-more zero second d = absurd (d refl)
-  alone-more (suc n) second d = refl
-
-pub kind-few : (n : ℕ) (second : List ℕ) → n ≡ 0 → Wrong Few ≡ withKind (behind n second)
-unfolding withKind behind
-kind-few zero second e = refl
-kind-few (suc n) second e = absurd (omega arith)
-
-pub kind-many : (n : ℕ) (second : List ℕ) → 1 < n → Wrong Many ≡ withKind (behind n second)
-unfolding withKind behind
-kind-many zero second l = absurd (omega arith)
-kind-many (suc zero) second l = absurd (omega arith)
-kind-many (suc (suc n)) second l = refl
-
-pub kind-one : (n : ℕ) (second : List ℕ) → (n ≡ 0 → ⊥) → n ≤ 1 → unlessUnfit second (kindIn second) ≡ withKind (behind n second)
-unfolding withKind behind
-kind-one zero second d l = absurd (d refl)
-kind-one (suc zero) second d l = refl
-kind-one (suc (suc n)) second d l = absurd (omega arith)
-
 -- ---- the rows
 -- what comparing two words tells
 told-same : (r : Bool) (a b : List ℕ) → (r ≡ true → a ≡ b) × (a ≡ b → r ≡ true) → same a b ≡ r
@@ -67,25 +40,52 @@ told-same false a b h = go (same a b) refl
     go false e = e
     go true e = let z : false ≡ true = h .1 (same-equal a b e) in sym (cc)
 
-module _ (row : Row) (rows : List Row) (w : List ℕ) (ws : List (List ℕ)) {r : Bool} (h : (r ≡ true → w ≡ row .name) × (w ≡ row .name → r ≡ true)) where
-  pub row-taken : r ≡ true → named (row ∷ rows) w ws ≡ row .takes ws
-  unfolding named
-  row-taken e = rw (told-same r w (row .name) h, e)
+module _ (w name : List ℕ) (behind : ℕ) (service : Service) (other : Lookup) {r : Bool} (h : (r ≡ true → w ≡ name) × (w ≡ name → r ≡ true)) where
+  pub row-taken : r ≡ true → Found behind service ≡ foundOr w name behind service other
+  unfolding foundOr
+  row-taken e = rw (told-same r w name h, e)
 
-  pub row-passed : r ≡ false → named (row ∷ rows) w ws ≡ named rows w ws
-  unfolding named
-  row-passed e = rw (told-same r w (row .name) h, e)
+  pub row-passed : r ≡ false → other ≡ foundOr w name behind service other
+  unfolding foundOr
+  row-passed e = rw (told-same r w name h, e)
 
-pub rows-end : (w : List ℕ) (ws : List (List ℕ)) → named [] w ws ≡ Wrong Unknown
-unfolding named
-rows-end w ws = refl
+-- one row more, before what was found in the rows behind it
+pub row-on : (w name : List ℕ) (behind : ℕ) {service s : Service} {other o r : Lookup} → r ≡ foundOr w name behind service other → service ≡ s → other ≡ o
+    → r ≡ foundOr w name behind s o
+row-on w name behind e f g = e ∙ ap₂ (foundOr w name behind) f g
+
+-- ---- the words behind the name
+module _ (n behind : ℕ) (service : Service) where
+  pub count-few : n < behind → Wrong Few ≡ counted n (Found behind service)
+  unfolding counted
+  count-few l = rw (lt-ltb n behind l)
+
+  pub count-many : behind ≤ n → behind < n → Wrong Many ≡ counted n (Found behind service)
+  unfolding counted
+  count-many l m = rw (le-ltb n behind l, lt-ltb behind n m)
+
+  pub count-right : behind ≤ n → n ≤ behind → service ≡ counted n (Found behind service)
+  unfolding counted
+  count-right l m = rw (le-ltb n behind l, le-ltb behind n m)
+
+pub count-none : (n : ℕ) → Wrong Unknown ≡ counted n Nothing
+unfolding counted
+count-none n = refl
 
 -- ---- all words
 pub words-none : (given : ℕ) (first second : List ℕ) → given < 2 → Judge ≡ serviceOf (wordsOf (given - 1) first second)
 unfolding serviceOf wordsOf
 words-none given first second l = let e : given - 1 ≡ 0 = omega arith in rw e
 
-pub words-some : (given : ℕ) (first second : List ℕ) → 2 ≤ given
-    → unlessUnfit first (named services first (behind (given - 2) second)) ≡ serviceOf (wordsOf (given - 1) first second)
-unfolding serviceOf wordsOf
-words-some given first second l = let e : given - 1 ≡ suc (given - 2) = omega arith in rw e
+pub words-one : (given : ℕ) (first second : List ℕ) → given ≡ 2
+    → unlessUnfit first (counted 0 (named services first [])) ≡ serviceOf (wordsOf (given - 1) first second)
+unfolding serviceOf wordsOf behindFirst
+words-one given first second l = let e : given - 1 ≡ suc zero = omega arith in rw e
+
+pub words-more : (given : ℕ) (first second : List ℕ) → 2 < given
+    → unlessUnfit first (counted (given - 2) (named services first second)) ≡ serviceOf (wordsOf (given - 1) first second)
+unfolding serviceOf wordsOf behindFirst
+words-more given first second l =
+    let e : given - 1 ≡ suc (suc (given - 3)) = omega arith in
+    let f : given - 2 ≡ suc (given - 3) = omega arith in
+    rw (e, f, length-replicate {A = List ℕ} (given - 3) [])

@@ -4,10 +4,12 @@ use Prim.Native.String.{String}
 use mathlib.Core.Bool.{Bool, true, cond, _&&_}
 use mathlib.Core.List.{List, [], _∷_}
 use lib.Dec.{eqb, ltb, leb}
-use lib.ListN.{length, replicate}
+use lib.ListN.{length, getD, replicate}
 use Rattle.machine.specs.Causes.{same}
 use Rattle.report.specs.declared.words.Mistake.the-variants.{Unknown, Empty, Long, Many, Few, Kind}
 use Rattle.report.specs.Text.{bytes}
+use Rattle.bench.specs.declared.words.Lookup.{Lookup}
+use Rattle.bench.specs.declared.words.Lookup.the-variants.{Found, Nothing}
 use Rattle.bench.specs.declared.words.Service.{Service}
 use Rattle.bench.specs.declared.words.Service.the-variants.{Judge, Certify, Build, Read, House, Help, Wrong}
 pub mod Laws
@@ -39,61 +41,66 @@ valueFrom value (b ∷ bs) = valueFrom (10 * value + (b - 48)) bs
 abbrev pub mostKind : ℕ
 mostKind = 65535
 
--- a word that is a kind: decimal digits, at most 65535
+-- decimal digits that make at most 65535 are a kind, to be read
 unfoldable pub kindIn : List ℕ → Service
 kindIn w = cond (allDigits w && leb (valueFrom 0 w) mostKind) (Read (valueFrom 0 w)) (Wrong Kind)
 
--- ---- the words behind the first
--- a service that takes none
-unfoldable pub alone : Service → List (List ℕ) → Service
-alone service [] = service
-alone service (w ∷ ws) = Wrong Many
-
--- reading takes one, the kind
-unfoldable pub withKind : List (List ℕ) → Service
-withKind [] = Wrong Few
-withKind (w ∷ []) = unlessUnfit w (kindIn w)
-withKind (w ∷ v ∷ ws) = Wrong Many
+-- a word that is to be a kind
+unfoldable pub kindOf : List ℕ → Service
+kindOf w = unlessUnfit w (kindIn w)
 
 -- ---- the services
--- a service's name, and what the words behind it make of it
+-- a service's name, how many words stand behind it, and which service it is, by the word behind it
 pub record Row : Type 0 where
   pub name : List ℕ
-  pub takes : List (List ℕ) → Service
+  pub behind : ℕ
+  pub service : List ℕ → Service
 
-infix 75 _▹_
-abbrev pub _▹_ : String → (List (List ℕ) → Service) → Row
-name ▹ takes = record { name = bytes name; takes = takes }
+-- whatever stands behind it
+abbrev pub always : Service → List ℕ → Service
+always service w = service
+
+abbrev pub row : String → ℕ → (List ℕ → Service) → Row
+row name behind service = record { name = bytes name; behind = behind; service = service }
 
 -- one row a name
 unfoldable pub services : List Row
 services =
-    "judge" ▹ alone Judge
-    ∷ "certify" ▹ alone Certify
-    ∷ "build" ▹ alone Build
-    ∷ "read" ▹ withKind
-    ∷ "house" ▹ alone House
-    ∷ "help" ▹ alone Help
-    ∷ "--help" ▹ alone Help
-    ∷ "-h" ▹ alone Help
+    row "judge" 0 (always Judge)
+    ∷ row "certify" 0 (always Certify)
+    ∷ row "build" 0 (always Build)
+    ∷ row "read" 1 kindOf
+    ∷ row "house" 0 (always House)
+    ∷ row "help" 0 (always Help)
+    ∷ row "--help" 0 (always Help)
+    ∷ row "-h" 0 (always Help)
     ∷ []
 
--- the row whose name a word is
-unfoldable pub named : List Row → List ℕ → List (List ℕ) → Service
-named [] w ws = Wrong Unknown
-named (row ∷ rows) w ws = cond (same w (row .name)) (row .takes ws) (named rows w ws)
+-- where a word is a name: so many words behind it, and the service
+unfoldable pub foundOr : List ℕ → List ℕ → ℕ → Service → Lookup → Lookup
+foundOr w name behind service other = cond (same w name) (Found behind service) other
+
+-- the first row whose name the first word is, with the word behind it
+unfoldable pub named : List Row → List ℕ → List ℕ → Lookup
+named [] w v = Nothing
+named (r ∷ rows) w v = foundOr w (r .name) (r .behind) (r .service v) (named rows w v)
+
+-- as many words behind the name as it takes
+unfoldable pub counted : ℕ → Lookup → Service
+counted n Nothing = Wrong Unknown
+counted n (Found behind service) = cond (ltb n behind) (Wrong Few) (cond (ltb behind n) (Wrong Many) service)
 
 -- what the words ask for; without one the bench judges
 unfoldable pub serviceOf : List (List ℕ) → Service
 serviceOf [] = Judge
-serviceOf (w ∷ ws) = unlessUnfit w (named services w ws)
+serviceOf (w ∷ ws) = unlessUnfit w (counted (length ws) (named services w (getD ws 0 [])))
 
--- ---- the words as the program has them: how many there are, and the first two. Words behind these count, and are not looked at: words-are, in
+-- ---- the words as the program has them: how many there are, and the first two. Words behind these are counted, and not looked at: words-are, in
 -- Words.Laws, says that this is enough
-unfoldable pub behind : ℕ → List ℕ → List (List ℕ)
-behind zero second = []
-behind (suc n) second = second ∷ replicate n []
+unfoldable pub behindFirst : ℕ → List ℕ → List (List ℕ)
+behindFirst zero second = []
+behindFirst (suc n) second = second ∷ replicate n []
 
 unfoldable pub wordsOf : ℕ → List ℕ → List ℕ → List (List ℕ)
 wordsOf zero first second = []
-wordsOf (suc n) first second = first ∷ behind n second
+wordsOf (suc n) first second = first ∷ behindFirst n second

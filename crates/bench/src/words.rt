@@ -1,9 +1,8 @@
 // From the words that the bench is started with to the service that they ask for.
-ghost use Prim.Native.Nat.{ℕ, _-_};
+ghost use Prim.Native.Nat.{_-_};
 ghost use mathlib.Core.Path.{_≡_};
-ghost use mathlib.Core.List.{List};
-ghost use Rattle.bench.specs.Words.{kindIn, unlessUnfit, services, serviceOf, wordsOf};
-ghost use Rattle.bench.specs.Words.{alone as aloneOf, withKind, named as namedIn, behind as behindOf};
+ghost use Rattle.bench.specs.Words.{kindIn, kindOf, unlessUnfit, services, foundOr, serviceOf, wordsOf};
+ghost use Rattle.bench.specs.Words.{named as namedIn, counted as countedOf};
 use check::same;
 use report::Mistake;
 
@@ -26,6 +25,12 @@ pub enum Service {
     House,
     Help,
     Wrong { mistake: Mistake },
+}
+
+// The service that a word names, and how many words stand behind its name; or that it names none.
+pub enum Lookup {
+    Found { behind: usize, service: Service },
+    Nothing,
 }
 
 fn wrong(mistake: Mistake) -> Service
@@ -70,59 +75,62 @@ fn kind_in(word: &[u8]) -> Service
     Service::Read { kind: value as u16 }
 }
 
-// A service that takes no further word, with so many words behind its name.
-fn alone(service: Service, behind: usize) -> Service
-    ensures { λ r. ⌜ ((second : List ℕ) → r ≡ aloneOf service (behindOf behind second)) ⌝ }
+// A word that is to be a kind.
+fn kind_of(word: &[u8]) -> Service
+    ensures { λ r. ⌜ r ≡ kindOf (now (word .entry)) ⌝ }
 {
-    if behind == 0 {
-        service
+    unless_unfit(word, kind_in(word))
+}
+
+// The service with so many words behind its name where a word is that name, else the other.
+fn found_or(word: &[u8], name: &[u8], behind: usize, service: Service, other: Lookup) -> Lookup
+    ensures { λ r. ⌜ r ≡ foundOr (now (word .entry)) (now (name .entry)) behind service other ⌝ }
+{
+    if same(word, name) {
+        Lookup::Found { behind, service }
     } else {
-        wrong(Mistake::Many)
+        other
     }
 }
 
-// Reading, which takes one further word, the kind.
-fn with_kind(behind: usize, second: &[u8]) -> Service
-    ensures { λ r. ⌜ r ≡ withKind (behindOf behind (now (second .entry))) ⌝ }
+// The service that the first word names, by the word behind it.
+fn named(first: &[u8], second: &[u8]) -> Lookup
+    ensures { λ r. ⌜ r ≡ namedIn services (now (first .entry)) (now (second .entry)) ⌝ }
 {
-    if behind == 0 {
-        return wrong(Mistake::Few);
-    }
-    if 1 < behind {
-        return wrong(Mistake::Many);
-    }
-    unless_unfit(second, kind_in(second))
+    let h = found_or(first, b"-h", 0, Service::Help, Lookup::Nothing);
+    let g = found_or(first, b"--help", 0, Service::Help, h);
+    let f = found_or(first, b"help", 0, Service::Help, g);
+    let e = found_or(first, b"house", 0, Service::House, f);
+    let d = found_or(first, b"read", 1, kind_of(second), e);
+    let c = found_or(first, b"build", 0, Service::Build, d);
+    let b = found_or(first, b"certify", 0, Service::Certify, c);
+    found_or(first, b"judge", 0, Service::Judge, b)
 }
 
-// The service that the first word names, with so many words behind it.
-fn named(first: &[u8], behind: usize, second: &[u8]) -> Service
-    ensures { λ r. ⌜ r ≡ namedIn services (now (first .entry)) (behindOf behind (now (second .entry))) ⌝ }
+// The service, where as many words stand behind its name as it takes.
+fn counted(n: usize, found: Lookup) -> Service
+    ensures { λ r. ⌜ r ≡ countedOf n found ⌝ }
 {
-    if same(first, b"judge") {
-        return alone(Service::Judge, behind);
+    match found {
+        Lookup::Nothing => wrong(Mistake::Unknown),
+        Lookup::Found { behind, service } => {
+            if n < behind {
+                return wrong(Mistake::Few);
+            }
+            if behind < n {
+                return wrong(Mistake::Many);
+            }
+            service
+        }
     }
-    if same(first, b"certify") {
-        return alone(Service::Certify, behind);
-    }
-    if same(first, b"build") {
-        return alone(Service::Build, behind);
-    }
-    if same(first, b"read") {
-        return with_kind(behind, second);
-    }
-    if same(first, b"house") {
-        return alone(Service::House, behind);
-    }
-    if same(first, b"help") {
-        return alone(Service::Help, behind);
-    }
-    if same(first, b"--help") {
-        return alone(Service::Help, behind);
-    }
-    if same(first, b"-h") {
-        return alone(Service::Help, behind);
-    }
-    wrong(Mistake::Unknown)
+}
+
+// What the first word asks for, with so many words behind it.
+fn asked(first: &[u8], n: usize, second: &[u8]) -> Service
+    ensures { λ r. ⌜ r ≡ unlessUnfit (now (first .entry)) (countedOf n (namedIn services (now (first .entry)) (now (second .entry)))) ⌝ }
+{
+    let found = named(first, second);
+    unless_unfit(first, counted(n, found))
 }
 
 // What the words ask for: how many there are, the program's own name counted too, and the first two
@@ -133,6 +141,8 @@ pub fn service_of(given: usize, first: &[u8], second: &[u8]) -> Service
     if given < 2 {
         return Service::Judge;
     }
-    let service = named(first, given - 2, second);
-    unless_unfit(first, service)
+    if given == 2 {
+        return asked(first, 0, b"");
+    }
+    asked(first, given - 2, second)
 }

@@ -1,8 +1,20 @@
--- What the bench writes does not depend on an input that it does not read.
-use Prim.Native.Nat.{ℕ}
-use mathlib.Core.Path.{_≡_, refl}
+-- What the bench's output says of its words and its input: an input that is not read plays no part; wrong words give a line on standard error and
+-- nothing else; and where the words ask for judging, the identity claim as the reader of standard output has it.
+use Prim.Native.Nat.{ℕ, _+_}
+use mathlib.Core.Path.{_≡_, refl, sym, ap, subst, _∙_}
 use mathlib.Core.Bool.{false}
 use mathlib.Core.List.{List}
+use Rattle.sheet.specs.Reader.{content}
+use Rattle.machine.specs.Limits.{mostSequence}
+use Rattle.machine.specs.Causes.{machineIn}
+use Rattle.judge.specs.Unit.{Unit, ownAnswers, Renaming}
+use Rattle.judge.specs.Judging.{judgement}
+use Rattle.report.specs.declared.words.Mistake.{Mistake}
+use Rattle.report.specs.Lines.{passLine, judgeLine}
+use Rattle.report.specs.Lines.Identity.{Passing, line-identity}
+use Rattle.report.specs.Words.{mistakeLine}
+use Rattle.report.specs.Output.{Output, onOutput, onError}
+use Rattle.report.specs.Services.Laws.{judged-line, mistake-told}
 use Rattle.bench.specs.declared.words.Service.{Service}
 use Rattle.bench.specs.declared.words.Service.the-variants.{Judge, Certify, Build, Read, House, Help, Wrong}
 use Rattle.bench.specs.Words.{serviceOf}
@@ -17,6 +29,25 @@ unread-service House s t e = refl
 unread-service Help s t e = refl
 unread-service (Wrong mistake) s t e = refl
 
-pub unread : (words : List (List ℕ)) (s t : List ℕ) → readsSheet (serviceOf words) ≡ false → bench words s ≡ bench words t
-unfolding bench
-unread words s t e = unread-service (serviceOf words) s t e
+module _ (words : List (List ℕ)) (s : List ℕ) where
+  pub unread : readsSheet (serviceOf words) ≡ false → (t : List ℕ) → bench words s ≡ bench words t
+  unfolding bench
+  unread e t = unread-service (serviceOf words) s t e
+
+  pub wrong-words : {mistake : Mistake} → serviceOf words ≡ Wrong mistake → bench words s ≡ onError (mistakeLine mistake)
+  unfolding bench
+  wrong-words {mistake} e = ap (λ (service : Service). output service s) e ∙ mistake-told mistake
+
+  judge-words : serviceOf words ≡ Judge → bench words s ≡ onOutput (judgeLine (judgement (mostSequence + 1) s))
+  unfolding bench
+  judge-words e = ap (λ (service : Service). output service s) e ∙ judged-line s
+
+  -- whatever the unit, if standard output begins as a pass does and the answers judged are the unit's own, it is the line of a pass with some end
+  -- state, and there is a renaming, which gives the unit's present state to that end state
+  pub judge-identity : serviceOf words ≡ Judge → (U : Unit (machineIn s .n) (machineIn s .k)) → Passing (bench words s .out)
+      → content 4 s ≡ ownAnswers (machineIn s .n) (machineIn s .k) U (content 3 s)
+      → (size : ℕ) × (end : ℕ) × (bench words s .out ≡ passLine size end) × Renaming (machineIn s) U (content 3 s) end
+  judge-identity e U passing own =
+      let line = ap (λ (o : Output). o .out) (judge-words e) in
+      let h = line-identity (mostSequence + 1) s U (subst Passing line passing) own in
+      (h .0, h .1, line ∙ h .2, h .3)

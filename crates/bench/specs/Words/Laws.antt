@@ -1,25 +1,30 @@
--- The laws of the words: how many there are and the first two are enough, and of each the first 4,096 bytes.
-use Prim.Native.Nat.{ℕ, zero, suc, _+_, _≤_, _<_}
+-- The laws of the words: how many there are and the first two of them are enough, and of these the first 4,096 bytes.
+use Prim.Native.Nat.{ℕ, zero, suc, _+_, _<_}
 use mathlib.Core.Path.{_≡_, refl, sym, ap, ap₂, _∙_}
 use mathlib.Core.Bool.{Bool, true, false, cond}
-use mathlib.Core.List.{List, [], _∷_, map}
+use mathlib.Core.List.{List, [], _∷_}
 use native.Mathlib.Omega.{arith}
 use borrow.Author.Tests.{ltb-true, ltb-false, lt-ltb, ne-eqb}
-use lib.Dec.{eqb, ltb}
-use lib.ListN.{length, getD, take}
+use lib.Dec.{ltb}
+use lib.ListN.{length, getD, take, length-replicate}
 use lib.Seq.{take-all, length-take-le}
 use Rattle.report.specs.declared.words.Mistake.the-variants.{Empty, Long}
+use Rattle.bench.specs.declared.words.Lookup.{Lookup}
 use Rattle.bench.specs.declared.words.Service.{Service}
 use Rattle.bench.specs.declared.words.Service.the-variants.{Wrong}
-use Rattle.bench.specs.Words.{mostBytes, unlessUnfit, alone, withKind, services, named, serviceOf, behind, wordsOf}
+use Rattle.bench.specs.Words.{mostBytes, unlessUnfit, kindIn, kindOf, services, named, counted, serviceOf, behindFirst, wordsOf}
 
 -- ---- the number of words, and the first two of them
+pub behind-length : (n : ℕ) (second : List ℕ) → length (behindFirst n second) ≡ n
+unfolding behindFirst
+behind-length zero second = refl
+behind-length (suc n) second = ap suc (length-replicate {A = List ℕ} n [])
+
 pub words-are : (ws : List (List ℕ)) → serviceOf (wordsOf (length ws) (getD ws 0 []) (getD ws 1 [])) ≡ serviceOf ws
-unfolding serviceOf wordsOf behind named services alone withKind
+unfolding serviceOf wordsOf behindFirst
 words-are [] = refl
 words-are (w ∷ []) = refl
-words-are (w ∷ v ∷ []) = refl
-words-are (w ∷ v ∷ u ∷ ws) = refl
+words-are (w ∷ v ∷ ws) = ap (λ (n : ℕ). unlessUnfit w (counted (suc n) (named services w v))) (length-replicate {A = List ℕ} (length ws) [])
 
 -- ---- the first bytes of a word, one more than a word may have
 abbrev pub cut : List ℕ → List ℕ
@@ -38,3 +43,20 @@ cut-word w f = go (ltb mostBytes (length w)) refl
         let l = ltb-true mostBytes (length w) e in
         too-long (cut w) (f (cut w)) (omega (arith, length-take-le (mostBytes + 1) w (omega arith))) ∙ sym (too-long w (f w) l)
     go false e = ap (λ (u : List ℕ). unlessUnfit u (f u)) (take-all (mostBytes + 1) w (omega (arith, ltb-false mostBytes (length w) e)))
+
+cut-kind : (w : List ℕ) → kindOf (cut w) ≡ kindOf w
+unfolding kindOf
+cut-kind w = cut-word w kindIn
+
+cut-named : (w v : List ℕ) → named services w (cut v) ≡ named services w v
+unfolding named services
+cut-named w v = rw (cut-kind v)
+
+pub words-cut : (n : ℕ) (first second : List ℕ) → serviceOf (wordsOf n (cut first) (cut second)) ≡ serviceOf (wordsOf n first second)
+unfolding serviceOf wordsOf behindFirst
+words-cut zero first second = refl
+words-cut (suc zero) first second = cut-word first (λ w. counted 0 (named services w []))
+words-cut (suc (suc n)) first second =
+    let m = length (behindFirst (suc n) second) in
+    cut-word first (λ w. counted m (named services w (cut second)))
+    ∙ ap (λ (found : Lookup). unlessUnfit first (counted m found)) (cut-named first second)

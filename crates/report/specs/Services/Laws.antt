@@ -1,6 +1,6 @@
--- The laws of the services whose result is bytes: what they write where nothing is refused, and where something is.
-use Prim.Native.Nat.{ℕ}
-use mathlib.Core.Path.{_≡_, ap}
+-- The laws of the services: what is written where nothing is refused, and where something is.
+use Prim.Native.Nat.{ℕ, _+_}
+use mathlib.Core.Path.{_≡_, refl, ap}
 use mathlib.Core.List.{List}
 use Rattle.sheet.specs.declared.check.Check.{Check}
 use Rattle.sheet.specs.declared.check.Check.the-variants.{Clear, Refused}
@@ -9,12 +9,19 @@ use Rattle.machine.specs.Limits.{mostSequence}
 use Rattle.build.specs.declared.service.Answer.the-variants.{Built, Refused as RefusedAnswer}
 use Rattle.build.specs.Building.{building}
 use Rattle.build.specs.Building.Service.{answer-built, answer-refused}
-use Rattle.report.specs.Lines.{refusalLine}
+use Rattle.judge.specs.Judging.{judgement}
+use Rattle.report.specs.declared.words.Mistake.{Mistake}
+use Rattle.report.specs.Lines.{refusalLine, judgeLine}
+use Rattle.report.specs.Words.{mistakeLine}
 use Rattle.report.specs.Sheets.{builtSheet}
 use Rattle.report.specs.Output.{onOutput, onError, bytesUnless}
-use Rattle.report.specs.Services.{built, recordRead}
+use Rattle.report.specs.Services.{judged, built, recordRead, mistaken}
 
 module _ (s : List ℕ) where
+  pub judged-line : judged s ≡ onOutput (judgeLine (judgement (mostSequence + 1) s))
+  unfolding judged
+  judged-line = refl
+
   pub built-clear : {n : ℕ} → building mostSequence s ≡ Built n → built s ≡ onOutput (builtSheet s)
   unfolding built
   built-clear e = ap (λ (c : Check). bytesUnless c (builtSheet s)) (answer-built mostSequence s e .0)
@@ -30,3 +37,7 @@ module _ (s : List ℕ) where
   pub read-refused : (kind : ℕ) {number place : ℕ} → refusalOf kind s ≡ Refused number place → recordRead kind s ≡ onError (refusalLine number place)
   unfolding recordRead
   read-refused kind e = ap (λ (c : Check). bytesUnless c (content kind s)) e
+
+pub mistake-told : (mistake : Mistake) → mistaken mistake ≡ onError (mistakeLine mistake)
+unfolding mistaken
+mistake-told mistake = refl

@@ -1,10 +1,9 @@
--- `bench::words::service_of` meets its contract: without a word it judges, else the first word names the service.
+-- `bench::words::service_of` meets its contract: no word, one, or more.
 -- Assumes nothing.
 use borrow.Author.Needs.{needs}
-use mathlib.Core.Path.{ap, _∙_}
+use mathlib.Core.Path.{_∙_}
 use denote.Ref.{now}
-use Rattle.bench.specs.Words.{unlessUnfit}
-use Rattle.bench.proofs.Naming.{words-none, words-some}
+use Rattle.bench.proofs.Naming.{words-none, words-one, words-more}
 use Rattle.bench.proofs.words.service_of.Statement.{statement}
 use Rattle.bench.proofs.words.service_of.Tie as tie
 
@@ -13,18 +12,26 @@ returns c =
     let args = c .before .before .before .args in
     words-none (args .given) (now (args .first)) (now (args .second)) (c .if1 .taken)
 
-named-requires : tie.Need-named-requires
-named-requires c κs = search needs
+slice-aggregate-asked : tie.Need-slice-aggregate-asked
+slice-aggregate-asked c = search needs
 
-unless-unfit-requires : tie.Need-unless-unfit-requires
-unless-unfit-requires c κs = search needs
+asked-requires : tie.Need-asked-requires
+asked-requires c κs = search needs
 
 returns-2 : tie.Need-returns-2
 returns-2 c =
+    let args = c .before .before .before .before .before .before .args in
+    c .asked .ensures ∙ words-one (args .given) (now (args .first)) (now (args .second)) (c .before .before .if2 .taken)
+
+asked-requires-2 : tie.Need-asked-requires-2
+asked-requires-2 c κs = search needs
+
+returns-3 : tie.Need-returns-3
+returns-3 c =
     let args = c .before .before .before .before .before .args in
-    c .unless-unfit .ensures
-    ∙ ap (unlessUnfit (now (args .first))) (c .before .named .ensures)
-    ∙ words-some (args .given) (now (args .first)) (now (args .second)) (c .before .before .if1 .left)
+    c .asked2 .ensures ∙ words-more (args .given) (now (args .first)) (now (args .second)) (search needs)
 
 pub service-of-spec : {M : Type 1} → statement M
-service-of-spec = tie.close (tie.spec returns named-requires unless-unfit-requires returns-2)
+service-of-spec =
+    tie.close
+    (tie.spec returns slice-aggregate-asked asked-requires returns-2 asked-requires-2 returns-3)
