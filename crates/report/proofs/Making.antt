@@ -6,7 +6,6 @@ use mathlib.Core.List.{List, _++_, append-nil}
 use native.Mathlib.Omega.{arith}
 use lib.ListN.{length, take, length-take}
 use lib.Seq.{length-take-le}
-use Rattle.io.specs.Counts.{Counts}
 use Rattle.sheet.specs.declared.record.Record.{Record}
 use Rattle.sheet.specs.Format.{longest, header, end}
 use Rattle.sheet.specs.Format.Laws.{end-size}
@@ -18,13 +17,12 @@ use Rattle.machine.specs.Causes.{machineIn}
 use Rattle.machine.specs.Causes.Lists.{load-word}
 use Rattle.machine.specs.Causes.Places.{load-short}
 use Rattle.build.specs.declared.service.Answer.{Answer}
-use Rattle.build.specs.declared.service.Answer.the-variants.{Built, Refused as RefusedAnswer}
+use Rattle.build.specs.declared.service.Answer.the-variants.{Built}
 use Rattle.build.specs.Sequence.{sequence}
 use Rattle.build.specs.Building.{buildNeeds, building, Builds}
 use Rattle.build.specs.Building.Service.{load-clear, answer-built, built-shows, built-buffer}
-use Rattle.report.specs.declared.output.Written.{Written}
 use Rattle.report.specs.Printing.{Prints}
-use Rattle.report.specs.Sheets.{withSequence, builtSheet}
+use Rattle.report.specs.Sheets.{withSequence}
 use Rattle.report.specs.Output.{Output, onOutput, onError, Writes}
 
 -- ---- the place behind a record

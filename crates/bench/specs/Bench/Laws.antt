@@ -1,7 +1,7 @@
 -- What the bench's output says of its words and its input: an input that is not read plays no part; wrong words give a line on standard error and
 -- nothing else; and where the words ask for judging, the identity claim as the reader of standard output has it.
 use Prim.Native.Nat.{ℕ, _+_}
-use mathlib.Core.Path.{_≡_, refl, sym, ap, subst, _∙_}
+use mathlib.Core.Path.{_≡_, refl, ap, subst, _∙_}
 use mathlib.Core.Bool.{false}
 use mathlib.Core.List.{List}
 use Rattle.sheet.specs.Reader.{content}

@@ -15,7 +15,7 @@ use Rattle.sheet.specs.Format.{recordAt, offset, end, kindOf, cause1, cause2, c
 use Rattle.sheet.specs.Reader.{sheetCauses, when, needed, refusalOf, the, part, bytes, content}
 use Rattle.sheet.specs.Writing.{written}
 use Rattle.machine.specs.House.{housePayload, house, houseWord}
-use Rattle.machine.specs.Machine.{Mealy, machineOf, run, answers}
+use Rattle.machine.specs.Machine.{machineOf, run, answers}
 use Rattle.machine.specs.Causes.{cause3, cause4, commandsCause, cause6, machineIn, machineCauses, wordCauses, loadCauses}
 use Rattle.certify.specs.Marks.Twin.{twin, single}
 use Rattle.certify.specs.declared.answer.Answer.the-variants.{Certified}

@@ -9,7 +9,6 @@ use lib.Dec.{eqb}
 use lib.ListN.{length, getD}
 use borrow.Author.Tests.{eqb-true}
 use Rattle.sheet.specs.Tests.{both-true}
-use Rattle.machine.specs.declared.house.Entry.{Entry}
 use Rattle.machine.specs.Machine.{pairAt, machineOf}
 use Rattle.machine.specs.House.{houseEntry, housePayload, house}
 

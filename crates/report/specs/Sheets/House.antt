@@ -1,8 +1,5 @@
--- The house unit's sheet carries the house unit and its word, and a sequence is built from it.
-use Prim.Native.Nat.{ℕ, _≤_}
-use mathlib.Core.Path.{_≡_, refl, ap₂, _∙_}
-use lib.ListN.{length}
-use Rattle.sheet.specs.declared.check.Check.the-variants.{Clear}
+-- The house unit's sheet carries the house unit and its word: computed from the definitions, of the sheet's bytes.
+use mathlib.Core.Path.{_≡_, refl}
 use Rattle.sheet.specs.Check.{refusal_with_if_, _else_, firstCause}
 use Rattle.sheet.specs.Format.{recordAt, offset, end, kindOf, cause1, cause2, causeAt, onward, parseFrom, parse, parsed, ofKind, _or_, find}
 use Rattle.sheet.specs.Reader.{sheetCauses, refusalOf, part, bytes, content}

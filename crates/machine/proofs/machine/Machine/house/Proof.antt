@@ -1,7 +1,7 @@
 -- `machine::machine::Machine::house` meets its contract: the house unit's record is loaded whole.
 -- Assumes nothing.
 use borrow.Author.Needs.{needs}
-use mathlib.Core.Path.{ap, _∙_}
+use mathlib.Core.Path.{_∙_}
 use Rattle.machine.proofs.HouseTable.{house-loaded}
 use Rattle.machine.proofs.machine.Machine.house.Statement.{statement}
 use Rattle.machine.proofs.machine.Machine.house.Tie as tie
