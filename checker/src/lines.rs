@@ -7,12 +7,12 @@ use crate::words::Mistake;
 
 /// What `bench help` writes.
 pub const HELP: &str = "\
-bench, bench judge  judge the sheet on standard input: PASS, WRONG, UNFINISHED or REFUSED
-bench certify       certify the sequence of the sheet on standard input: CERTIFIED, OPEN or REFUSED
-bench build         build the sequence of the sheet on standard input: the sheet with it as record 3
-bench read KIND     the payload of the record of that kind in the sheet on standard input
-bench house         the house unit's sheet: machine and word
-bench help          these lines
+bench, bench judge      judge the sheet on standard input: PASS, WRONG, UNFINISHED or REFUSED
+bench certify           certify the sequence of the sheet on standard input: CERTIFIED, OPEN or REFUSED
+bench build             build the sequence of the sheet on standard input: the sheet with it as record 3
+bench read KIND         read the sheet on standard input: the payload of record 1 machine, 2 word, 3 sequence, 4 answers
+bench house             the house unit's sheet: machine and word
+bench help, --help, -h  these lines
 ";
 
 /// The line of wrong words.

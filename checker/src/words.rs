@@ -56,11 +56,11 @@ impl Mistake {
     /// What the program's line says.
     pub fn phrase(self) -> &'static str {
         match self {
-            Mistake::FirstEmpty | Mistake::KindEmpty => "a word is empty",
-            Mistake::FirstLong | Mistake::KindLong => "a word is longer than 4095 bytes",
-            Mistake::NoService => "the first word names no service",
-            Mistake::TooMany => "too many words for this service",
-            Mistake::TooFew => "too few words for this service",
+            Mistake::FirstEmpty | Mistake::KindEmpty => "an argument is empty",
+            Mistake::FirstLong | Mistake::KindLong => "an argument is longer than 4095 bytes",
+            Mistake::NoService => "the first argument names no service",
+            Mistake::TooMany => "too many arguments for this service",
+            Mistake::TooFew => "too few arguments for this service",
             Mistake::NoKind => "KIND is not a decimal number from 0 to 65535",
         }
     }

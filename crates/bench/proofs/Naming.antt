@@ -13,7 +13,8 @@ use Rattle.report.specs.declared.words.Mistake.the-variants.{Unknown, Empty, Lo
 use Rattle.bench.specs.declared.words.Lookup.{Lookup}
 use Rattle.bench.specs.declared.words.Lookup.the-variants.{Found, Nothing}
 use Rattle.bench.specs.declared.words.Service.{Service}
-use Rattle.bench.specs.declared.words.Service.the-variants.{Judge, Wrong}
+use Rattle.bench.specs.declared.words.Service.the-variants.{Wrong, OnSheet}
+use Rattle.bench.specs.declared.words.SheetService.the-variants.{Judge}
 use Rattle.bench.specs.Words.{mostBytes, unlessUnfit, services, foundOr, named, counted, serviceOf, behindFirst, wordsOf}
 
 -- ---- one word
@@ -73,19 +74,26 @@ unfolding counted
 count-none n = refl
 
 -- ---- all words
-pub words-none : (given : ℕ) (first second : List ℕ) → given < 2 → Judge ≡ serviceOf (wordsOf (given - 1) first second)
+pub words-none : (n : ℕ) (first second : List ℕ) → n ≡ 0 → OnSheet Judge ≡ serviceOf (wordsOf n first second)
 unfolding serviceOf wordsOf
-words-none given first second l = let e : given - 1 ≡ 0 = omega arith in rw e
+words-none n first second e = rw e
 
-pub words-one : (given : ℕ) (first second : List ℕ) → given ≡ 2
-    → unlessUnfit first (counted 0 (named services first [])) ≡ serviceOf (wordsOf (given - 1) first second)
+pub words-one : (n : ℕ) (first second : List ℕ) → n ≡ 1 → unlessUnfit first (counted 0 (named services first [])) ≡ serviceOf (wordsOf n first second)
 unfolding serviceOf wordsOf behindFirst
-words-one given first second l = let e : given - 1 ≡ suc zero = omega arith in rw e
+words-one n first second e = rw e
 
-pub words-more : (given : ℕ) (first second : List ℕ) → 2 < given
-    → unlessUnfit first (counted (given - 2) (named services first second)) ≡ serviceOf (wordsOf (given - 1) first second)
+words-at : (m : ℕ) (first second : List ℕ) → unlessUnfit first (counted (suc m) (named services first second)) ≡ serviceOf (wordsOf (suc (suc m)) first second)
 unfolding serviceOf wordsOf behindFirst
-words-more given first second l =
-    let e : given - 1 ≡ suc (suc (given - 3)) = omega arith in
-    let f : given - 2 ≡ suc (given - 3) = omega arith in
-    rw (e, f, length-replicate {A = List ℕ} (given - 3) [])
+words-at m first second = ap (λ (n : ℕ). unlessUnfit first (counted (suc n) (named services first second))) (sym (length-replicate {A = List ℕ} m []))
+
+pub words-more : (n : ℕ) (first second : List ℕ) → 1 < n → unlessUnfit first (counted (n - 1) (named services first second)) ≡ serviceOf (wordsOf n first second)
+words-more n first second l =
+    ap (λ (k : ℕ). unlessUnfit first (counted k (named services first second))) (omega arith)
+    ∙ words-at (n - 2) first second
+    ∙ ap (λ (k : ℕ). serviceOf (wordsOf k first second)) (omega arith)
+
+-- neither none nor one
+pub more : (n : ℕ) → (n ≡ 0 → ⊥) → (n ≡ 1 → ⊥) → 1 < n
+more zero d e = absurd (d refl)
+more (suc zero) d e = absurd (e refl)
+more (suc (suc n)) d e = omega arith

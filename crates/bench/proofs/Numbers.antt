@@ -12,12 +12,13 @@ use lib.ListN.{length, getD, drop}
 use lib.Seq.{drop-cons, drop-length}
 use Rattle.report.specs.declared.words.Mistake.the-variants.{Kind}
 use Rattle.bench.specs.declared.words.Service.{Service}
-use Rattle.bench.specs.declared.words.Service.the-variants.{Read, Wrong}
+use Rattle.bench.specs.declared.words.Service.the-variants.{Wrong, OnSheet}
+use Rattle.bench.specs.declared.words.SheetService.the-variants.{Read}
 use Rattle.bench.specs.Words.{isDigit, allDigits, valueFrom, mostKind, kindIn}
 
 -- what more digits stand for, behind digits of this value
 unfoldable pub kindFrom : ℕ → List ℕ → Service
-kindFrom value w = cond (allDigits w && leb (valueFrom value w) mostKind) (Read (valueFrom value w)) (Wrong Kind)
+kindFrom value w = cond (allDigits w && leb (valueFrom value w) mostKind) (OnSheet (Read (valueFrom value w))) (Wrong Kind)
 
 pub kind-start : (w : List ℕ) → kindFrom 0 w ≡ kindIn w
 unfolding kindFrom kindIn
@@ -37,15 +38,15 @@ and-false false = refl
 pub kind-above : (value : ℕ) (w : List ℕ) → mostKind < value → kindFrom value w ≡ Wrong Kind
 unfolding kindFrom
 kind-above value w l =
-    ap (λ (b : Bool). cond b (Read (valueFrom value w)) (Wrong Kind))
+    ap (λ (b : Bool). cond b (OnSheet (Read (valueFrom value w))) (Wrong Kind))
     (ap (λ (b : Bool). allDigits w && b) (lt-leb (valueFrom value w) mostKind (omega (arith, grows value w))) ∙ and-false (allDigits w))
 
 -- no more digits
-kind-none : (value : ℕ) → value ≤ mostKind → kindFrom value [] ≡ Read value
+kind-none : (value : ℕ) → value ≤ mostKind → kindFrom value [] ≡ OnSheet (Read value)
 unfolding kindFrom allDigits valueFrom
-kind-none value l = ap (λ (b : Bool). cond b (Read value) (Wrong Kind)) (le-leb value mostKind l)
+kind-none value l = ap (λ (b : Bool). cond b (OnSheet (Read value)) (Wrong Kind)) (le-leb value mostKind l)
 
-pub kind-end : (value i : ℕ) (w : List ℕ) → value ≤ mostKind → length w ≤ i → i ≤ length w → kindFrom value (drop i w) ≡ Read value
+pub kind-end : (value i : ℕ) (w : List ℕ) → value ≤ mostKind → length w ≤ i → i ≤ length w → kindFrom value (drop i w) ≡ OnSheet (Read value)
 kind-end value i w l m k =
     let e : i ≡ length w = omega arith in
     ap (λ (n : ℕ). kindFrom value (drop n w)) e ∙ ap (kindFrom value) (drop-length w) ∙ kind-none value l

@@ -6,29 +6,33 @@ use mathlib.Core.List.{List}
 use Rattle.report.specs.Output.{Output}
 use Rattle.report.specs.Services.{judged, certified, built, recordRead, houseShown, helped, mistaken}
 use Rattle.bench.specs.declared.words.Service.{Service}
-use Rattle.bench.specs.declared.words.Service.the-variants.{Judge, Certify, Build, Read, House, Help, Wrong}
+use Rattle.bench.specs.declared.words.Service.the-variants.{Wrong, OnSheet, House, Help}
+use Rattle.bench.specs.declared.words.SheetService.{SheetService}
+use Rattle.bench.specs.declared.words.SheetService.the-variants.{Judge, Certify, Build, Read}
 use Rattle.bench.specs.Words.{serviceOf}
 pub mod Laws
+pub mod Input
 
--- what a service writes, of a sheet
+-- what a service on a sheet writes
+abbrev pub sheetOutput : SheetService → List ℕ → Output
+sheetOutput Judge s = judged s
+sheetOutput Certify s = certified s
+sheetOutput Build s = built s
+sheetOutput (Read kind) s = recordRead kind s
+
+-- what a service writes, of the bytes on standard input
 abbrev pub output : Service → List ℕ → Output
-output Judge s = judged s
-output Certify s = certified s
-output Build s = built s
-output (Read kind) s = recordRead kind s
+output (Wrong mistake) s = mistaken mistake
+output (OnSheet service) s = sheetOutput service s
 output House s = houseShown
 output Help s = helped
-output (Wrong mistake) s = mistaken mistake
 
 -- whether a service reads standard input: the others write the same whatever stands there (unread, in Bench.Laws)
 abbrev pub readsSheet : Service → Bool
-readsSheet Judge = true
-readsSheet Certify = true
-readsSheet Build = true
-readsSheet (Read kind) = true
+readsSheet (Wrong mistake) = false
+readsSheet (OnSheet service) = true
 readsSheet House = false
 readsSheet Help = false
-readsSheet (Wrong mistake) = false
 
 -- what the bench writes
 unfoldable pub bench : List (List ℕ) → List ℕ → Output

@@ -11,7 +11,8 @@ use Rattle.report.specs.Text.{bytes}
 use Rattle.bench.specs.declared.words.Lookup.{Lookup}
 use Rattle.bench.specs.declared.words.Lookup.the-variants.{Found, Nothing}
 use Rattle.bench.specs.declared.words.Service.{Service}
-use Rattle.bench.specs.declared.words.Service.the-variants.{Judge, Certify, Build, Read, House, Help, Wrong}
+use Rattle.bench.specs.declared.words.Service.the-variants.{Wrong, OnSheet, House, Help}
+use Rattle.bench.specs.declared.words.SheetService.the-variants.{Judge, Certify, Build, Read}
 pub mod Laws
 
 -- ---- one word
@@ -43,7 +44,7 @@ mostKind = 65535
 
 -- decimal digits that make at most 65535 are a kind, to be read
 unfoldable pub kindIn : List ℕ → Service
-kindIn w = cond (allDigits w && leb (valueFrom 0 w) mostKind) (Read (valueFrom 0 w)) (Wrong Kind)
+kindIn w = cond (allDigits w && leb (valueFrom 0 w) mostKind) (OnSheet (Read (valueFrom 0 w))) (Wrong Kind)
 
 -- a word that is to be a kind
 unfoldable pub kindOf : List ℕ → Service
@@ -63,24 +64,29 @@ always service w = service
 abbrev pub row : String → ℕ → (List ℕ → Service) → Row
 row name behind service = record { name = bytes name; behind = behind; service = service }
 
+infixl 20 _and_
+-- one row more
+abbrev pub _and_ : List Row → Row → List Row
+rows and r = r ∷ rows
+
 -- one row a name
 unfoldable pub services : List Row
 services =
-    row "judge" 0 (always Judge)
-    ∷ row "certify" 0 (always Certify)
-    ∷ row "build" 0 (always Build)
-    ∷ row "read" 1 kindOf
-    ∷ row "house" 0 (always House)
-    ∷ row "help" 0 (always Help)
-    ∷ row "--help" 0 (always Help)
-    ∷ row "-h" 0 (always Help)
-    ∷ []
+    []
+    and row "judge" 0 (always (OnSheet Judge))
+    and row "certify" 0 (always (OnSheet Certify))
+    and row "build" 0 (always (OnSheet Build))
+    and row "read" 1 kindOf
+    and row "house" 0 (always House)
+    and row "help" 0 (always Help)
+    and row "--help" 0 (always Help)
+    and row "-h" 0 (always Help)
 
 -- where a word is a name: so many words behind it, and the service
 unfoldable pub foundOr : List ℕ → List ℕ → ℕ → Service → Lookup → Lookup
 foundOr w name behind service other = cond (same w name) (Found behind service) other
 
--- the first row whose name the first word is, with the word behind it
+-- the row whose name the first word is, with the word behind it
 unfoldable pub named : List Row → List ℕ → List ℕ → Lookup
 named [] w v = Nothing
 named (r ∷ rows) w v = foundOr w (r .name) (r .behind) (r .service v) (named rows w v)
@@ -92,7 +98,7 @@ counted n (Found behind service) = cond (ltb n behind) (Wrong Few) (cond (ltb be
 
 -- what the words ask for; without one the bench judges
 unfoldable pub serviceOf : List (List ℕ) → Service
-serviceOf [] = Judge
+serviceOf [] = OnSheet Judge
 serviceOf (w ∷ ws) = unlessUnfit w (counted (length ws) (named services w (getD ws 0 [])))
 
 -- ---- the words as the program has them: how many there are, and the first two. Words behind these are counted, and not looked at: words-are, in

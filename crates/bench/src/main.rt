@@ -3,6 +3,8 @@
 mod services;
 mod words;
 
+ghost use Prim.Native.Nat.{_-_};
+ghost use mathlib.Core.Path.{_≡_};
 use report::INPUT;
 use report::OUTPUT;
 use services::bench;
@@ -15,9 +17,9 @@ use streams::write_output;
 use words::WORD_BUFFER;
 
 // Writes what the bench answers to its words and a sheet.
-fn answer(given: usize, first: &[u8], second: &[u8], sheet: &[u8]) {
+fn answer(count: usize, first: &[u8], second: &[u8], sheet: &[u8]) {
     let mut bytes = [0u8; OUTPUT];
-    let written = bench(given, first, second, sheet, &mut bytes);
+    let written = bench(count, first, second, sheet, &mut bytes);
     let out = written.out;
     let end = written.end;
     write_output(&bytes[..out]);
@@ -25,23 +27,30 @@ fn answer(given: usize, first: &[u8], second: &[u8], sheet: &[u8]) {
 }
 
 // Reads a sheet, and answers.
-fn answer_input(given: usize, first: &[u8], second: &[u8]) {
+fn answer_input(count: usize, first: &[u8], second: &[u8]) {
     let mut sheet = [0u8; INPUT];
     let input = read_input(&mut sheet);
     if let Input::Read { size } = input {
-        answer(given, first, second, &sheet[..size]);
+        answer(count, first, second, &sheet[..size]);
     }
+}
+
+// How many words stand behind the program's own name, of all that it was started with.
+fn behind_name(given: usize) -> usize
+    ensures { λ r. ⌜ r ≡ given - 1 ⌝ }
+{
+    if given == 0 { 0 } else { given - 1 }
 }
 
 fn main() {
     let mut first = [0u8; WORD_BUFFER];
     let mut second = [0u8; WORD_BUFFER];
-    let given = os::arg_count();
+    let count = behind_name(os::arg_count());
     let a = read_word(1, &mut first);
     let b = read_word(2, &mut second);
-    if reads_sheet(given, &first[..a], &second[..b]) {
-        answer_input(given, &first[..a], &second[..b]);
+    if reads_sheet(count, &first[..a], &second[..b]) {
+        answer_input(count, &first[..a], &second[..b]);
     } else {
-        answer(given, &first[..a], &second[..b], b"");
+        answer(count, &first[..a], &second[..b], b"");
     }
 }

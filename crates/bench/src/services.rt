@@ -1,11 +1,11 @@
 // The services: which of them reads a sheet, and what each writes.
-ghost use Prim.Native.Nat.{_-_};
 ghost use mathlib.Core.Path.{_≡_};
 ghost use Rattle.report.specs.Output.{Writes};
 ghost use Rattle.bench.specs.Words.{serviceOf, wordsOf};
-ghost use Rattle.bench.specs.Bench.{output, readsSheet};
+ghost use Rattle.bench.specs.Bench.{sheetOutput, output, readsSheet};
 ghost use Rattle.bench.specs.Bench.{bench as benchOf};
 use crate::words::Service;
+use crate::words::SheetService;
 use crate::words::service_of;
 use report::OUTPUT;
 use report::Written;
@@ -21,21 +21,30 @@ fn reads(service: Service) -> bool
     ensures { λ r. ⌜ r ≡ readsSheet service ⌝ }
 {
     match service {
-        Service::Judge => true,
-        Service::Certify => true,
-        Service::Build => true,
-        Service::Read { kind: _ } => true,
+        Service::Wrong { mistake: _ } => false,
+        Service::OnSheet { service: _ } => true,
         Service::House => false,
         Service::Help => false,
-        Service::Wrong { mistake: _ } => false,
     }
 }
 
 // Whether the words ask for a service that reads a sheet.
-pub fn reads_sheet(given: usize, first: &[u8], second: &[u8]) -> bool
-    ensures { λ r. ⌜ r ≡ readsSheet (serviceOf (wordsOf (given - 1) (now (first .entry)) (now (second .entry)))) ⌝ }
+pub fn reads_sheet(count: usize, first: &[u8], second: &[u8]) -> bool
+    ensures { λ r. ⌜ r ≡ readsSheet (serviceOf (wordsOf count (now (first .entry)) (now (second .entry)))) ⌝ }
 {
-    reads(service_of(given, first, second))
+    reads(service_of(count, first, second))
+}
+
+// What a service on a sheet writes.
+fn perform_on_sheet(service: SheetService, sheet: &[u8], out: &mut [u8; OUTPUT]) -> Written
+    ensures { λ r. ⌜ Writes (sheetOutput service (now (sheet .entry))) (now (out .entry)) (now (out .exit)) r ⌝ }
+{
+    match service {
+        SheetService::Judge => judge_sheet(sheet, out),
+        SheetService::Certify => certify_sheet(sheet, out),
+        SheetService::Build => build_sheet(sheet, out),
+        SheetService::Read { kind } => read_record(sheet, kind, out),
+    }
 }
 
 // What a service writes.
@@ -43,26 +52,23 @@ fn perform(service: Service, sheet: &[u8], out: &mut [u8; OUTPUT]) -> Written
     ensures { λ r. ⌜ Writes (output service (now (sheet .entry))) (now (out .entry)) (now (out .exit)) r ⌝ }
 {
     match service {
-        Service::Judge => judge_sheet(sheet, out),
-        Service::Certify => certify_sheet(sheet, out),
-        Service::Build => build_sheet(sheet, out),
-        Service::Read { kind } => read_record(sheet, kind, out),
+        Service::Wrong { mistake } => tell(mistake, out),
+        Service::OnSheet { service: on } => perform_on_sheet(on, sheet, out),
         Service::House => house_sheet(out),
         Service::Help => help(out),
-        Service::Wrong { mistake } => tell(mistake, out),
     }
 }
 
 // What the bench writes, by its words and the sheet on its input.
 pub fn bench(
-    given: usize,
+    count: usize,
     first: &[u8],
     second: &[u8],
     sheet: &[u8],
     out: &mut [u8; OUTPUT],
 ) -> Written
-    ensures { λ r. ⌜ Writes (benchOf (wordsOf (given - 1) (now (first .entry)) (now (second .entry))) (now (sheet .entry))) (now (out .entry)) (now (out .exit)) r ⌝ }
+    ensures { λ r. ⌜ Writes (benchOf (wordsOf count (now (first .entry)) (now (second .entry))) (now (sheet .entry))) (now (out .entry)) (now (out .exit)) r ⌝ }
 {
-    let service = service_of(given, first, second);
+    let service = service_of(count, first, second);
     perform(service, sheet, out)
 }

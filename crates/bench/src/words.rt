@@ -1,5 +1,4 @@
 // From the words that the bench is started with to the service that they ask for.
-ghost use Prim.Native.Nat.{_-_};
 ghost use mathlib.Core.Path.{_≡_};
 ghost use Rattle.bench.specs.Words.{kindIn, kindOf, unlessUnfit, services, foundOr, serviceOf, wordsOf};
 ghost use Rattle.bench.specs.Words.{named as namedIn, counted as countedOf};
@@ -16,15 +15,20 @@ pub const WORD_BUFFER: usize = WORD + 1;
 // The largest number of a kind.
 const KIND: usize = 65_535;
 
-// What the words ask for: a service, or to be told what is wrong with them.
-pub enum Service {
+// The services on a sheet.
+pub enum SheetService {
     Judge,
     Certify,
     Build,
     Read { kind: u16 },
+}
+
+// What the words ask for: to be told what is wrong with them, or a service.
+pub enum Service {
+    Wrong { mistake: Mistake },
+    OnSheet { service: SheetService },
     House,
     Help,
-    Wrong { mistake: Mistake },
 }
 
 // The service that a word names, and how many words stand behind its name; or that it names none.
@@ -37,6 +41,12 @@ fn wrong(mistake: Mistake) -> Service
     ensures { λ r. ⌜ r ≡ Service.Wrong mistake ⌝ }
 {
     Service::Wrong { mistake }
+}
+
+fn on_sheet(service: SheetService) -> Service
+    ensures { λ r. ⌜ r ≡ Service.OnSheet service ⌝ }
+{
+    Service::OnSheet { service }
 }
 
 // What a word stands for, unless it is empty or too long.
@@ -72,7 +82,7 @@ fn kind_in(word: &[u8]) -> Service
         }
         i += 1;
     }
-    Service::Read { kind: value as u16 }
+    on_sheet(SheetService::Read { kind: value as u16 })
 }
 
 // A word that is to be a kind.
@@ -97,14 +107,20 @@ fn found_or(word: &[u8], name: &[u8], behind: usize, service: Service, other: Lo
 fn named(first: &[u8], second: &[u8]) -> Lookup
     ensures { λ r. ⌜ r ≡ namedIn services (now (first .entry)) (now (second .entry)) ⌝ }
 {
-    let h = found_or(first, b"-h", 0, Service::Help, Lookup::Nothing);
-    let g = found_or(first, b"--help", 0, Service::Help, h);
-    let f = found_or(first, b"help", 0, Service::Help, g);
-    let e = found_or(first, b"house", 0, Service::House, f);
-    let d = found_or(first, b"read", 1, kind_of(second), e);
-    let c = found_or(first, b"build", 0, Service::Build, d);
-    let b = found_or(first, b"certify", 0, Service::Certify, c);
-    found_or(first, b"judge", 0, Service::Judge, b)
+    let a = found_or(
+        first,
+        b"judge",
+        0,
+        on_sheet(SheetService::Judge),
+        Lookup::Nothing,
+    );
+    let b = found_or(first, b"certify", 0, on_sheet(SheetService::Certify), a);
+    let c = found_or(first, b"build", 0, on_sheet(SheetService::Build), b);
+    let d = found_or(first, b"read", 1, kind_of(second), c);
+    let e = found_or(first, b"house", 0, Service::House, d);
+    let f = found_or(first, b"help", 0, Service::Help, e);
+    let g = found_or(first, b"--help", 0, Service::Help, f);
+    found_or(first, b"-h", 0, Service::Help, g)
 }
 
 // The service, where as many words stand behind its name as it takes.
@@ -133,16 +149,15 @@ fn asked(first: &[u8], n: usize, second: &[u8]) -> Service
     unless_unfit(first, counted(n, found))
 }
 
-// What the words ask for: how many there are, the program's own name counted too, and the first two
-// behind the name.
-pub fn service_of(given: usize, first: &[u8], second: &[u8]) -> Service
-    ensures { λ r. ⌜ r ≡ serviceOf (wordsOf (given - 1) (now (first .entry)) (now (second .entry))) ⌝ }
+// What the words ask for: how many there are, and the first two.
+pub fn service_of(count: usize, first: &[u8], second: &[u8]) -> Service
+    ensures { λ r. ⌜ r ≡ serviceOf (wordsOf count (now (first .entry)) (now (second .entry))) ⌝ }
 {
-    if given < 2 {
-        return Service::Judge;
+    if count == 0 {
+        return on_sheet(SheetService::Judge);
     }
-    if given == 2 {
+    if count == 1 {
         return asked(first, 0, b"");
     }
-    asked(first, given - 2, second)
+    asked(first, count - 1, second)
 }

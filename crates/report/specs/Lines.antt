@@ -1,4 +1,4 @@
--- The lines that the programs print, to the byte: those of judging and of a refusal (document 01, "Judging"), and those of certifying, which
+-- The lines that the bench prints, to the byte: those of judging and of a refusal (document 01, "Judging"), and those of certifying, which
 -- document 01 leaves to us.
 use Prim.Native.Nat.{ℕ}
 use Prim.Native.String.{String}

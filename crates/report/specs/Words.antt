@@ -9,20 +9,20 @@ use Rattle.report.specs.declared.words.Mistake.the-variants.{Unknown, Em
 -- the services, a line each
 unfoldable pub helpText : List ℕ
 helpText =
-    bytes "bench, bench judge  judge the sheet on standard input: PASS, WRONG, UNFINISHED or REFUSED\n"
-    ++ bytes "bench certify       certify the sequence of the sheet on standard input: CERTIFIED, OPEN or REFUSED\n"
-    ++ bytes "bench build         build the sequence of the sheet on standard input: the sheet with it as record 3\n"
-    ++ bytes "bench read KIND     the payload of the record of that kind in the sheet on standard input\n"
-    ++ bytes "bench house         the house unit's sheet: machine and word\n"
-    ++ bytes "bench help          these lines\n"
+    bytes "bench, bench judge      judge the sheet on standard input: PASS, WRONG, UNFINISHED or REFUSED\n"
+    ++ bytes "bench certify           certify the sequence of the sheet on standard input: CERTIFIED, OPEN or REFUSED\n"
+    ++ bytes "bench build             build the sequence of the sheet on standard input: the sheet with it as record 3\n"
+    ++ bytes "bench read KIND         read the sheet on standard input: the payload of record 1 machine, 2 word, 3 sequence, 4 answers\n"
+    ++ bytes "bench house             the house unit's sheet: machine and word\n"
+    ++ bytes "bench help, --help, -h  these lines\n"
 
 -- what is wrong with the words
 abbrev pub mistakeText : Mistake → List ℕ
-mistakeText Unknown = bytes "the first word names no service"
-mistakeText Empty = bytes "a word is empty"
-mistakeText Long = bytes "a word is longer than 4095 bytes"
-mistakeText Many = bytes "too many words for this service"
-mistakeText Few = bytes "too few words for this service"
+mistakeText Unknown = bytes "the first argument names no service"
+mistakeText Empty = bytes "an argument is empty"
+mistakeText Long = bytes "an argument is longer than 4095 bytes"
+mistakeText Many = bytes "too many arguments for this service"
+mistakeText Few = bytes "too few arguments for this service"
 mistakeText Kind = bytes "KIND is not a decimal number from 0 to 65535"
 
 -- the bytes of the longest of these

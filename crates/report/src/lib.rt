@@ -8,13 +8,8 @@ mod services;
 mod sheets;
 mod words;
 
-pub use lines::certify_line;
-pub use lines::judge_line;
-pub use lines::refusal_line;
 pub use output::OUTPUT;
 pub use output::Written;
-pub use phrases::Phrase;
-pub use phrases::phrase_of;
 pub use services::INPUT;
 pub use services::certify_sheet;
 pub use services::judge_sheet;

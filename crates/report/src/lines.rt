@@ -2,7 +2,9 @@
 // bytes stay as they were.
 ghost use Rattle.report.specs.Lines.{passLine, wrongLine, unfinishedLine, judgeLine, certifiedLine, openLine, certifyLine, refusalLine};
 ghost use Rattle.report.specs.Printing.{Prints};
+ghost use Rattle.report.specs.Output.{onError, Writes};
 use crate::output::OUTPUT;
+use crate::output::Written;
 use crate::pieces::put;
 use crate::pieces::put_labelled;
 use crate::pieces::put_phrase;
@@ -17,6 +19,14 @@ pub fn refusal_line(number: u8, place: usize, out: &mut [u8; OUTPUT]) -> usize
     let b = put_labelled(b" at ", place as u64, a, out);
     let c = put_phrase(number, b, out);
     put(b"\n", c, out)
+}
+
+// A refusal as a service whose result is bytes tells it: its line, to standard error.
+pub fn refused(number: u8, place: usize, out: &mut [u8; OUTPUT]) -> Written
+    ensures { λ r. ⌜ Writes (onError (refusalLine number place)) (now (out .entry)) (now (out .exit)) r ⌝ }
+{
+    let size = refusal_line(number, place, out);
+    Written { out: 0, end: size }
 }
 
 fn passed(size: usize, end: u8, out: &mut [u8; OUTPUT]) -> usize

@@ -4,7 +4,8 @@ use machine::Machine;
 use sheet::HEADER;
 use sheet::LONGEST;
 
-// The bytes of a buffer for what is written: the longest is a sheet with a built sequence.
+// The bytes of a buffer for what is written: no service writes more than a sheet's bytes and a
+// sequence's record behind them.
 pub const OUTPUT: usize = LONGEST + HEADER + Machine::SEQUENCE;
 
 // Where the bytes for standard output end, and where those for standard error, behind them, end.

@@ -3,7 +3,7 @@ ghost use Rattle.report.specs.Output.{Writes};
 ghost use Rattle.report.specs.Services.{judged, certified, recordRead};
 use crate::lines::certify_line;
 use crate::lines::judge_line;
-use crate::lines::refusal_line;
+use crate::lines::refused;
 use crate::output::OUTPUT;
 use crate::output::Written;
 use crate::pieces::put;
@@ -61,9 +61,6 @@ pub fn read_record(sheet: &[u8], kind: u16, out: &mut [u8; OUTPUT]) -> Written
                 end: size,
             }
         }
-        Check::Refused { number, place } => {
-            let size = refusal_line(number, place, out);
-            Written { out: 0, end: size }
-        }
+        Check::Refused { number, place } => refused(number, place, out),
     }
 }

@@ -9,7 +9,7 @@ ghost use Rattle.report.specs.Printing.{Prints};
 ghost use Rattle.report.specs.Sheets.{withSequence};
 ghost use Rattle.report.specs.Output.{Writes};
 ghost use Rattle.report.specs.Services.{built, houseShown};
-use crate::lines::refusal_line;
+use crate::lines::refused;
 use crate::output::OUTPUT;
 use crate::output::Written;
 use crate::pieces::put;
@@ -52,10 +52,7 @@ pub fn build_sheet(sheet: &[u8], out: &mut [u8; OUTPUT]) -> Written
                 end: size,
             }
         }
-        Answer::Refused { number, place } => {
-            let size = refusal_line(number, place, out);
-            Written { out: 0, end: size }
-        }
+        Answer::Refused { number, place } => refused(number, place, out),
     }
 }
 

@@ -35,11 +35,11 @@ fn mistake_line(mistake: Mistake, out: &mut [u8; OUTPUT]) -> usize
     ensures { λ r. ⌜ Prints (mistakeLine mistake) (now (out .entry)) (now (out .exit)) r ⌝ }
 {
     match mistake {
-        Mistake::Unknown => told(b"the first word names no service", out),
-        Mistake::Empty => told(b"a word is empty", out),
-        Mistake::Long => told(b"a word is longer than 4095 bytes", out),
-        Mistake::Many => told(b"too many words for this service", out),
-        Mistake::Few => told(b"too few words for this service", out),
+        Mistake::Unknown => told(b"the first argument names no service", out),
+        Mistake::Empty => told(b"an argument is empty", out),
+        Mistake::Long => told(b"an argument is longer than 4095 bytes", out),
+        Mistake::Many => told(b"too many arguments for this service", out),
+        Mistake::Few => told(b"too few arguments for this service", out),
         Mistake::Kind => told(b"KIND is not a decimal number from 0 to 65535", out),
     }
 }
@@ -56,31 +56,31 @@ fn help_text(out: &mut [u8; OUTPUT]) -> usize
     ensures { λ r. ⌜ Prints helpText (now (out .entry)) (now (out .exit)) r ⌝ }
 {
     let a = put(
-        b"bench, bench judge  judge the sheet on standard input: PASS, WRONG, UNFINISHED or REFUSED\n",
+        b"bench, bench judge      judge the sheet on standard input: PASS, WRONG, UNFINISHED or REFUSED\n",
         0,
         out,
     );
     let b = put(
-        b"bench certify       certify the sequence of the sheet on standard input: CERTIFIED, OPEN or REFUSED\n",
+        b"bench certify           certify the sequence of the sheet on standard input: CERTIFIED, OPEN or REFUSED\n",
         a,
         out,
     );
     let c = put(
-        b"bench build         build the sequence of the sheet on standard input: the sheet with it as record 3\n",
+        b"bench build             build the sequence of the sheet on standard input: the sheet with it as record 3\n",
         b,
         out,
     );
     let d = put(
-        b"bench read KIND     the payload of the record of that kind in the sheet on standard input\n",
+        b"bench read KIND         read the sheet on standard input: the payload of record 1 machine, 2 word, 3 sequence, 4 answers\n",
         c,
         out,
     );
     let e = put(
-        b"bench house         the house unit's sheet: machine and word\n",
+        b"bench house             the house unit's sheet: machine and word\n",
         d,
         out,
     );
-    put(b"bench help          these lines\n", e, out)
+    put(b"bench help, --help, -h  these lines\n", e, out)
 }
 
 // Lists the services.

@@ -1,4 +1,4 @@
--- A record's header as it is written (document 01, "The sheet"), and bytes put into a lent buffer, anywhere or at its start. The laws stand
+-- A record's header and a record as they are written (document 01, "The sheet"), and bytes put into a lent buffer, anywhere or at its start. The laws stand
 -- in Writing.Laws; Writing.Reading has what a sheet reads as to which a record 3 was added.
 use Prim.Native.Nat.{ℕ, _+_, _/_, _%_}
 use mathlib.Core.Bool.{cond}

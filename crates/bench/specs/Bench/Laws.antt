@@ -16,18 +16,16 @@ use Rattle.report.specs.Words.{mistakeLine}
 use Rattle.report.specs.Output.{Output, onOutput, onError}
 use Rattle.report.specs.Services.Laws.{judged-line, mistake-told}
 use Rattle.bench.specs.declared.words.Service.{Service}
-use Rattle.bench.specs.declared.words.Service.the-variants.{Judge, Certify, Build, Read, House, Help, Wrong}
+use Rattle.bench.specs.declared.words.Service.the-variants.{Wrong, OnSheet, House, Help}
+use Rattle.bench.specs.declared.words.SheetService.the-variants.{Judge}
 use Rattle.bench.specs.Words.{serviceOf}
 use Rattle.bench.specs.Bench.{output, readsSheet, bench}
 
 unread-service : (service : Service) (s t : List ℕ) → readsSheet service ≡ false → output service s ≡ output service t
-unread-service Judge s t e = cc
-unread-service Certify s t e = cc
-unread-service Build s t e = cc
-unread-service (Read kind) s t e = cc
+unread-service (Wrong mistake) s t e = refl
+unread-service (OnSheet service) s t e = cc
 unread-service House s t e = refl
 unread-service Help s t e = refl
-unread-service (Wrong mistake) s t e = refl
 
 module _ (words : List (List ℕ)) (s : List ℕ) where
   pub unread : readsSheet (serviceOf words) ≡ false → (t : List ℕ) → bench words s ≡ bench words t
@@ -38,13 +36,13 @@ module _ (words : List (List ℕ)) (s : List ℕ) where
   unfolding bench
   wrong-words {mistake} e = ap (λ (service : Service). output service s) e ∙ mistake-told mistake
 
-  judge-words : serviceOf words ≡ Judge → bench words s ≡ onOutput (judgeLine (judgement (mostSequence + 1) s))
+  judge-words : serviceOf words ≡ OnSheet Judge → bench words s ≡ onOutput (judgeLine (judgement (mostSequence + 1) s))
   unfolding bench
   judge-words e = ap (λ (service : Service). output service s) e ∙ judged-line s
 
   -- whatever the unit, if standard output begins as a pass does and the answers judged are the unit's own, it is the line of a pass with some end
   -- state, and there is a renaming, which gives the unit's present state to that end state
-  pub judge-identity : serviceOf words ≡ Judge → (U : Unit (machineIn s .n) (machineIn s .k)) → Passing (bench words s .out)
+  pub judge-identity : serviceOf words ≡ OnSheet Judge → (U : Unit (machineIn s .n) (machineIn s .k)) → Passing (bench words s .out)
       → content 4 s ≡ ownAnswers (machineIn s .n) (machineIn s .k) U (content 3 s)
       → (size : ℕ) × (end : ℕ) × (bench words s .out ≡ passLine size end) × Renaming (machineIn s) U (content 3 s) end
   judge-identity e U passing own =

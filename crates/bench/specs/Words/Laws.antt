@@ -1,25 +1,21 @@
 -- The laws of the words: how many there are and the first two of them are enough, and of these the first 4,096 bytes.
 use Prim.Native.Nat.{ℕ, zero, suc, _+_, _<_}
 use mathlib.Core.Path.{_≡_, refl, sym, ap, ap₂, _∙_}
-use mathlib.Core.Bool.{Bool, true, false, cond}
+use mathlib.Core.Bool.{Bool, true, false, cond, _&&_, _||_}
 use mathlib.Core.List.{List, [], _∷_}
 use native.Mathlib.Omega.{arith}
 use borrow.Author.Tests.{ltb-true, ltb-false, lt-ltb, ne-eqb}
-use lib.Dec.{ltb}
+use lib.Dec.{eqb, ltb}
 use lib.ListN.{length, getD, take, length-replicate}
 use lib.Seq.{take-all, length-take-le}
 use Rattle.report.specs.declared.words.Mistake.the-variants.{Empty, Long}
+use Rattle.report.specs.Words.{helpText}
 use Rattle.bench.specs.declared.words.Lookup.{Lookup}
 use Rattle.bench.specs.declared.words.Service.{Service}
 use Rattle.bench.specs.declared.words.Service.the-variants.{Wrong}
-use Rattle.bench.specs.Words.{mostBytes, unlessUnfit, kindIn, kindOf, services, named, counted, serviceOf, behindFirst, wordsOf}
+use Rattle.bench.specs.Words.{mostBytes, unlessUnfit, kindIn, kindOf, Row, services, named, counted, serviceOf, behindFirst, wordsOf}
 
 -- ---- the number of words, and the first two of them
-pub behind-length : (n : ℕ) (second : List ℕ) → length (behindFirst n second) ≡ n
-unfolding behindFirst
-behind-length zero second = refl
-behind-length (suc n) second = ap suc (length-replicate {A = List ℕ} n [])
-
 pub words-are : (ws : List (List ℕ)) → serviceOf (wordsOf (length ws) (getD ws 0 []) (getD ws 1 [])) ≡ serviceOf ws
 unfolding serviceOf wordsOf behindFirst
 words-are [] = refl
@@ -60,3 +56,21 @@ words-cut (suc (suc n)) first second =
     let m = length (behindFirst (suc n) second) in
     cut-word first (λ w. counted m (named services w (cut second)))
     ∙ ap (λ (found : Lookup). unlessUnfit first (counted m found)) (cut-named first second)
+
+-- ---- every name stands in the list of services
+pub starts : List ℕ → List ℕ → Bool
+starts [] ys = true
+starts (x ∷ xs) [] = false
+starts (x ∷ xs) (y ∷ ys) = eqb x y && starts xs ys
+
+pub occurs : List ℕ → List ℕ → Bool
+occurs xs [] = starts xs []
+occurs xs (y ∷ ys) = starts xs (y ∷ ys) || occurs xs ys
+
+pub allOccur : List Row → List ℕ → Bool
+allOccur [] text = true
+allOccur (r ∷ rows) text = occurs (r .name) text && allOccur rows text
+
+pub help-names : allOccur services helpText ≡ true
+unfolding starts occurs allOccur services helpText
+help-names = refl

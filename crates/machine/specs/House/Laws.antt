@@ -32,7 +32,7 @@ rightAt next answer e = eqb (next e) (houseEntry (e / 4) (e % 4) .next) && eqb (
 unfoldable pub allRight : (ℕ → ℕ) → (ℕ → ℕ) → Bool
 allRight next answer = every 16 (rightAt next answer)
 
-pub right-entry : (next answer : ℕ → ℕ) → allRight next answer ≡ true → (e : ℕ) → e < 16 → record { next = next e; answer = answer e } ≡ houseEntry (e / 4) (e % 4)
+right-entry : (next answer : ℕ → ℕ) → allRight next answer ≡ true → (e : ℕ) → e < 16 → record { next = next e; answer = answer e } ≡ houseEntry (e / 4) (e % 4)
 unfolding rightAt allRight
 right-entry next answer all e l =
     let t = both-true (eqb (next e) (houseEntry (e / 4) (e % 4) .next)) (eqb (answer e) (houseEntry (e / 4) (e % 4) .answer)) (every-at 16 (rightAt next answer) all e l) in
@@ -58,16 +58,3 @@ payload-long = refl
 pub house-entry : (s c : ℕ) → s < house .n → c < house .k → record { next = house .next s c; answer = house .answer s c } ≡ houseEntry s c
 unfolding house machineOf housePayload
 house-entry s c p q = right-table (λ e. getD housePayload (pairAt e) 0) (λ e. getD housePayload (pairAt e + 1) 0) listed s c (omega arith) (omega arith)
-
--- "n=4, k=4", and 0 is the start
-pub house-states : house .n ≡ 4
-unfolding house machineOf housePayload
-house-states = refl
-
-pub house-commands : house .k ≡ 4
-unfolding house machineOf housePayload
-house-commands = refl
-
-pub house-start : house .start ≡ 0
-unfolding house machineOf
-house-start = refl

@@ -80,11 +80,14 @@ loop-again c =
 cast-t13 : tie.Need-cast-t13 Inv-loop μ-loop
 cast-t13 c = search needs
 
+on-sheet-requires : tie.Need-on-sheet-requires Inv-loop μ-loop
+on-sheet-requires c κs = search needs
+
 returns-4 : tie.Need-returns-4 Inv-loop μ-loop
 returns-4 c =
-    let head = c .before .loop in
-    let word = now (c .before .before .before .args .word) in
-    sym (kind-end (head .value) (head .i) word (head .inv .1) (search needs) (head .inv .0)) ∙ head .inv .2
+    let head = c .before .before .loop in
+    let word = now (c .before .before .before .before .args .word) in
+    c .on-sheet .ensures ∙ sym (kind-end (head .value) (head .i) word (head .inv .1) (search needs) (head .inv .0)) ∙ head .inv .2
 
 pub kind-in-spec : {M : Type 1} → statement M
 kind-in-spec =
@@ -107,4 +110,5 @@ kind-in-spec =
     loop-less
     loop-again
     cast-t13
+    on-sheet-requires
     returns-4)

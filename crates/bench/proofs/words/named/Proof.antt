@@ -1,4 +1,4 @@
--- `bench::words::named` meets its contract: the rows from the last to the first.
+-- `bench::words::named` meets its contract: one row more at a time.
 -- Assumes nothing.
 use borrow.Author.Needs.{needs}
 use mathlib.Core.Path.{refl}
@@ -10,11 +10,17 @@ use Rattle.bench.proofs.words.named.Tie as tie
 slice-aggregate-found-or : tie.Need-slice-aggregate-found-or
 slice-aggregate-found-or c = search needs
 
+on-sheet-requires : tie.Need-on-sheet-requires
+on-sheet-requires c κs = search needs
+
 found-or-requires : tie.Need-found-or-requires
 found-or-requires c κs = search needs
 
 slice-aggregate-found-or-2 : tie.Need-slice-aggregate-found-or-2
 slice-aggregate-found-or-2 c = search needs
+
+on-sheet-requires-2 : tie.Need-on-sheet-requires-2
+on-sheet-requires-2 c κs = search needs
 
 found-or-requires-2 : tie.Need-found-or-requires-2
 found-or-requires-2 c κs = search needs
@@ -22,20 +28,23 @@ found-or-requires-2 c κs = search needs
 slice-aggregate-found-or-3 : tie.Need-slice-aggregate-found-or-3
 slice-aggregate-found-or-3 c = search needs
 
+on-sheet-requires-3 : tie.Need-on-sheet-requires-3
+on-sheet-requires-3 c κs = search needs
+
 found-or-requires-3 : tie.Need-found-or-requires-3
 found-or-requires-3 c κs = search needs
 
 slice-aggregate-found-or-4 : tie.Need-slice-aggregate-found-or-4
 slice-aggregate-found-or-4 c = search needs
 
+kind-of-requires : tie.Need-kind-of-requires
+kind-of-requires c κs = search needs
+
 found-or-requires-4 : tie.Need-found-or-requires-4
 found-or-requires-4 c κs = search needs
 
 slice-aggregate-found-or-5 : tie.Need-slice-aggregate-found-or-5
 slice-aggregate-found-or-5 c = search needs
-
-kind-of-requires : tie.Need-kind-of-requires
-kind-of-requires c κs = search needs
 
 found-or-requires-5 : tie.Need-found-or-requires-5
 found-or-requires-5 c κs = search needs
@@ -61,30 +70,39 @@ found-or-requires-8 c κs = search needs
 returns : tie.Need-returns
 unfolding named services
 returns c =
+    let r7 = c .before .before in
+    let r6 = r7 .before .before in
+    let r5 = r6 .before .before in
+    let r4 = r5 .before .before in
+    let r3 = r4 .before .before .before in
+    let r2 = r3 .before .before .before in
+    let r1 = r2 .before .before .before in
     row-on _ _ _ (c .found-or8 .ensures) refl
-    (row-on _ _ _ (c .before .before .found-or7 .ensures) refl
-    (row-on _ _ _ (c .before .before .before .before .found-or6 .ensures) refl
-    (row-on _ _ _ (c .before .before .before .before .before .before .found-or5 .ensures) (c .before .before .before .before .before .before .before .kind-of .ensures)
-    (row-on _ _ _ (c .before .before .before .before .before .before .before .before .before .found-or4 .ensures) refl
-    (row-on _ _ _ (c .before .before .before .before .before .before .before .before .before .before .before .found-or3 .ensures) refl
-    (row-on _ _ _ (c .before .before .before .before .before .before .before .before .before .before .before .before .before .found-or2 .ensures) refl
-    (row-on _ _ _ (c .before .before .before .before .before .before .before .before .before .before .before .before .before .before .before .found-or .ensures) refl
-    refl)))))))
+    (row-on _ _ _ (r7 .found-or7 .ensures) refl
+    (row-on _ _ _ (r6 .found-or6 .ensures) refl
+    (row-on _ _ _ (r5 .found-or5 .ensures) refl
+    (row-on _ _ _ (r4 .found-or4 .ensures) (r4 .before .kind-of .ensures)
+    (row-on _ _ _ (r3 .found-or3 .ensures) (r3 .before .on-sheet3 .ensures)
+    (row-on _ _ _ (r2 .found-or2 .ensures) (r2 .before .on-sheet2 .ensures)
+    (row-on _ _ _ (r1 .found-or .ensures) (r1 .before .on-sheet .ensures) refl)))))))
 
 pub named-spec : {M : Type 1} → statement M
 named-spec =
     tie.close
     (tie.spec
     slice-aggregate-found-or
+    on-sheet-requires
     found-or-requires
     slice-aggregate-found-or-2
+    on-sheet-requires-2
     found-or-requires-2
     slice-aggregate-found-or-3
+    on-sheet-requires-3
     found-or-requires-3
     slice-aggregate-found-or-4
+    kind-of-requires
     found-or-requires-4
     slice-aggregate-found-or-5
-    kind-of-requires
     found-or-requires-5
     slice-aggregate-found-or-6
     found-or-requires-6

@@ -7,9 +7,10 @@ use denote.Ref.{now}
 use lib.ListN.{length}
 use Rattle.sheet.specs.Reader.Laws.{handed-content}
 use Rattle.sheet.specs.Reader.Places.{read-short}
+use Rattle.report.specs.Output.Laws.{writes-same}
 use Rattle.report.specs.Services.Laws.{read-clear, read-refused}
 use Rattle.report.proofs.Putting.{puts-same, prints-line}
-use Rattle.report.proofs.Making.{writes-output, writes-error}
+use Rattle.report.proofs.Making.{writes-output}
 use Rattle.report.proofs.services.read_record.Statement.{statement}
 use Rattle.report.proofs.services.read_record.Tie as tie
 
@@ -32,8 +33,8 @@ put-requires c κs =
 enum-known-check : tie.Need-enum-known-check
 enum-known-check c = search needs
 
-refusal-line-requires : tie.Need-refusal-line-requires
-refusal-line-requires c κs = search needs
+refused-requires : tie.Need-refused-requires
+refused-requires c κs = search needs
 
 returns : tie.Need-returns
 returns c =
@@ -45,8 +46,8 @@ returns c =
 returns-2 : tie.Need-returns-2
 returns-2 c =
     let start = c .before .before .before .before .before .before .before in
-    let refused = sym (c .before .before .before .before .before .refusal .ensures) ∙ c .before .before .before .check .given .1 in
-    writes-error _ (read-refused (now (start .args .sheet)) (start .args .kind) refused) (c .refusal-line .ensures)
+    let refusal = sym (c .before .before .before .before .before .refusal .ensures) ∙ c .before .before .before .check .given .1 in
+    writes-same (c .refused .ensures) (read-refused (now (start .args .sheet)) (start .args .kind) refusal)
 
 pub read-record-spec : {M : Type 1} → statement M
 read-record-spec =
@@ -57,6 +58,6 @@ read-record-spec =
     read-requires
     put-requires
     enum-known-check
-    refusal-line-requires
+    refused-requires
     returns
     returns-2)

@@ -9,9 +9,10 @@ use Rattle.machine.specs.Limits.{mostSequence}
 use mathlib.Core.List.{List}
 use mathlib.Core.Path.{sym, ap}
 use Rattle.report.specs.Sheets.{withSequence}
+use Rattle.report.specs.Output.Laws.{writes-same}
 use Rattle.report.specs.Services.Laws.{built-clear, built-refused}
 use Rattle.report.proofs.Putting.{prints-same}
-use Rattle.report.proofs.Making.{answer-is, built-ready, writes-output, writes-error}
+use Rattle.report.proofs.Making.{answer-is, built-ready, writes-output}
 use Rattle.report.proofs.sheets.build_sheet.Statement.{statement}
 use Rattle.report.proofs.sheets.build_sheet.Tie as tie
 
@@ -42,8 +43,8 @@ compose-requires c κs =
 enum-known-answer-2 : tie.Need-enum-known-answer-2
 enum-known-answer-2 c = search needs
 
-refusal-line-requires : tie.Need-refusal-line-requires
-refusal-line-requires c κs = search needs
+refused-requires : tie.Need-refused-requires
+refused-requires c κs = search needs
 
 returns : tie.Need-returns
 returns c =
@@ -57,8 +58,8 @@ returns c =
 returns-2 : tie.Need-returns-2
 returns-2 c =
     let s = now (c .before .before .before .before .before .before .before .before .before .args .sheet) in
-    writes-error _ (built-refused s (answer-is (length-replicate {A = ℕ} mostSequence 0) (c .before .before .before .before .before .before .build .ensures) (c .before .before .before .answer2 .given .1)))
-    (c .refusal-line .ensures)
+    writes-same (c .refused .ensures)
+    (built-refused s (answer-is (length-replicate {A = ℕ} mostSequence 0) (c .before .before .before .before .before .before .build .ensures) (c .before .before .before .answer2 .given .1)))
 
 pub build-sheet-spec : {M : Type 1} → statement M
 build-sheet-spec =
@@ -71,6 +72,6 @@ build-sheet-spec =
     slice-aggregate-compose
     compose-requires
     enum-known-answer-2
-    refusal-line-requires
+    refused-requires
     returns
     returns-2)
