@@ -7,7 +7,6 @@ mod separation;
 
 pub use checks::commands;
 pub use house::Entry;
-pub use house::HOUSE_PAYLOAD;
 pub use house::HOUSE_WORD;
 pub use house::house_entry;
 pub use house::house_payload;
