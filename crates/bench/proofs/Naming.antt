@@ -41,7 +41,8 @@ told-same false a b h = go (same a b) refl
     go false e = e
     go true e = let z : false ≡ true = h .1 (same-equal a b e) in sym (cc)
 
-module _ (w name : List ℕ) (behind : ℕ) (service : Service) (other : Lookup) {r : Bool} (h : (r ≡ true → w ≡ name) × (w ≡ name → r ≡ true)) where
+module _ (w name : List ℕ) (behind : ℕ) (service : Service) (other : Lookup) {r : Bool}
+    (h : (r ≡ true → w ≡ name) × (w ≡ name → r ≡ true)) where
   pub row-taken : r ≡ true → Found behind service ≡ foundOr w name behind service other
   unfolding foundOr
   row-taken e = rw (told-same r w name h, e)
@@ -51,8 +52,8 @@ module _ (w name : List ℕ) (behind : ℕ) (service : Service) (other : Lookup)
   row-passed e = rw (told-same r w name h, e)
 
 -- one row more, before what was found in the rows behind it
-pub row-on : (w name : List ℕ) (behind : ℕ) {service s : Service} {other o r : Lookup} → r ≡ foundOr w name behind service other → service ≡ s → other ≡ o
-    → r ≡ foundOr w name behind s o
+pub row-on : (w name : List ℕ) (behind : ℕ) {service s : Service} {other o r : Lookup}
+    → r ≡ foundOr w name behind service other → service ≡ s → other ≡ o → r ≡ foundOr w name behind s o
 row-on w name behind e f g = e ∙ ap₂ (foundOr w name behind) f g
 
 -- ---- the words behind the name
@@ -78,15 +79,20 @@ pub words-none : (n : ℕ) (first second : List ℕ) → n ≡ 0 → OnSheet Jud
 unfolding serviceOf wordsOf
 words-none n first second e = rw e
 
-pub words-one : (n : ℕ) (first second : List ℕ) → n ≡ 1 → unlessUnfit first (counted 0 (named services first [])) ≡ serviceOf (wordsOf n first second)
+pub words-one : (n : ℕ) (first second : List ℕ) → n ≡ 1
+    → unlessUnfit first (counted 0 (named services first [])) ≡ serviceOf (wordsOf n first second)
 unfolding serviceOf wordsOf behindFirst
 words-one n first second e = rw e
 
-words-at : (m : ℕ) (first second : List ℕ) → unlessUnfit first (counted (suc m) (named services first second)) ≡ serviceOf (wordsOf (suc (suc m)) first second)
+words-at : (m : ℕ) (first second : List ℕ)
+    → unlessUnfit first (counted (suc m) (named services first second)) ≡ serviceOf (wordsOf (suc (suc m)) first second)
 unfolding serviceOf wordsOf behindFirst
-words-at m first second = ap (λ (n : ℕ). unlessUnfit first (counted (suc n) (named services first second))) (sym (length-replicate {A = List ℕ} m []))
+words-at m first second =
+    ap (λ (n : ℕ). unlessUnfit first (counted (suc n) (named services first second)))
+    (sym (length-replicate {A = List ℕ} m []))
 
-pub words-more : (n : ℕ) (first second : List ℕ) → 1 < n → unlessUnfit first (counted (n - 1) (named services first second)) ≡ serviceOf (wordsOf n first second)
+pub words-more : (n : ℕ) (first second : List ℕ) → 1 < n
+    → unlessUnfit first (counted (n - 1) (named services first second)) ≡ serviceOf (wordsOf n first second)
 words-more n first second l =
     ap (λ (k : ℕ). unlessUnfit first (counted k (named services first second))) (omega arith)
     ∙ words-at (n - 2) first second

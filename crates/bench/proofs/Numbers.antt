@@ -46,13 +46,15 @@ kind-none : (value : ℕ) → value ≤ mostKind → kindFrom value [] ≡ OnShe
 unfolding kindFrom allDigits valueFrom
 kind-none value l = ap (λ (b : Bool). cond b (OnSheet (Read value)) (Wrong Kind)) (le-leb value mostKind l)
 
-pub kind-end : (value i : ℕ) (w : List ℕ) → value ≤ mostKind → length w ≤ i → i ≤ length w → kindFrom value (drop i w) ≡ OnSheet (Read value)
+pub kind-end : (value i : ℕ) (w : List ℕ) → value ≤ mostKind → length w ≤ i → i ≤ length w
+    → kindFrom value (drop i w) ≡ OnSheet (Read value)
 kind-end value i w l m k =
     let e : i ≡ length w = omega arith in
     ap (λ (n : ℕ). kindFrom value (drop n w)) e ∙ ap (kindFrom value) (drop-length w) ∙ kind-none value l
 
 -- one byte more: a digit, or not
-kind-cons : (value b : ℕ) (w : List ℕ) (t : Bool) → isDigit b ≡ t → kindFrom value (b ∷ w) ≡ cond t (kindFrom (10 * value + (b - 48)) w) (Wrong Kind)
+kind-cons : (value b : ℕ) (w : List ℕ) (t : Bool) → isDigit b ≡ t
+    → kindFrom value (b ∷ w) ≡ cond t (kindFrom (10 * value + (b - 48)) w) (Wrong Kind)
 unfolding kindFrom allDigits valueFrom
 kind-cons value b w true e = rw e
 kind-cons value b w false e = rw e
@@ -61,7 +63,8 @@ module _ (value i : ℕ) (w : List ℕ) (l : i < length w) where
   first : drop i w ≡ getD w i 0 ∷ drop (i + 1) w
   first = rw add-one (drop-cons w i 0 l)
 
-  pub kind-digit : 48 ≤ getD w i 0 → getD w i 0 ≤ 57 → kindFrom (10 * value + (getD w i 0 - 48)) (drop (i + 1) w) ≡ kindFrom value (drop i w)
+  pub kind-digit : 48 ≤ getD w i 0 → getD w i 0 ≤ 57
+      → kindFrom (10 * value + (getD w i 0 - 48)) (drop (i + 1) w) ≡ kindFrom value (drop i w)
   kind-digit p q =
       sym (kind-cons value (getD w i 0) (drop (i + 1) w) true (ap₂ _&&_ (le-leb 48 (getD w i 0) p) (le-leb (getD w i 0) 57 q)))
       ∙ ap (kindFrom value) (sym first)

@@ -51,8 +51,8 @@ pub payload-more : (payload : List ℕ) (e : ℕ) {x : Entry} → e < 16 → len
 payload-more payload e {x} l long q h j k =
     let entry = q ∙ sym (payload-entry e l) in
     let one = column-more payload (λ j. getD housePayload j 0) (pairAt e) (x .next) (omega arith) h (ap (λ (y : Entry). y .next) entry) in
-    column-more (set payload (pairAt e) (x .next)) (λ j. getD housePayload j 0) (pairAt e + 1) (x .answer) (simp length-set (omega arith)) one
-    (ap (λ (y : Entry). y .answer) entry) j (omega arith)
+    column-more (set payload (pairAt e) (x .next)) (λ j. getD housePayload j 0) (pairAt e + 1) (x .answer)
+    (simp length-set (omega arith)) one (ap (λ (y : Entry). y .answer) entry) j (omega arith)
 
 -- n and k, before the first entry
 pub payload-starts : (j : ℕ) → j < pairAt 0 → getD (set (set (replicate 34 0) 0 4) 1 4) j 0 ≡ getD housePayload j 0
@@ -64,4 +64,6 @@ payload-starts (suc (suc j)) l = absurd (omega arith)
 -- the machine that is loaded from it
 pub house-loaded : {p : List ℕ} → p ≡ housePayload → machineOf (take mostMachine p) ≡ house
 unfolding house
-house-loaded {p} e = ap (λ (q : List ℕ). machineOf (take mostMachine q)) e ∙ ap machineOf (take-all mostMachine housePayload (omega (arith, payload-long)))
+house-loaded {p} e =
+    ap (λ (q : List ℕ). machineOf (take mostMachine q)) e
+    ∙ ap machineOf (take-all mostMachine housePayload (omega (arith, payload-long)))

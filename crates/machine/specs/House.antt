@@ -1,5 +1,5 @@
--- The house control unit (document 01, "The house unit and the twin"): its entries as the table there has them, next/answer; its machine record,
--- the machine and the word. The laws stand in House.Laws.
+-- The house control unit (document 01, "The house unit and the twin"): its entries as the table there has them, next/answer; its
+-- machine record, the machine and the word. The laws stand in House.Laws.
 use Prim.Native.Nat.{ℕ}
 use mathlib.Core.List.{List, [], _∷_, _++_}
 use lib.ListN.{getD}

@@ -69,18 +69,20 @@ built-ready s before after {a} {n} l h e =
 -- ---- what is written to one stream
 pub writes-output : {before after : List ℕ} {size : ℕ} (xs : List ℕ) {o : Output} → o ≡ onOutput xs → Prints xs before after size
     → Writes o before after (record { out = size; end = size })
-writes-output {before} {after} {size} xs {o} e h = subst (λ (p : Output). Writes p before after (record { out = size; end = size })) (sym e) (record {
-  out = h .sized;
-  end = h .sized ∙ ap length (sym (append-nil xs));
-  counts = h .counts;
-  holds = h .printed ∙ ap (λ (l : List ℕ). written l before) (sym (append-nil xs));
-})
+writes-output {before} {after} {size} xs {o} e h =
+    subst (λ (p : Output). Writes p before after (record { out = size; end = size })) (sym e) (record {
+      out = h .sized;
+      end = h .sized ∙ ap length (sym (append-nil xs));
+      counts = h .counts;
+      holds = h .printed ∙ ap (λ (l : List ℕ). written l before) (sym (append-nil xs));
+    })
 
 pub writes-error : {before after : List ℕ} {size : ℕ} (xs : List ℕ) {o : Output} → o ≡ onError xs → Prints xs before after size
     → Writes o before after (record { out = 0; end = size })
-writes-error {before} {after} {size} xs {o} e h = subst (λ (p : Output). Writes p before after (record { out = 0; end = size })) (sym e) (record {
-  out = refl;
-  end = h .sized;
-  counts = h .counts;
-  holds = h .printed;
-})
+writes-error {before} {after} {size} xs {o} e h =
+    subst (λ (p : Output). Writes p before after (record { out = 0; end = size })) (sym e) (record {
+      out = refl;
+      end = h .sized;
+      counts = h .counts;
+      holds = h .printed;
+    })

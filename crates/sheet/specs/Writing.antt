@@ -1,5 +1,5 @@
--- A record's header and a record as they are written (document 01, "The sheet"), and bytes put into a lent buffer, anywhere or at its start. The laws stand
--- in Writing.Laws; Writing.Reading has what a sheet reads as to which a record 3 was added.
+-- A record's header and a record as they are written (document 01, "The sheet"), and bytes put into a lent buffer, anywhere or at its
+-- start. The laws stand in Writing.Laws; Writing.Reading has what a sheet reads as to which a record 3 was added.
 use Prim.Native.Nat.{ℕ, _+_, _/_, _%_}
 use mathlib.Core.Bool.{cond}
 use mathlib.Core.List.{List, [], _∷_, _++_}

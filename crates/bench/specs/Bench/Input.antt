@@ -1,5 +1,5 @@
--- What the program hands over is enough: of the words their number and the first bytes of the first two, of the input the first 40,913 bytes, since
--- a longer one is too long whatever stands behind them.
+-- What the program hands over is enough: of the words their number and the first bytes of the first two, of the input the first
+-- 40,913 bytes, since a longer one is too long whatever stands behind them.
 use Prim.Native.Nat.{ℕ, _+_, _<_}
 use mathlib.Core.Path.{_≡_, refl, sym, ap, _∙_}
 use mathlib.Core.Bool.{Bool, true, false}
@@ -64,8 +64,10 @@ module _ (s : List ℕ) (l : longest < length s) where
   output-long Judge =
       judged-line s
       ∙ ap (λ a. onOutput (judgeLine a))
-      (judgement-refused (mostSequence + 1) s (judge-causes-are (mostSequence + 1) s ∙ stays _ (certify-long judgeNeeds (mostSequence + 1))))
-  output-long Certify = ap (λ a. onOutput (certifyLine a)) (certification-refused (mostSequence + 1) s (certify-long certifyNeeds (mostSequence + 1)))
+      (judgement-refused (mostSequence + 1) s
+      (judge-causes-are (mostSequence + 1) s ∙ stays _ (certify-long judgeNeeds (mostSequence + 1))))
+  output-long Certify =
+      ap (λ a. onOutput (certifyLine a)) (certification-refused (mostSequence + 1) s (certify-long certifyNeeds (mostSequence + 1)))
   output-long Build = built-refused s (building-refused mostSequence s (refused-early mostSequence s (load-long buildNeeds)))
   output-long (Read kind) = read-refused s kind (read-long kind)
 
@@ -89,7 +91,8 @@ service-cut House s = refl
 service-cut Help s = refl
 
 -- of any words and any input: how many words there are, the first bytes of the first two and the first bytes of the input are enough
-pub handed-over : (ws : List (List ℕ)) (s : List ℕ) → bench (wordsOf (length ws) (cut (getD ws 0 [])) (cut (getD ws 1 []))) (cutInput s) ≡ bench ws s
+pub handed-over : (ws : List (List ℕ)) (s : List ℕ)
+    → bench (wordsOf (length ws) (cut (getD ws 0 [])) (cut (getD ws 1 []))) (cutInput s) ≡ bench ws s
 unfolding bench
 handed-over ws s =
     service-cut (serviceOf (wordsOf (length ws) (cut (getD ws 0 [])) (cut (getD ws 1 [])))) s

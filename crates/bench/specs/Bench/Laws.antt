@@ -1,5 +1,5 @@
--- What the bench's output says of its words and its input: an input that is not read plays no part; wrong words give a line on standard error and
--- nothing else; and where the words ask for judging, the identity claim as the reader of standard output has it.
+-- What the bench's output says of its words and its input: an input that is not read plays no part; wrong words give a line on
+-- standard error and nothing else; and where the words ask for judging, the identity claim as the reader of standard output has it.
 use Prim.Native.Nat.{ℕ, _+_}
 use mathlib.Core.Path.{_≡_, refl, ap, subst, _∙_}
 use mathlib.Core.Bool.{false}
@@ -40,8 +40,8 @@ module _ (words : List (List ℕ)) (s : List ℕ) where
   unfolding bench
   judge-words e = ap (λ (service : Service). output service s) e ∙ judged-line s
 
-  -- whatever the unit, if standard output begins as a pass does and the answers judged are the unit's own, it is the line of a pass with some end
-  -- state, and there is a renaming, which gives the unit's present state to that end state
+  -- whatever the unit, if standard output begins as a pass does and the answers judged are the unit's own, it is the line of a pass
+  -- with some end state, and there is a renaming, which gives the unit's present state to that end state
   pub judge-identity : serviceOf words ≡ OnSheet Judge → (U : Unit (machineIn s .n) (machineIn s .k)) → Passing (bench words s .out)
       → content 4 s ≡ ownAnswers (machineIn s .n) (machineIn s .k) U (content 3 s)
       → (size : ℕ) × (end : ℕ) × (bench words s .out ≡ passLine size end) × Renaming (machineIn s) U (content 3 s) end

@@ -28,7 +28,9 @@ cut w = take (mostBytes + 1) w
 
 too-long : (w : List ℕ) (service : Service) → mostBytes < length w → unlessUnfit w service ≡ Wrong Long
 unfolding unlessUnfit
-too-long w service l = ap₂ (λ (a b : Bool). cond a (Wrong Empty) (cond b (Wrong Long) service)) (ne-eqb (length w) 0 (λ e. omega arith)) (lt-ltb mostBytes (length w) l)
+too-long w service l =
+    ap₂ (λ (a b : Bool). cond a (Wrong Empty) (cond b (Wrong Long) service))
+    (ne-eqb (length w) 0 (λ e. omega arith)) (lt-ltb mostBytes (length w) l)
 
 -- whatever a word stands for
 cut-word : (w : List ℕ) (f : List ℕ → Service) → unlessUnfit (cut w) (f (cut w)) ≡ unlessUnfit w (f w)

@@ -1,4 +1,5 @@
--- The laws of the house unit: a table whose sixteen entries pass one test, which antt computes, has document 01's entries; so has its machine.
+-- The laws of the house unit: a table whose sixteen entries pass one test, which antt computes, has document 01's entries; so has
+-- its machine.
 use Prim.Native.Nat.{ℕ, zero, suc, _+_, _*_, _/_, _%_, _≤_, _<_}
 use mathlib.Core.Path.{_≡_, refl, ap, ap₂, _∙_}
 use mathlib.Core.Bool.{Bool, true, _&&_}
@@ -32,13 +33,16 @@ rightAt next answer e = eqb (next e) (houseEntry (e / 4) (e % 4) .next) && eqb (
 unfoldable pub allRight : (ℕ → ℕ) → (ℕ → ℕ) → Bool
 allRight next answer = every 16 (rightAt next answer)
 
-right-entry : (next answer : ℕ → ℕ) → allRight next answer ≡ true → (e : ℕ) → e < 16 → record { next = next e; answer = answer e } ≡ houseEntry (e / 4) (e % 4)
+right-entry : (next answer : ℕ → ℕ) → allRight next answer ≡ true → (e : ℕ) → e < 16
+    → record { next = next e; answer = answer e } ≡ houseEntry (e / 4) (e % 4)
 unfolding rightAt allRight
 right-entry next answer all e l =
-    let t = both-true (eqb (next e) (houseEntry (e / 4) (e % 4) .next)) (eqb (answer e) (houseEntry (e / 4) (e % 4) .answer)) (every-at 16 (rightAt next answer) all e l) in
+    let t = both-true (eqb (next e) (houseEntry (e / 4) (e % 4) .next)) (eqb (answer e) (houseEntry (e / 4) (e % 4) .answer))
+    (every-at 16 (rightAt next answer) all e l) in
     ap₂ (λ (x y : ℕ). record { next = x; answer = y }) (eqb-true _ _ (t .0)) (eqb-true _ _ (t .1))
 
-pub right-table : (next answer : ℕ → ℕ) → allRight next answer ≡ true → (s c : ℕ) → s ≤ 3 → c ≤ 3 → record { next = next (s * 4 + c); answer = answer (s * 4 + c) } ≡ houseEntry s c
+pub right-table : (next answer : ℕ → ℕ) → allRight next answer ≡ true → (s c : ℕ) → s ≤ 3 → c ≤ 3
+    → record { next = next (s * 4 + c); answer = answer (s * 4 + c) } ≡ houseEntry s c
 right-table next answer all s c p q = right-entry next answer all (s * 4 + c) (omega arith) ∙ ap₂ houseEntry (omega arith) (omega arith)
 
 -- ---- the machine record, and the machine
@@ -47,7 +51,8 @@ unfolding every rightAt allRight houseEntry housePayload
 listed = refl
 
 -- entry e of the record
-pub payload-entry : (e : ℕ) → e < 16 → record { next = getD housePayload (pairAt e) 0; answer = getD housePayload (pairAt e + 1) 0 } ≡ houseEntry (e / 4) (e % 4)
+pub payload-entry : (e : ℕ) → e < 16
+    → record { next = getD housePayload (pairAt e) 0; answer = getD housePayload (pairAt e + 1) 0 } ≡ houseEntry (e / 4) (e % 4)
 payload-entry = right-entry (λ e. getD housePayload (pairAt e) 0) (λ e. getD housePayload (pairAt e + 1) 0) listed
 
 pub payload-long : length housePayload ≡ 34
@@ -57,4 +62,5 @@ payload-long = refl
 -- "sixteen entries": those of the lookup
 pub house-entry : (s c : ℕ) → s < house .n → c < house .k → record { next = house .next s c; answer = house .answer s c } ≡ houseEntry s c
 unfolding house machineOf housePayload
-house-entry s c p q = right-table (λ e. getD housePayload (pairAt e) 0) (λ e. getD housePayload (pairAt e + 1) 0) listed s c (omega arith) (omega arith)
+house-entry s c p q =
+    right-table (λ e. getD housePayload (pairAt e) 0) (λ e. getD housePayload (pairAt e + 1) 0) listed s c (omega arith) (omega arith)

@@ -26,7 +26,8 @@ module _ (s : List ℕ) where
   unfolding built
   built-clear e = ap (λ (c : Check). bytesUnless c (builtSheet s)) (answer-built mostSequence s e .0)
 
-  pub built-refused : {number place : ℕ} → building mostSequence s ≡ RefusedAnswer number place → built s ≡ onError (refusalLine number place)
+  pub built-refused : {number place : ℕ} → building mostSequence s ≡ RefusedAnswer number place
+      → built s ≡ onError (refusalLine number place)
   unfolding built
   built-refused e = ap (λ (c : Check). bytesUnless c (builtSheet s)) (answer-refused mostSequence s e)
 
@@ -34,7 +35,8 @@ module _ (s : List ℕ) where
   unfolding recordRead
   read-clear kind e = ap (λ (c : Check). bytesUnless c (content kind s)) e
 
-  pub read-refused : (kind : ℕ) {number place : ℕ} → refusalOf kind s ≡ Refused number place → recordRead kind s ≡ onError (refusalLine number place)
+  pub read-refused : (kind : ℕ) {number place : ℕ} → refusalOf kind s ≡ Refused number place
+      → recordRead kind s ≡ onError (refusalLine number place)
   unfolding recordRead
   read-refused kind e = ap (λ (c : Check). bytesUnless c (content kind s)) e
 

@@ -34,7 +34,9 @@ unfolding headerOf
 header-size kind size = refl
 
 pub record-size : (kind : ℕ) (payload : List ℕ) → length (recordBytes kind payload) ≡ header + length payload
-record-size kind payload = length-append (headerOf kind (length payload)) payload ∙ ap (λ (n : ℕ). n + length payload) (header-size kind (length payload))
+record-size kind payload =
+    length-append (headerOf kind (length payload)) payload
+    ∙ ap (λ (n : ℕ). n + length payload) (header-size kind (length payload))
 
 -- a number from its two or four bytes
 two-bytes : (n : ℕ) → n < 65536 → n % 256 + 256 * (n / 256 % 256) ≡ n

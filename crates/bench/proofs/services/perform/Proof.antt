@@ -36,22 +36,26 @@ help-requires c κs = search needs
 returns : tie.Need-returns
 returns c =
     let sheet = now (c .before .before .before .before .before .before .args .sheet) in
-    writes-same (c .tell .ensures) (ap (λ (service : Service). output service sheet) (c .before .before .before .service .given .1))
+    writes-same (c .tell .ensures)
+    (ap (λ (service : Service). output service sheet) (c .before .before .before .service .given .1))
 
 returns-2 : tie.Need-returns-2
 returns-2 c =
     let sheet = now (c .before .before .before .before .before .before .args .sheet) in
-    writes-same (c .perform-on-sheet .ensures) (ap (λ (service : Service). output service sheet) (c .before .before .before .service2 .given .1))
+    writes-same (c .perform-on-sheet .ensures)
+    (ap (λ (service : Service). output service sheet) (c .before .before .before .service2 .given .1))
 
 returns-3 : tie.Need-returns-3
 returns-3 c =
     let sheet = now (c .before .before .before .before .before .args .sheet) in
-    writes-same (c .house-sheet .ensures) (ap (λ (service : Service). output service sheet) (c .before .before .enum-told .given .1))
+    writes-same (c .house-sheet .ensures)
+    (ap (λ (service : Service). output service sheet) (c .before .before .enum-told .given .1))
 
 returns-4 : tie.Need-returns-4
 returns-4 c =
     let sheet = now (c .before .before .before .before .before .args .sheet) in
-    writes-same (c .help .ensures) (ap (λ (service : Service). output service sheet) (c .before .before .enum-told2 .given .1))
+    writes-same (c .help .ensures)
+    (ap (λ (service : Service). output service sheet) (c .before .before .enum-told2 .given .1))
 
 pub perform-spec : {M : Type 1} → statement M
 perform-spec =

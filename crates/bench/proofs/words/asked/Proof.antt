@@ -19,7 +19,8 @@ unless-unfit-requires c κs = search needs
 returns : tie.Need-returns
 returns c =
     c .unless-unfit .ensures
-    ∙ ap (unlessUnfit (now (c .before .before .before .before .before .args .first))) (c .before .counted .ensures ∙ ap (counted _) (c .before .before .named .ensures))
+    ∙ ap (unlessUnfit (now (c .before .before .before .before .before .args .first)))
+    (c .before .counted .ensures ∙ ap (counted _) (c .before .before .named .ensures))
 
 pub asked-spec : {M : Type 1} → statement M
 asked-spec = tie.close (tie.spec named-requires counted-requires unless-unfit-requires returns)

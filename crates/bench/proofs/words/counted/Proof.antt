@@ -27,7 +27,9 @@ wrong-requires-3 c κs = search needs
 
 returns-2 : tie.Need-returns-2
 returns-2 c =
-    c .wrong3 .ensures ∙ count-many _ _ _ (c .before .before .if1 .left) (c .before .if2 .taken) ∙ sym (ap (counted _) (c .before .before .before .before .found .given .1))
+    c .wrong3 .ensures
+    ∙ count-many _ _ _ (c .before .before .if1 .left) (c .before .if2 .taken)
+    ∙ sym (ap (counted _) (c .before .before .before .before .found .given .1))
 
 returns-3 : tie.Need-returns-3
 returns-3 c = c .wrong .ensures ∙ count-none _ ∙ sym (ap (counted _) (c .before .enum-told .given .1))

@@ -1,5 +1,5 @@
--- `bench::words::kind_in` meets its contract. The loop's invariant: what the bytes from i on stand for, behind digits of the value so far, is what the
--- word stands for.
+-- `bench::words::kind_in` meets its contract. The loop's invariant: what the bytes from i on stand for, behind digits of the value so
+-- far, is what the word stands for.
 -- Assumes nothing.
 use borrow.Author.Needs.{needs}
 use Prim.Native.Nat.{_+_, _-_, _≤_}

@@ -35,7 +35,8 @@ asked-requires-2 c κs = search needs
 returns-3 : tie.Need-returns-3
 returns-3 c =
     let args = c .before .before .before .before .before .args in
-    c .asked2 .ensures ∙ words-more (args .count) (now (args .first)) (now (args .second)) (more (args .count) (c .before .before .if1 .left) (c .before .if2 .left))
+    c .asked2 .ensures ∙ words-more (args .count) (now (args .first)) (now (args .second))
+    (more (args .count) (c .before .before .if1 .left) (c .before .if2 .left))
 
 pub service-of-spec : {M : Type 1} → statement M
 service-of-spec =

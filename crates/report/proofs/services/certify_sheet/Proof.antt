@@ -21,7 +21,8 @@ certify-line-requires c κs = search needs
 returns : tie.Need-returns
 unfolding certified
 returns c =
-    writes-output _ refl (prints-same (ap certifyLine (sym (c .before .before .before .certify .ensures .answer))) (c .certify-line .ensures))
+    writes-output _ refl
+    (prints-same (ap certifyLine (sym (c .before .before .before .certify .ensures .answer))) (c .certify-line .ensures))
 
 pub certify-sheet-spec : {M : Type 1} → statement M
 certify-sheet-spec =

@@ -21,7 +21,8 @@ judge-line-requires c κs = search needs
 returns : tie.Need-returns
 unfolding judged
 returns c =
-    writes-output _ refl (prints-same (ap judgeLine (sym (c .before .before .before .judge .ensures .0 .answer))) (c .judge-line .ensures))
+    writes-output _ refl
+    (prints-same (ap judgeLine (sym (c .before .before .before .judge .ensures .0 .answer))) (c .judge-line .ensures))
 
 pub judge-sheet-spec : {M : Type 1} → statement M
 judge-sheet-spec =

@@ -26,9 +26,10 @@ read-requires c κs = search needs
 put-requires : tie.Need-put-requires
 put-requires c κs =
     let start = c .before .before .before .before .before .before in
-    let clear = read-short (start .args .kind) (now (start .args .sheet)) (sym (c .before .before .before .before .refusal .ensures) ∙ c .before .before .enum-told .given .1) in
+    let clear = sym (c .before .before .before .before .refusal .ensures) ∙ c .before .before .enum-told .given .1 in
+    let short = read-short (start .args .kind) (now (start .args .sheet)) clear in
     let handed = handed-content _ (start .args .sheet) (c .before .read .result) (c .before .read .ensures) in
-    omega (arith, clear, ap length handed)
+    omega (arith, short, ap length handed)
 
 enum-known-check : tie.Need-enum-known-check
 enum-known-check c = search needs

@@ -58,8 +58,9 @@ returns c =
 returns-2 : tie.Need-returns-2
 returns-2 c =
     let s = now (c .before .before .before .before .before .before .before .before .before .args .sheet) in
+    let build = c .before .before .before .before .before .before .build .ensures in
     writes-same (c .refused .ensures)
-    (built-refused s (answer-is (length-replicate {A = ℕ} mostSequence 0) (c .before .before .before .before .before .before .build .ensures) (c .before .before .before .answer2 .given .1)))
+    (built-refused s (answer-is (length-replicate {A = ℕ} mostSequence 0) build (c .before .before .before .answer2 .given .1)))
 
 pub build-sheet-spec : {M : Type 1} → statement M
 build-sheet-spec =

@@ -28,13 +28,15 @@ slice-aggregate-put-record-2 : tie.Need-slice-aggregate-put-record-2
 slice-aggregate-put-record-2 c = search needs
 
 put-record-requires-2 : tie.Need-put-record-requires-2
-put-record-requires-2 c κs = omega (arith, c .before .before .put-record .ensures .ends, record-size 1 (c .before .before .before .before .before .house-payload .result))
+put-record-requires-2 c κs =
+    omega (arith, c .before .before .put-record .ensures .ends, record-size 1 (c .before .before .before .before .before .house-payload .result))
 
 returns : tie.Need-returns
 unfolding houseShown houseSheet
 returns c =
     let payload = c .before .before .before .before .before .before .house-payload in
-    writes-output houseSheet refl (prints-line houseSheet (puts-same (ap (λ (p : List ℕ). recordBytes 1 p ++ recordBytes 2 houseWord) (payload .ensures))
+    writes-output houseSheet refl (prints-line houseSheet
+    (puts-same (ap (λ (p : List ℕ). recordBytes 1 p ++ recordBytes 2 houseWord) (payload .ensures))
     (puts-append _ _ (c .before .before .before .put-record .ensures) (c .put-record2 .ensures))))
 
 pub house-sheet-spec : {M : Type 1} → statement M

@@ -45,15 +45,19 @@ put-requires-6 c κs = search needs
 returns : tie.Need-returns
 unfolding helpText
 returns c =
+    let p5 = c .before .before .before in
+    let p4 = p5 .before .before .before in
+    let p3 = p4 .before .before .before in
+    let p2 = p3 .before .before .before in
     prints-line helpText
     (puts-append _ _
     (puts-append _ _
     (puts-append _ _
     (puts-append _ _
-    (puts-append _ _ (c .before .before .before .before .before .before .before .before .before .before .before .before .before .before .before .put .ensures) (c .before .before .before .before .before .before .before .before .before .before .before .before .put2 .ensures))
-    (c .before .before .before .before .before .before .before .before .before .put3 .ensures))
-    (c .before .before .before .before .before .before .put4 .ensures))
-    (c .before .before .before .put5 .ensures))
+    (puts-append _ _ (p2 .before .before .before .put .ensures) (p2 .put2 .ensures))
+    (p3 .put3 .ensures))
+    (p4 .put4 .ensures))
+    (p5 .put5 .ensures))
     (c .put6 .ensures))
 
 pub help-text-spec : {M : Type 1} → statement M
