@@ -32,8 +32,12 @@ pub fn build(machine: &Machine, word: &[u8]) -> Result<Vec<u8>, Refusal> {
     Ok(sequence)
 }
 
-/// The shortest transfer sequence, first in byte order among those.
+/// The shortest transfer sequence, first in byte order among those; none leads
+/// from or to what is no state.
 pub fn transfer(machine: &Machine, from: usize, to: usize) -> Option<Vec<u8>> {
+    if from.max(to) >= machine.n {
+        return None;
+    }
     let distance = machine.distances(to);
     let mut transfer = Vec::new();
     let mut state = from;
@@ -59,4 +63,60 @@ pub fn build_sheet(sheet: &[u8]) -> Result<Vec<u8>, Refusal> {
     let checked = check(sheet, Service::Building, &mut machine)?;
     let sequence = build(&machine, checked.word)?;
     Ok(sheet_of(&machine, checked.word, Some(&sequence), None))
+}
+
+/// Building into a lent buffer: gives the length; cause 9 where the buffer is
+/// shorter than that.
+pub fn build_into(sheet: &[u8], buffer: &mut [u8]) -> Result<usize, Refusal> {
+    let mut machine = Machine::default();
+    let checked = check(sheet, Service::Building, &mut machine)?;
+    let sequence = build(&machine, checked.word)?;
+    let needed = sequence.len();
+    let front = buffer.get_mut(..needed).ok_or(Refusal::new(9, needed))?;
+    front.copy_from_slice(&sequence);
+    Ok(needed)
+}
+
+#[cfg(test)]
+mod tests {
+    use super::*;
+    use crate::random::Random;
+
+    /// All command strings by length, each length in byte order: the first that
+    /// leads there.
+    fn first_of_all(machine: &Machine, from: usize, to: usize) -> Option<Vec<u8>> {
+        let mut strings = vec![Vec::new()];
+        for _ in 0..machine.n {
+            let leads = |commands: &&Vec<u8>| machine.after(from, commands) == to;
+            if let Some(found) = strings.iter().find(leads) {
+                return Some(found.clone());
+            }
+            let longer = |commands: &Vec<u8>| {
+                let commands = commands.clone();
+                (0..machine.k as u8).map(move |command| [&commands[..], &[command]].concat())
+            };
+            strings = strings.iter().flat_map(longer).collect();
+        }
+        None
+    }
+
+    #[test]
+    fn transfers_are_the_first_of_the_shortest() {
+        let mut random = Random::new(1);
+        for _ in 0..300 {
+            let (n, k) = (random.range(1, 5), random.range(1, 3));
+            let entry = |_| (random.below(n) as u8, 0);
+            let pairs: Vec<(u8, u8)> = (0..n * k).map(entry).collect();
+            let machine = Machine::from_pairs(n, k, &pairs);
+            for from in 0..n {
+                for to in 0..n {
+                    let first = first_of_all(&machine, from, to);
+                    assert_eq!(transfer(&machine, from, to), first);
+                }
+                assert_eq!(transfer(&machine, from, n), None);
+                assert_eq!(transfer(&machine, n, from), None);
+            }
+            assert_eq!(transfer(&machine, n, n), None);
+        }
+    }
 }

@@ -1,8 +1,8 @@
 // Document 01's own cases, held against the model, and fast against naive.
 
-use crate::building::{bound, build, build_sheet};
+use crate::building::{bound, build, build_into, build_sheet};
 use crate::certifying::{Certificate, Certifier};
-use crate::known::{house, house_sheet, twin, TWIN_ANSWERS, TWIN_BUILT};
+use crate::known::{doubling, house, house_sheet, ring, twin, LONG_WORD, TWIN_ANSWERS, TWIN_BUILT};
 use crate::lines;
 use crate::machine::{Machine, LONGEST_SEQUENCE};
 use crate::naive;
@@ -112,8 +112,11 @@ fn house_has_a_sheet() {
 
 #[test]
 fn room_and_word_limits() {
-    // Document 01's case is of building, whose room no program shows; here the
-    // marks of 11 commands need 12 bytes.
+    let sheet = sheet_of(&twin(), &[0], None, None);
+    let room = |bytes: usize| build_into(&sheet, &mut vec![0; bytes]);
+    assert_eq!(room(11), Err(Refusal::new(9, 12)));
+    assert_eq!(room(12), Ok(12));
+    // The marks of 11 commands need 12 bytes.
     let sheet = sheet_of(&twin(), &[0], Some(&TWIN_BUILT[..11]), None);
     let room = |bytes: usize| Certifier::new().certificate(&sheet, &mut vec![0; bytes]);
     assert_eq!(room(11), Err(Refusal::new(9, 12)));
@@ -164,4 +167,15 @@ fn fast_is_naive_on_random_walks() {
             .zip(&known)
             .all(|(&mark, &known)| mark == u8::from(known)));
     }
+}
+
+/// The lengths and the end state are given with the machines.
+#[test]
+fn machines_of_the_largest_size() {
+    for (machine, length) in [(ring(), 20_355), (doubling(), 8_544)] {
+        let built = build(&machine, &LONG_WORD).unwrap();
+        assert_eq!(built.len(), length);
+    }
+    let built = build(&ring(), &LONG_WORD).unwrap();
+    assert_eq!(ring().after(0, &built), 1);
 }

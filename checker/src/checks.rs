@@ -59,6 +59,14 @@ pub fn check<'a>(
     })
 }
 
+/// The machine of a sheet, record 1 alone being needed: checks 1 to 4.
+pub fn load(sheet: &[u8]) -> Result<Machine, Refusal> {
+    let parts = read(sheet, 1)?;
+    let mut machine = Machine::default();
+    read_machine(parts[0].unwrap_or_default(), &mut machine)?;
+    Ok(machine)
+}
+
 /// Checks 3 and 4.
 fn read_machine(part: Part, machine: &mut Machine) -> Result<(), Refusal> {
     let (n, k, pairs) = shape(part.payload).ok_or(Refusal::new(3, part.start))?;

@@ -1,4 +1,5 @@
-// The machines that document 01 gives: the twin and the house unit.
+// The machines that document 01 gives, the twin and the house unit, and two of
+// the largest size.
 
 use crate::machine::Machine;
 use crate::sheet::sheet_of;
@@ -22,7 +23,41 @@ pub fn house() -> Machine {
     Machine::from_pairs(4, 4, &pairs.concat())
 }
 
+/// The house unit's entry, next state and answer; a pair of its own where the
+/// state or the command is above 3.
+pub fn house_entry(state: u8, command: u8) -> (u8, u8) {
+    if state.max(command) > 3 {
+        return (255, 0);
+    }
+    let (house, state) = (house(), usize::from(state));
+    (
+        house.step(state, command) as u8,
+        house.answer(state, command),
+    )
+}
+
 /// What `bench house` writes: records 1 and 2.
 pub fn house_sheet() -> Vec<u8> {
     sheet_of(&house(), &[0, 1], None, None)
+}
+
+/// The word of the two machines of the largest size.
+pub const LONG_WORD: [u8; 16] = [0, 1, 2, 3, 4, 5, 6, 7, 0, 1, 2, 3, 4, 5, 6, 7];
+
+/// Command 7 leads to the next state, the others stay: what is built is as long
+/// as it can be.
+pub fn ring() -> Machine {
+    largest(|entry| (entry + 1) / 8)
+}
+
+/// Command c leads from s to about 2s, so that the transfers differ.
+pub fn doubling() -> Machine {
+    largest(|entry| (2 * entry + 1) / 8)
+}
+
+/// 10 states, 8 commands, answers 0 to 8 in turn.
+fn largest(next: impl Fn(usize) -> usize) -> Machine {
+    let pair = |entry: usize| ((next(entry) % 10) as u8, (entry % 9) as u8);
+    let pairs: Vec<(u8, u8)> = (0..80).map(pair).collect();
+    Machine::from_pairs(10, 8, &pairs)
 }

@@ -12,6 +12,7 @@ pub mod known;
 pub mod lines;
 pub mod machine;
 pub mod naive;
+pub mod notation;
 pub mod number;
 pub mod random;
 pub mod reading;

@@ -1,18 +1,23 @@
 // The checker's command line; see `--help`.
 
-use checker::checking::{parse, run, Options, Order, Spoil, HELP};
-use std::env;
+use checker::checking::{files, parse, run, Difference, Options, Order, Spoil, HELP};
+use checker::notation::{Answerer, MOST_INPUT};
+use std::io::{self, Read, Write};
+use std::path::{Path, PathBuf};
 use std::process::ExitCode;
+use std::{env, fs};
 
 fn main() -> ExitCode {
     match parse(env::args().skip(1)) {
-        Ok(Order::Run(options)) => check(&options),
+        Ok(Order::Run(options)) => report(check(&options)),
+        Ok(Order::Files(options, paths)) => report(check_files(&options, &paths)),
+        Ok(Order::Answer(path)) => answer(&path),
         Ok(Order::Help) => {
             print!("{HELP}");
             ExitCode::SUCCESS
         }
         Ok(Order::ListSpoils) => {
-            Spoil::names().for_each(|name| println!("{name}"));
+            Spoil::list().for_each(|line| println!("{line}"));
             ExitCode::SUCCESS
         }
         Err(text) => {
@@ -23,14 +28,10 @@ fn main() -> ExitCode {
 }
 
 /// Status 1 on a difference; a panic ends with another status, never with 0.
-fn check(options: &Options) -> ExitCode {
-    match run(options) {
-        Ok(counts) => {
-            println!("{}", counts.summary());
-            println!(
-                "checker: {} sheets, {} units, {} program runs, 0 differences",
-                counts.sheets, counts.units, counts.program_runs
-            );
+fn report(outcome: Result<String, Difference>) -> ExitCode {
+    match outcome {
+        Ok(text) => {
+            println!("{text}");
             ExitCode::SUCCESS
         }
         Err(difference) => {
@@ -39,4 +40,45 @@ fn check(options: &Options) -> ExitCode {
             ExitCode::from(1)
         }
     }
+}
+
+fn check(options: &Options) -> Result<String, Difference> {
+    let counts = run(options)?;
+    Ok(format!(
+        "{}\nchecker: {} sheets, {} units, {} program runs, {} cases, 0 differences",
+        counts.summary(),
+        counts.sheets,
+        counts.units,
+        counts.program_runs,
+        counts.reached.cases
+    ))
+}
+
+fn check_files(options: &Options, paths: &[PathBuf]) -> Result<String, Difference> {
+    let checked = files(options, paths)?;
+    Ok(format!(
+        "checker: {} files, {} cases, {} numbers of the C functions, 0 differences",
+        checked.files, checked.cases, checked.numbers
+    ))
+}
+
+/// Writes the file with the model's answers to standard output.
+fn answer(path: &Path) -> ExitCode {
+    match answered(path).and_then(|text| io::stdout().write_all(&text)) {
+        Ok(()) => ExitCode::SUCCESS,
+        Err(error) => {
+            eprintln!("{}: {error}", path.display());
+            ExitCode::from(1)
+        }
+    }
+}
+
+fn answered(path: &Path) -> io::Result<Vec<u8>> {
+    let mut input = Vec::new();
+    match path.to_str() {
+        Some("-") => drop(io::stdin().read_to_end(&mut input)?),
+        _ => input = fs::read(path)?,
+    }
+    let text = Answerer::new().text(&input, |_, _, _| {});
+    text.ok_or_else(|| io::Error::other(format!("more than {MOST_INPUT} bytes")))
 }

@@ -1,16 +1,20 @@
 // Reading one record of a sheet: checks 1 and 2, then its payload.
 
 use crate::refusal::Refusal;
-use crate::sheet::read;
+use crate::sheet::{read, Part};
 
-/// The payload of the record of this kind. A kind that no record can have is
-/// missing in every sheet.
-pub fn payload(sheet: &[u8], kind: u16) -> Result<&[u8], Refusal> {
+/// The record of this kind. A kind that no record can have is missing in every
+/// sheet.
+pub fn part(sheet: &[u8], kind: u16) -> Result<Part<'_>, Refusal> {
     let parts = read(sheet, 0)?;
     let index = usize::from(kind).checked_sub(1);
     let part = index.and_then(|index| parts.get(index).copied().flatten());
-    part.map(|part| part.payload)
-        .ok_or(Refusal::new(2, sheet.len()))
+    part.ok_or(Refusal::new(2, sheet.len()))
+}
+
+/// Its payload.
+pub fn payload(sheet: &[u8], kind: u16) -> Result<&[u8], Refusal> {
+    part(sheet, kind).map(|part| part.payload)
 }
 
 #[cfg(test)]

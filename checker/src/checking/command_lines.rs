@@ -125,18 +125,17 @@ fn passing(seed: u64, index: usize) -> Case {
 }
 
 impl Comparer {
-    /// The fixed words, then random ones.
+    /// The fixed words.
     pub fn command_lines(&mut self, options: &Options) -> Result<(), Difference> {
-        let fixed = fixed();
-        let known = fixed.len();
-        for (index, line) in fixed.iter().enumerate() {
+        for (index, line) in fixed().iter().enumerate() {
             let case = passing(options.seed, index);
             self.program(&case, &options.directory, line)?;
         }
-        for index in known..known + options.words {
-            self.random_line(options, index)?;
-        }
         Ok(())
+    }
+
+    pub fn random_lines(&mut self, options: &Options) -> Result<(), Difference> {
+        (0..options.words).try_for_each(|index| self.random_line(options, index))
     }
 
     /// Random words, with a random sheet where one is read.

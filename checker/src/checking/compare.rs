@@ -79,9 +79,25 @@ impl Comparer {
             .try_for_each(|call| self.call(case, call, room).map(drop))
     }
 
-    /// One function; gives the number that both agree on.
+    /// One function with marks of random bytes; gives the number that both
+    /// agree on.
     pub fn call(&mut self, case: &Case, call: Call, room: usize) -> Result<u64, Difference> {
+        self.call_on(case, call, room, None)
+    }
+
+    /// The same, with this byte throughout the marks if one is given.
+    pub fn call_on(
+        &mut self,
+        case: &Case,
+        call: Call,
+        room: usize,
+        byte: Option<u8>,
+    ) -> Result<u64, Difference> {
         self.lend(&case.sheet, room);
+        if let Some(byte) = byte {
+            Area::inside(&mut self.marks.lent).fill(byte);
+            Area::inside(&mut self.marks.wanted).fill(byte);
+        }
         let marks = Area::inside(&mut self.marks.wanted);
         let want = match call {
             Call::Certify => self.certifier.certify(&case.sheet, marks),

@@ -2,6 +2,7 @@
 // mistake and refusal, and how much was compared.
 
 use super::compare::Call;
+use super::driving::Reached;
 use crate::number;
 use crate::words::{Mistake, Service, Word, NAMES};
 use std::collections::BTreeMap;
@@ -16,6 +17,8 @@ const BUILD: [u64; 8] = [0, 1, 2, 3, 4, 5, 6, 8];
 const READ: [u64; 3] = [0, 1, 2];
 /// Runs with fewer sheets, or without units, need not meet all of it.
 pub const ENOUGH: usize = 2000;
+/// The same for cases as text.
+pub const ENOUGH_CASES: usize = 100_000;
 
 /// The name under which judging without a word is counted.
 const NO_WORD: &str = "no word";
@@ -32,6 +35,8 @@ pub struct Counts {
     pub program_runs: usize,
     pub naive: usize,
     pub built: usize,
+    /// Cases as text.
+    pub reached: Reached,
     chains: usize,
     certify: BTreeMap<u64, usize>,
     judge: BTreeMap<u64, usize>,
@@ -76,8 +81,9 @@ impl Counts {
         self.chains += 1;
     }
 
-    /// What never occurred in the run though it should have.
-    pub fn missing(&self, units: bool) -> Vec<String> {
+    /// What never occurred in the run though it should have, with units or
+    /// without, with the fixed cases or without; cases as text have their own.
+    pub fn missing(&self, units: bool, fixed: bool) -> Vec<String> {
         let mut missing = Vec::new();
         let rows: [(&str, &[u64], &BTreeMap<u64, usize>); 4] = [
             ("rig_certify", &CERTIFY, &self.certify),
@@ -89,12 +95,12 @@ impl Counts {
             let absent = expected.iter().filter(|class| !met.contains_key(class));
             missing.extend(absent.map(|class| format!("{name} {class}")));
         }
-        let absent = words_expected().filter(|name| !self.asked.contains_key(name));
+        let absent = words_expected().filter(|name| fixed && !self.asked.contains_key(name));
         missing.extend(absent.map(|name| format!("words: {name}")));
         let compared = [
             ("fast against naive", self.naive, true),
             ("built sequences", self.built, true),
-            ("house unit through the chain", self.chains, true),
+            ("house unit through the chain", self.chains, fixed),
             ("units that pass", self.units_passed, units),
             ("units told wrong", self.units_wrong, units),
             ("sequences searched for all units", self.searched, units),
@@ -113,7 +119,7 @@ impl Counts {
              bench, runs by words:{}\n\
              certified {} and open {} in rig_certify\n\
              sheets of fixed lengths {}, built sequences checked {}, fast against naive {}\n\
-             units: tried {}, passed {}, told wrong {}; sequences searched for all units {}, \
+             {}units: tried {}, passed {}, told wrong {}; sequences searched for all units {}, \
              given up {}",
             row(&self.certify, ""),
             row(&self.judge, ""),
@@ -125,6 +131,7 @@ impl Counts {
             self.lengths,
             self.built,
             self.naive,
+            self.reached.summary(),
             self.units,
             self.units_passed,
             self.units_wrong,
@@ -158,8 +165,8 @@ mod tests {
         let mut counts = Counts::default();
         let classes = CERTIFY.len() + JUDGE.len() + BUILD.len() + READ.len();
         let words = 1 + NAMES.len() + Mistake::ALL.len();
-        assert_eq!(counts.missing(false).len(), classes + words + 3);
-        assert_eq!(counts.missing(true).len(), classes + words + 6);
+        assert_eq!(counts.missing(false, true).len(), classes + words + 3);
+        assert_eq!(counts.missing(true, true).len(), classes + words + 6);
         for class in CERTIFY {
             counts.called(Call::Certify, class << 40);
         }
@@ -172,11 +179,13 @@ mod tests {
         for refusal in READ {
             counts.read_or_refused(refusal);
         }
+        let random = ["fast against naive", "built sequences"];
+        assert_eq!(counts.missing(false, false), random);
         counts.chained(3);
         let left = ["fast against naive", "built sequences"];
-        assert_eq!(counts.missing(false).len(), words + left.len());
+        assert_eq!(counts.missing(false, true).len(), words + left.len());
         ask_everything(&mut counts);
-        assert_eq!(counts.missing(false), left);
+        assert_eq!(counts.missing(false, true), left);
         assert_eq!(counts.program_runs, 3 + words);
     }
 

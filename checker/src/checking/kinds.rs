@@ -95,7 +95,7 @@ pub fn any(random: &mut Random) -> Word {
 }
 
 /// A number that is low once the bits above 16, 32 or 64 are left out.
-fn wrapping(random: &mut Random) -> u128 {
+pub fn wrapping(random: &mut Random) -> u128 {
     let bits = *random.pick(&[16, 32, 64]);
     let times = random.range(1, 70_000) as u128;
     (times << bits) + random.below(6) as u128

@@ -7,7 +7,9 @@ mod counts;
 mod damage;
 mod difference;
 mod documented;
+mod driving;
 mod exhaustive;
+mod files;
 mod isomorphism;
 mod kinds;
 mod lengths;
@@ -25,6 +27,8 @@ mod spoil;
 mod subjects;
 mod units;
 
+pub use difference::Difference;
+pub use files::files;
 pub use options::{parse, Options, Order, HELP};
 pub use run::run;
 pub use spoil::Spoil;

@@ -1,13 +1,13 @@
-// Runs the program: on a sheet, with an input that it must leave alone, or
-// several times in a chain.
+// Runs a program: on a sheet, on a text, with an input that it must leave alone,
+// or several times in a chain.
 
 use crate::words::Word;
 use std::ffi::OsStr;
 use std::io::{self, ErrorKind, Read, Write};
 use std::os::unix::ffi::OsStrExt;
 use std::path::Path;
-use std::process::{Child, Command, Output, Stdio};
-use std::thread::sleep;
+use std::process::{Child, Command, ExitStatus, Output, Stdio};
+use std::thread::{scope, sleep};
 use std::time::{Duration, Instant};
 
 /// A run that reads nothing has to end within this time.
@@ -44,16 +44,46 @@ fn command(program: &Path, words: &[Word]) -> Command {
     command
 }
 
-/// A run on a sheet. It may stop reading early: a broken pipe is fine.
+/// A run on a sheet.
 pub fn on_sheet(program: &Path, words: &[Word], sheet: &[u8]) -> io::Result<Printed> {
     let mut child = command(program, words).stdin(Stdio::piped()).spawn()?;
-    if let Some(mut input) = child.stdin.take() {
-        match input.write_all(sheet) {
-            Err(error) if error.kind() != ErrorKind::BrokenPipe => return Err(error),
-            _ => {}
-        }
-    }
+    write(child.stdin.take(), sheet)?;
     Ok(child.wait_with_output()?.into())
+}
+
+/// Writes and closes; the reader may stop early: a broken pipe is fine.
+fn write(to: Option<impl Write>, bytes: &[u8]) -> io::Result<()> {
+    match to.map_or(Ok(()), |mut to| to.write_all(bytes)) {
+        Err(error) if error.kind() != ErrorKind::BrokenPipe => Err(error),
+        _ => Ok(()),
+    }
+}
+
+/// A run on a text of any length: what it prints is read while it reads.
+pub fn on_text(program: &Path, text: &[u8], limit: Duration) -> io::Result<Printed> {
+    let mut child = command(program, &[]).stdin(Stdio::piped()).spawn()?;
+    let (input, output, error) = (child.stdin.take(), child.stdout.take(), child.stderr.take());
+    scope(|threads| {
+        let writing = threads.spawn(move || write(input, text));
+        let output = threads.spawn(move || all_of(output));
+        let error = threads.spawn(move || all_of(error));
+        let ended = wait(&mut child, limit)?;
+        writing.join().expect("writing does not panic")?;
+        Ok(Printed {
+            output: output.join().expect("reading does not panic")?,
+            error: error.join().expect("reading does not panic")?,
+            status: ended.code(),
+            left: None,
+        })
+    })
+}
+
+fn all_of(from: Option<impl Read>) -> io::Result<Vec<u8>> {
+    let mut bytes = Vec::new();
+    if let Some(mut from) = from {
+        from.read_to_end(&mut bytes)?;
+    }
+    Ok(bytes)
 }
 
 /// A run that must leave its input alone. The input, which has to fit in a
@@ -78,18 +108,20 @@ pub fn unread(
 }
 
 /// Waits for the end; after the time limit the run is ended and it is an error.
-fn wait(child: &mut Child, limit: Duration) -> io::Result<()> {
+fn wait(child: &mut Child, limit: Duration) -> io::Result<ExitStatus> {
     let start = Instant::now();
-    while child.try_wait()?.is_none() {
+    loop {
+        if let Some(status) = child.try_wait()? {
+            return Ok(status);
+        }
         if start.elapsed() > limit {
             child.kill()?;
             child.wait()?;
-            let text = format!("had not ended after {limit:?}, its input still open");
+            let text = format!("had not ended after {limit:?}");
             return Err(io::Error::new(ErrorKind::TimedOut, text));
         }
         sleep(PAUSE);
     }
-    Ok(())
 }
 
 /// Runs with one word each, all at once, the output of one being the input of
@@ -132,6 +164,24 @@ mod tests {
         assert_ne!(printed.left, Some(5));
         let waiting = unread_by("cat", &[], Duration::from_millis(200)).unwrap_err();
         assert_eq!(waiting.kind(), ErrorKind::TimedOut);
+    }
+
+    #[test]
+    fn texts() {
+        let text = vec![b'x'; 1_048_576];
+        let printed = on_text(Path::new("cat"), &text, LIMIT).unwrap();
+        assert_eq!((printed.status, printed.output), (Some(0), text.clone()));
+        let deaf = on_text(Path::new("true"), &text, LIMIT).unwrap();
+        assert_eq!((deaf.status, deaf.output.len()), (Some(0), 0));
+        let waiting = unread_by("cat", &[], Duration::from_millis(200)).unwrap_err();
+        assert_eq!(waiting.kind(), ErrorKind::TimedOut);
+    }
+
+    /// `yes` never ends.
+    #[test]
+    fn endless_output() {
+        let endless = on_text(Path::new("yes"), b"", Duration::from_millis(200)).unwrap_err();
+        assert_eq!(endless.kind(), ErrorKind::TimedOut);
     }
 
     #[test]

@@ -5,6 +5,7 @@ use super::compare::Comparer;
 use super::difference::{Case, Difference};
 use super::kinds;
 use super::process::{on_sheet, unread, Printed, LIMIT};
+use super::spoil::Spoil;
 use crate::building::build_sheet;
 use crate::known::house_sheet;
 use crate::lines;
@@ -96,7 +97,8 @@ impl Comparer {
             return on_sheet(program, words, sheet);
         }
         let words = self.spoil.map_or(words, |spoil| spoil.words(words));
-        unread(program, words, sheet, LIMIT)
+        let limit = self.spoil.map_or(LIMIT, Spoil::limit);
+        unread(program, words, sheet, limit)
     }
 
     /// What the program should print.

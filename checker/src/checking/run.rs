@@ -1,7 +1,8 @@
-// One run: document 01's cases, words, random sheets, units, all lengths.
+// One run: what is the same in every run, then words, random sheets, units, all
+// lengths and cases as text.
 
 use super::compare::Comparer;
-use super::counts::{Counts, ENOUGH};
+use super::counts::{Counts, ENOUGH, ENOUGH_CASES};
 use super::difference::{Case, Difference};
 use super::exhaustive::agreeing_units;
 use super::options::Options;
@@ -18,22 +19,45 @@ const SEARCHED: usize = 150;
 
 pub fn run(options: &Options) -> Result<Counts, Difference> {
     let mut comparer = Comparer::new(options.seed, options.spoil);
-    comparer.documented(options.seed, &options.directory)?;
-    comparer.command_lines(options)?;
-    comparer.chain(&options.directory)?;
+    if !options.random_only {
+        comparer.fixed(options)?;
+    }
+    comparer.random_lines(options)?;
     comparer.readings(options.seed, &options.directory)?;
     comparer.sheets(options)?;
     comparer.subjects(options)?;
     comparer.lengths(options.seed, options.lengths, &options.directory)?;
-    let missing = comparer.counts.missing(options.units >= ENOUGH);
-    if options.count >= ENOUGH && !missing.is_empty() {
+    comparer.cases(options)?;
+    let missing = missing(&comparer.counts, options);
+    if !missing.is_empty() {
         let text = format!("never occurred in this run: {}", missing.join(", "));
         return Err(Difference(text));
     }
     Ok(comparer.counts)
 }
 
+/// What a run that is long enough should have met.
+fn missing(counts: &Counts, options: &Options) -> Vec<String> {
+    let fixed = !options.random_only;
+    let mut missing = Vec::new();
+    if options.count >= ENOUGH {
+        missing.extend(counts.missing(options.units >= ENOUGH, fixed));
+    }
+    if options.cases >= ENOUGH_CASES {
+        missing.extend(counts.reached.missing(fixed));
+    }
+    missing
+}
+
 impl Comparer {
+    /// Document 01's cases, words of every kind, and the chains.
+    fn fixed(&mut self, options: &Options) -> Result<(), Difference> {
+        self.documented(options.seed, &options.directory)?;
+        self.command_lines(options)?;
+        self.chain(&options.directory)?;
+        self.case_chains(options)
+    }
+
     fn sheets(&mut self, options: &Options) -> Result<(), Difference> {
         for index in 0..options.count {
             let mut random = Random::at(options.seed, 1, index);

@@ -1,10 +1,12 @@
 // Spoils what the bench answered, on purpose, before it is compared: shows
 // that the checker can fail. Not used in a real run.
 
-use super::process::Printed;
+use super::driving::CasesSpoil;
+use super::process::{Printed, LIMIT};
 use crate::lines::mistaken;
 use crate::number::{class, CERTIFIED, OPEN, PASS, UNFINISHED, WRONG};
 use crate::words::{Mistake, Service, Word};
+use std::time::Duration;
 
 #[derive(Clone, Copy, Debug, PartialEq, Eq)]
 pub enum Spoil {
@@ -43,7 +45,11 @@ pub enum Spoil {
     ChainOpen,
     ErrorNoise,
     Status,
+    Cases(CasesSpoil),
 }
+
+/// After this time a run that awaits its input is ended.
+const SOON: Duration = Duration::from_secs(2);
 
 /// The names on the command line.
 const NAMES: [(&str, Spoil); 35] = [
@@ -96,12 +102,19 @@ pub struct Seen<'a> {
 
 impl Spoil {
     pub fn named(name: &str) -> Option<Spoil> {
-        let found = NAMES.iter().find(|(known, _)| *known == name)?;
-        Some(found.1)
+        let found = NAMES.iter().find(|(known, _)| *known == name);
+        let found = found.map(|(_, spoil)| *spoil);
+        found.or_else(|| CasesSpoil::named(name).map(Spoil::Cases))
     }
 
-    pub fn names() -> impl Iterator<Item = &'static str> {
-        NAMES.iter().map(|(name, _)| *name)
+    /// A line for each: its name, and `fixed` behind it where only the cases
+    /// that are the same in every run can show it.
+    pub fn list() -> impl Iterator<Item = String> {
+        let own = NAMES.iter().map(|(name, spoil)| match spoil {
+            Spoil::ChainOpen => format!("{name} fixed"),
+            _ => String::from(*name),
+        });
+        own.chain(CasesSpoil::names())
     }
 
     /// Spoils what a C function left.
@@ -215,6 +228,21 @@ impl Spoil {
         match self {
             Spoil::InputAwaited => &[],
             _ => words,
+        }
+    }
+
+    /// How long such a run may take: the spoiled one never ends.
+    pub fn limit(self) -> Duration {
+        match self {
+            Spoil::InputAwaited => SOON,
+            _ => LIMIT,
+        }
+    }
+
+    /// Spoils what `cases` wrote for an input.
+    pub fn cases(self, input: &[u8], seen: &mut Printed) {
+        if let Spoil::Cases(way) = self {
+            way.apply(input, seen);
         }
     }
 

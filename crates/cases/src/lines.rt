@@ -1,116 +1,93 @@
-// Printing: a line for each case, its name, a colon, and the answer.
-use libc::STDOUT_FILENO;
-use machine::load_sheet;
-use sheet::Check;
-use sheet::Needs;
-use sheet::part_of;
-use sheet::read;
-use sheet::refusal;
+// The lines of an input: comments are copied, old answers dropped, cases copied and answered.
+ghost use Prim.Native.Nat.{_<_, _≤_};
+ghost use lib.ListN.{length};
+use crate::output::labelled;
+use crate::output::text;
+use crate::services::answer;
+use sheet::byte;
 
-// What is asked of a sheet: checks 1 to 6 with the kinds that a service needs, checks 1 and 2 of
-// reading a kind, or what reading a kind hands back.
-pub enum Ask {
-    Building,
-    Certifying,
-    Judging,
-    Reading(u16),
-    Part(u16),
+// What a line is.
+enum Line {
+    Comment,
+    Answer,
+    Case,
 }
 
-pub fn text(t: &[u8]) {
-    io::write_all(STDOUT_FILENO, t);
+// How many bytes are used, and how many cases were answered.
+struct Done {
+    used: usize,
+    cases: usize,
 }
 
-pub fn number(n: usize) {
-    io::print_decimal(STDOUT_FILENO, n as u64);
-}
-
-fn refused(cause: u8, place: usize) {
-    text(b"refused ");
-    number(cause as usize);
-    text(b" at ");
-    number(place);
-}
-
-fn answer(check: Check) {
-    text(b": ");
-    match check {
-        Check::Clear => text(b"clear"),
-        Check::Refused { number, place } => refused(number, place),
-    }
-    text(b"\n");
-}
-
-fn load(sheet: &[u8], sequence: bool, answers: bool) {
-    let needs = Needs {
-        word: true,
-        sequence,
-        answers,
-    };
-    let loaded = load_sheet(sheet, needs);
-    let check = loaded.check;
-    answer(check);
-}
-
-fn reading(sheet: &[u8], kind: u16) {
-    text(b", reading ");
-    number(kind as usize);
-    answer(refusal(sheet, kind));
-}
-
-// A byte of a part, after a colon where it is the first.
-fn item(i: usize, b: u8) {
-    if i == 0 {
-        text(b":");
-    }
-    text(b" ");
-    number(b as usize);
-}
-
-fn items(part: &[u8]) {
-    let mut i = 0;
-    while i < part.len() {
-        item(i, part[i]);
+// Where the line that begins at a place ends, its newline left out.
+fn line_end(input: &[u8], from: usize) -> usize
+    requires { ⌜ from ≤ length (now input) ⌝ }
+    ensures { λ r. ⌜ from ≤ r ⌝ }
+    ensures { λ r. ⌜ r ≤ length (now (input .entry)) ⌝ }
+{
+    let mut i = from;
+    while i < input.len() && input[i] != b'\n' {
         i += 1;
     }
+    i
 }
 
-// Where the part starts in the sheet, its length, its bytes.
-fn handed(sheet: &[u8], kind: u16) {
-    let place = part_of(sheet, kind);
-    let part = read(sheet, kind);
-    text(b", part ");
-    number(kind as usize);
-    text(b": from ");
-    number(place.from);
-    text(b", length ");
-    number(part.len());
-    items(part);
-    text(b"\n");
-}
-
-// The line of a case.
-pub fn line(name: &[u8], sheet: &[u8], ask: Ask) {
-    text(name);
-    match ask {
-        Ask::Building => load(sheet, false, false),
-        Ask::Certifying => {
-            text(b", kinds 1 to 3 needed");
-            load(sheet, true, false);
-        }
-        Ask::Judging => {
-            text(b", kinds 1 to 4 needed");
-            load(sheet, true, true);
-        }
-        Ask::Reading(kind) => reading(sheet, kind),
-        Ask::Part(kind) => handed(sheet, kind),
+fn line_of(line: &[u8]) -> Line {
+    if line.len() == 0 {
+        return Line::Comment;
+    }
+    let first = byte(line, 0);
+    match first {
+        b'#' => Line::Comment,
+        b'>' => Line::Answer,
+        _ => Line::Case,
     }
 }
 
-// Reading each of the four kinds.
-pub fn readings(name: &[u8], sheet: &[u8]) {
-    line(name, sheet, Ask::Reading(1));
-    line(name, sheet, Ask::Reading(2));
-    line(name, sheet, Ask::Reading(3));
-    line(name, sheet, Ask::Reading(4));
+// A line with its newline.
+fn copied(line: &[u8], out: &mut [u8], used: usize) -> usize {
+    let at = text(line, out, used);
+    text(b"\n", out, at)
+}
+
+// A case and its answer.
+fn case(line: &[u8], parts: &mut [u8], buf: &mut [u8], out: &mut [u8], used: usize) -> usize {
+    let start = copied(line, out, used);
+    let at = text(b"> ", out, start);
+    let next = answer(line, parts, buf, out, at);
+    text(b"\n", out, next)
+}
+
+// One line, and how many cases it is.
+fn line_done(line: &[u8], parts: &mut [u8], buf: &mut [u8], out: &mut [u8], used: usize) -> Done
+    ensures { λ r. ⌜ r .cases ≤ 1 ⌝ }
+{
+    let kind = line_of(line);
+    match kind {
+        Line::Comment => Done {
+            used: copied(line, out, used),
+            cases: 0,
+        },
+        Line::Answer => Done { used, cases: 0 },
+        Line::Case => Done {
+            used: case(line, parts, buf, out, used),
+            cases: 1,
+        },
+    }
+}
+
+// Every line of an input, and how many cases there were; gives how many bytes wait to be written.
+pub(crate) fn answered(input: &[u8], parts: &mut [u8], buf: &mut [u8], out: &mut [u8]) -> usize {
+    let mut used = 0;
+    let mut cases = 0;
+    let mut at = 0;
+    while at < input.len() {
+        let end = line_end(input, at);
+        let line = line_done(&input[at..end], parts, buf, out, used);
+        used = line.used;
+        cases += line.cases;
+        at = end + 1;
+    }
+    let next = labelled(b"> ", cases, out, used);
+    text(b" cases\n", out, next)
 }

@@ -1,0 +1,67 @@
+// What a run with cases as text has to meet, in groups.
+
+/// A group and its names, a comma between them.
+type Group = (&'static str, &'static str);
+
+const GROUPS: [Group; 16] = [
+    (
+        "build",
+        "built, refused 1, refused 2, refused 3, refused 4, refused 5, refused 6, refused 8, refused 9",
+    ),
+    (
+        "rooms for building",
+        "every one from 0, around the needed, around the longest, every one for a refused sheet",
+    ),
+    (
+        "certify",
+        "certified, open, refused 1, refused 2, refused 3, refused 4, refused 5, refused 6, refused 7, \
+         refused 9",
+    ),
+    (
+        "judge",
+        "pass, wrong, unfinished, refused 1, refused 2, refused 3, refused 4, refused 5, refused 6, \
+         refused 7, refused 9, refused 10, refused 11",
+    ),
+    ("refusal", "none, refused 1, refused 2"),
+    ("refusal, kinds", KINDS),
+    ("part", "bytes, empty record, refused"),
+    ("part, kinds", KINDS),
+    (
+        "transfer",
+        "commands, empty, none, refused 1, refused 2, refused 3, refused 4",
+    ),
+    (
+        "transfer, sheets",
+        "record 1 alone, nonsense behind it, any sheet, next state outside, damaged",
+    ),
+    ("transfer, states", "both, one outside, both outside"),
+    ("house", "inside, outside"),
+    ("limits", "asked"),
+    (
+        "unreadable",
+        "line too short, digit too many, other byte, byte dropped, byte changed, byte added, line cut, \
+         number above a limit, more than full, near to a case, any bytes",
+    ),
+    (
+        "lines",
+        "full case, comment, empty, answer, comment with bytes above 127, case with bytes above 127, \
+         comment with carriage return, case with carriage return, case with other control bytes",
+    ),
+    (
+        "inputs",
+        "all, empty, without last newline, longest, one byte too long, longer",
+    ),
+];
+/// The chains are the same in every run.
+const CHAINS: Group = ("chains", "house unit, ring, doubling");
+
+pub const KINDS: &str = "0, 1, 2, 3, 4, 5, 257, 258, 65535, other";
+
+/// All groups, the chains among them or not.
+pub fn groups(chains: bool) -> impl Iterator<Item = Group> {
+    GROUPS.into_iter().chain(chains.then_some(CHAINS))
+}
+
+pub fn names(names: &'static str) -> impl Iterator<Item = &'static str> {
+    names.split(", ")
+}

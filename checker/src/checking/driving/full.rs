@@ -1,0 +1,46 @@
+// Parts with as many bytes as a case may have, and a little more or less.
+
+use super::driver::Driver;
+use crate::checking::difference::Difference;
+use crate::notation::{question, MOST_BYTES};
+use crate::random::Random;
+use crate::sheet::HEADER;
+
+/// What may follow where little or nothing is left.
+const BEHIND: [&str; 16] = [
+    "", "{1}", "{1 5}", " 5", " 5*0", " 5*1", " 5*00", " 5*7", " {1}", " {2 5*0}", " {2 7}",
+    " {3 -}", " 25", " 5 5", " 1*0 7", " ",
+];
+
+pub fn full(driver: &mut Driver, random: &mut Random) -> Result<(), Difference> {
+    let line = line(random);
+    if question(line.as_bytes()).is_ok() {
+        driver.reached.meet("lines", "full case");
+    }
+    driver.try_line(line.as_bytes(), "more than full")
+}
+
+/// Bytes and records that leave at most some ten bytes, and something behind.
+fn line(random: &mut Random) -> String {
+    let mut line = String::from(*random.pick(&["refusal 1", "part 2", "build 3", "transfer 0 0"]));
+    let mut left = MOST_BYTES - random.below(12);
+    if random.once_in(2) {
+        let payload = random.below(left - HEADER);
+        line.push_str(&format!(" {{1 5*{payload}}}"));
+        left -= HEADER + payload;
+    }
+    if random.once_in(2) {
+        let times = random.below(left + 1);
+        line.push_str(&format!(" 9*{times}"));
+        left -= times;
+    }
+    line.push_str(&match left >= HEADER && random.once_in(2) {
+        true => format!(" {{4 0*{}}}", left - HEADER),
+        false => format!(" 0*{left}"),
+    });
+    for _ in 0..random.range(1, 3) {
+        let piece = *random.pick(&BEHIND);
+        line.push_str(piece);
+    }
+    line
+}

@@ -1,0 +1,98 @@
+// The program `cases`: batches of cases go in, and what it writes has to be the
+// model's text.
+
+mod between;
+mod building;
+mod chains;
+mod compare;
+mod driver;
+mod expected;
+mod full;
+mod marks;
+mod near;
+mod numbers;
+mod parts;
+mod reached;
+mod sheets;
+mod sizes;
+mod spelling;
+mod spoiled_answer;
+mod spoiled_run;
+mod spoils;
+mod tables;
+mod transfers;
+mod unreadable;
+
+pub use compare::{first_difference, program_difference};
+pub use driver::{LIMIT, NAME};
+pub use reached::Reached;
+pub use spoils::CasesSpoil;
+
+use super::compare::Comparer;
+use super::difference::Difference;
+use super::options::Options;
+use crate::random::Random;
+use driver::Driver;
+
+type Generator = fn(&mut Driver, &mut Random) -> Result<(), Difference>;
+
+/// One round of cases; what comes several times makes few cases at a time.
+const ROUND: [Generator; 25] = [
+    building::every_room,
+    marks::marks,
+    parts::parts,
+    between::between,
+    transfers::transfers,
+    building::refused,
+    marks::marks,
+    near::near,
+    building::long_rooms,
+    numbers::numbers,
+    marks::marks,
+    between::between,
+    building::refused,
+    parts::parts,
+    unreadable::damaged,
+    building::refused,
+    transfers::transfers,
+    marks::marks,
+    numbers::numbers,
+    between::between,
+    building::refused,
+    full::full,
+    parts::parts,
+    unreadable::damaged,
+    marks::marks,
+];
+/// The inputs of every size come in one round of so many.
+const SIZES: usize = 10;
+
+impl Comparer {
+    /// Random cases, some more than asked for, and the house unit's whole table.
+    pub fn cases(&mut self, options: &Options) -> Result<(), Difference> {
+        if options.cases == 0 {
+            return Ok(());
+        }
+        let driver = &mut Driver::new(options, &mut self.counts.reached);
+        tables::tables(driver, &mut Random::at(options.seed, 7, 0))?;
+        let table = driver.asked;
+        for round in 1.. {
+            let mut random = Random::at(options.seed, 7, round);
+            for generator in ROUND {
+                generator(driver, &mut random)?;
+            }
+            if round % SIZES == 1 {
+                sizes::sizes(driver, &mut random)?;
+            }
+            if driver.asked - table >= options.cases {
+                break;
+            }
+        }
+        driver.send()
+    }
+
+    /// Whole chains: built, certified and judged.
+    pub fn case_chains(&mut self, options: &Options) -> Result<(), Difference> {
+        chains::chains(&mut Driver::new(options, &mut self.counts.reached))
+    }
+}

@@ -1,0 +1,175 @@
+// What the program `cases` was asked and answered in a run.
+
+use super::expected::{groups, names, KINDS};
+use crate::notation::{lines, Line, Question, Unreadable, MOST_INPUT};
+use std::collections::BTreeMap;
+
+#[derive(Default)]
+pub struct Reached {
+    pub cases: usize,
+    met: BTreeMap<(&'static str, String), usize>,
+}
+
+impl Reached {
+    pub fn meet(&mut self, group: &'static str, name: &str) {
+        *self.met.entry((group, String::from(name))).or_default() += 1;
+    }
+
+    fn met(&self, group: &'static str, name: &str) -> usize {
+        let met = self.met.get(&(group, String::from(name)));
+        met.copied().unwrap_or_default()
+    }
+
+    /// A case, its line first, and its answer.
+    pub fn answered(&mut self, line: &[u8], asked: &Result<Question, Unreadable>, answer: &str) {
+        self.cases += 1;
+        match asked {
+            Ok(question) => self.meet(question.name(), &outcome(question, answer)),
+            Err(Unreadable(column)) => self.meet("unreadable", stopped_by(line.get(column - 1))),
+        }
+        match asked {
+            Ok(Question::Part { kind, .. }) => self.meet("part, kinds", kind_name(*kind)),
+            Ok(Question::Refusal { kind, .. }) => self.meet("refusal, kinds", kind_name(*kind)),
+            _ => {}
+        }
+    }
+
+    /// An input that goes to the program; of one that is too long no line counts.
+    pub fn input(&mut self, input: &[u8]) {
+        self.meet("inputs", "all");
+        match input.len() {
+            0 => self.meet("inputs", "empty"),
+            MOST_INPUT => self.meet("inputs", "longest"),
+            length if length == MOST_INPUT + 1 => self.meet("inputs", "one byte too long"),
+            length if length > MOST_INPUT => self.meet("inputs", "longer"),
+            _ => {}
+        }
+        if input.len() > MOST_INPUT {
+            return;
+        }
+        if input.last().is_some_and(|&byte| byte != b'\n') {
+            self.meet("inputs", "without last newline");
+        }
+        lines(input).for_each(|line| self.line(line));
+    }
+
+    fn line(&mut self, line: Line) {
+        match line {
+            Line::Dropped(_) => self.meet("lines", "answer"),
+            Line::Copied(b"") => self.meet("lines", "empty"),
+            Line::Copied(line) => {
+                self.meet("lines", "comment");
+                self.bytes(line, "comment");
+            }
+            Line::Case(line) => self.bytes(line, "case"),
+        }
+    }
+
+    /// Bytes that a line of text seldom has.
+    fn bytes(&mut self, line: &[u8], name: &str) {
+        let is_plain = |byte: &u8| (32..128).contains(byte);
+        if line.iter().all(is_plain) {
+            return;
+        }
+        let mut meet_if = |met: bool, what: &str| {
+            if met {
+                self.meet("lines", &format!("{name} with {what}"));
+            }
+        };
+        meet_if(line.iter().any(|&byte| byte > 127), "bytes above 127");
+        meet_if(line.contains(&b'\r'), "carriage return");
+        let control = |&byte: &u8| byte < 32 && byte != b'\r';
+        meet_if(line.iter().any(control), "other control bytes");
+    }
+
+    /// What never occurred though it should have.
+    pub fn missing(&self, chains: bool) -> Vec<String> {
+        let mut missing = Vec::new();
+        for (group, expected) in groups(chains) {
+            let absent = names(expected).filter(|name| self.met(group, name) == 0);
+            missing.extend(absent.map(|name| format!("cases, {group}: {name}")));
+        }
+        missing
+    }
+
+    /// A line for each group.
+    pub fn summary(&self) -> String {
+        let mut text = String::new();
+        for (group, expected) in groups(true) {
+            let count = |name| format!(" {name}:{}", self.met(group, name));
+            let row: Vec<String> = names(expected).map(count).collect();
+            text.push_str(&format!("cases, {group}:{}\n", row.join(",")));
+        }
+        text
+    }
+}
+
+/// The answer in a word or two, with the number of a refusal.
+fn outcome(question: &Question, answer: &str) -> String {
+    let first = |count: usize| {
+        let words: Vec<&str> = answer.split(' ').take(count).collect();
+        words.join(" ")
+    };
+    match question {
+        Question::Part { .. } if answer.starts_with("from 0 ") => String::from("refused"),
+        Question::Part { .. } if answer.ends_with(" | -") => String::from("empty record"),
+        Question::Part { .. } => String::from("bytes"),
+        Question::Transfer { .. } if answer == "commands -" => String::from("empty"),
+        Question::House { .. } if answer.starts_with("next 255 ") => String::from("outside"),
+        Question::House { .. } => String::from("inside"),
+        Question::Limits => String::from("asked"),
+        _ if answer.starts_with("refused ") => first(2),
+        _ => first(1),
+    }
+}
+
+/// What stands at the column that was told.
+fn stopped_by(byte: Option<&u8>) -> &'static str {
+    match byte {
+        None => "line too short",
+        Some(byte) if byte.is_ascii_digit() => "digit too many",
+        Some(_) => "other byte",
+    }
+}
+
+fn kind_name(kind: u16) -> &'static str {
+    let name = kind.to_string();
+    names(KINDS).find(|known| *known == name).unwrap_or("other")
+}
+
+#[cfg(test)]
+mod tests {
+    use super::*;
+    use crate::notation::Answerer;
+
+    #[test]
+    fn all_is_missed_until_it_occurs() {
+        let mut reached = Reached::default();
+        let all = reached.missing(true).len();
+        assert_eq!(reached.missing(false).len(), all - 3);
+        for (group, expected) in groups(true) {
+            names(expected).for_each(|name| reached.meet(group, name));
+        }
+        assert!(reached.missing(true).is_empty());
+        assert_eq!(reached.met.len(), all);
+    }
+
+    #[test]
+    fn counted_under_their_names() {
+        let mut reached = Reached::default();
+        let input = b"#\x80\r\n\n> old\nlimits\nhouse 256\npart 4 {4}\npart 258 0\nbuild 0 -\r";
+        reached.input(input);
+        let seen = |line: &[u8], asked: &_, answer: &str| reached.answered(line, asked, answer);
+        Answerer::new().text(input, seen).unwrap();
+        let met = reached
+            .met
+            .keys()
+            .map(|(group, name)| format!("{group}: {name}"));
+        let expected = "inputs: all; inputs: without last newline; limits: asked; lines: answer; \
+             lines: case with carriage return; lines: comment; lines: comment with bytes above 127; \
+             lines: comment with carriage return; lines: empty; part: empty record; part: refused; \
+             part, kinds: 258; part, kinds: 4; unreadable: digit too many; unreadable: other byte";
+        assert_eq!(met.collect::<Vec<_>>().join("; "), expected);
+        assert_eq!(reached.cases, 5);
+    }
+}

@@ -1,0 +1,51 @@
+// Sheets for the program's cases.
+
+use crate::checking::machines::{machine_and_word, separated};
+use crate::checking::sheets::case;
+use crate::machine::Machine;
+use crate::random::Random;
+use crate::sheet::{record, sheet_of};
+
+/// Longer sheets come seldom: their text is long.
+const OFTEN: usize = 1500;
+
+/// A sound or damaged sheet with all that the generator of sheets makes.
+pub fn any(random: &mut Random) -> Vec<u8> {
+    loop {
+        let sheet = case(0, 0, random).sheet;
+        if sheet.len() <= OFTEN || random.once_in(12) {
+            return sheet;
+        }
+    }
+}
+
+/// A small machine and a word that separates its states.
+pub fn small(random: &mut Random) -> (Machine, Vec<u8>) {
+    let (n, k) = (random.range(1, 4), random.range(1, 3));
+    separated(random, n, k)
+}
+
+/// A sheet for building: maybe with records that it does not look at.
+pub fn for_building(random: &mut Random, machine: &Machine, word: &[u8]) -> Vec<u8> {
+    let mut sheet = sheet_of(machine, word, None, None);
+    for kind in [3, 4] {
+        if random.once_in(4) {
+            sheet.extend(nonsense(random, kind));
+        }
+    }
+    sheet
+}
+
+/// A record of this kind with any payload.
+pub fn nonsense(random: &mut Random, kind: u16) -> Vec<u8> {
+    let longest = *random.pick(&[0, 1, 4, 12, 40, 300]);
+    let mut payload = vec![0; random.below(longest + 1)];
+    random.fill(&mut payload);
+    record(kind, &payload)
+}
+
+/// A machine of any size, its word maybe not separating.
+pub fn building(random: &mut Random) -> Vec<u8> {
+    let (machine, word) = machine_and_word(random);
+    for_building(random, &machine, &word)
+}

@@ -1,0 +1,102 @@
+// Ways to spoil what the program `cases` wrote.
+
+use super::spoiled_answer::spoil_answer;
+use super::spoiled_answer::Change::{self, Answer, Byte, Command, LentByte, More, Moved, Words};
+use super::spoiled_run::{answer_kept, comment_lost, count_more, newline_lost, too_long_taken};
+use crate::checking::process::Printed;
+
+/// One of the ways, by its place in the two tables.
+#[derive(Clone, Copy, Debug, PartialEq, Eq)]
+pub struct CasesSpoil(usize);
+
+/// A name, how the case begins, its numbers without needless zeros, and what
+/// becomes of the first answer to which the way applies.
+const ANSWERS: [(&str, &str, Change); 36] = [
+    ("built-length", "build", More("built ")),
+    ("built-byte", "build", Byte("built ")),
+    ("byte-behind-built", "build", LentByte("built ")),
+    ("build-cause", "build", Words("refused 8 ", "refused 6 ")),
+    ("build-needs", "build", More("refused 9 at ")),
+    ("refused-build-writes", "build", LentByte("refused ")),
+    ("part-from", "part", Moved("")),
+    ("empty-part-from", "part", Moved(" | -")),
+    ("part-size", "part", More(" size ")),
+    ("part-byte", "part", Byte("from ")),
+    ("refused-part-from", "part", Words("from 0 ", "from 6 ")),
+    ("refusal-number", "refusal", Words("refused 2", "refused 1")),
+    ("refusal-place", "refusal", More(" at ")),
+    ("refusal-lost", "refusal", Answer("refused ", "none")),
+    (
+        "refusal-invented",
+        "refusal",
+        Answer("none", "refused 2 at 0"),
+    ),
+    ("kind-cut", "refusal 257 ", Answer("refused 2 ", "none")),
+    ("transfer-command", "transfer", Command),
+    (
+        "transfer-longer",
+        "transfer",
+        Words("commands -", "commands 0"),
+    ),
+    ("transfer-lost", "transfer", Answer("commands ", "none")),
+    (
+        "transfer-invented",
+        "transfer",
+        Answer("none", "commands -"),
+    ),
+    ("transfer-place", "transfer", More("refused 4 at ")),
+    ("house-next", "house 3 2 ", More("next ")),
+    ("house-answer", "house 255 255 ", More("answer ")),
+    ("limits", "limits", More("sequence ")),
+    ("column", "unreadable", More("unreadable at ")),
+    ("unreadable-answered", "unreadable", Answer("", "none")),
+    (
+        "certified",
+        "certify",
+        Words("certified ", "open 1 recognised "),
+    ),
+    ("recognised", "certify", More(" recognised ")),
+    ("open-number", "certify", More("open ")),
+    ("mark", "certify", Byte("open ")),
+    ("byte-behind-marks", "certify", LentByte("certified ")),
+    ("end-state", "judge", More(" end ")),
+    ("wrong-given", "judge", More(" got ")),
+    ("unfinished", "judge", More("unfinished ")),
+    ("not-certified", "judge", More("refused 11 at ")),
+    ("refused-judge-writes", "judge", LentByte("refused 10 ")),
+];
+
+/// Gets the input and all that was printed.
+type Whole = fn(&[u8], &mut Printed);
+
+/// Names and what becomes of a whole run.
+const WHOLE: [(&str, Whole); 8] = [
+    ("count", |_, seen| count_more(seen)),
+    ("comment-lost", comment_lost),
+    ("old-answer-kept", answer_kept),
+    ("last-newline", |_, seen| newline_lost(seen)),
+    ("on-error", |_, seen| seen.error.push(b'\n')),
+    ("status", |_, seen| seen.status = Some(1)),
+    ("too-long-taken", too_long_taken),
+    ("too-long-untold", |_, seen| seen.error.clear()),
+];
+
+impl CasesSpoil {
+    pub fn names() -> impl Iterator<Item = String> {
+        let answers = ANSWERS.iter().map(|way| way.0);
+        let all = answers.chain(WHOLE.iter().map(|way| way.0));
+        all.map(|name| format!("cases-{name}"))
+    }
+
+    pub fn named(name: &str) -> Option<CasesSpoil> {
+        let place = CasesSpoil::names().position(|known| known == name);
+        place.map(CasesSpoil)
+    }
+
+    pub fn apply(self, input: &[u8], seen: &mut Printed) {
+        match ANSWERS.get(self.0) {
+            Some(&(_, case, change)) => spoil_answer(&mut seen.output, case, change),
+            None => WHOLE[self.0 - ANSWERS.len()].1(input, seen),
+        }
+    }
+}

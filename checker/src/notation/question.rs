@@ -1,0 +1,118 @@
+// One case, read from its line.
+
+use super::bytes::{part, MOST_BYTES};
+use super::reader::{Reader, Unreadable};
+
+/// The largest buffer that is lent.
+const MOST_ROOM: usize = MOST_BYTES;
+
+const NAMES: [&str; 8] = [
+    "judge", "certify", "build", "refusal", "part", "transfer", "house", "limits",
+];
+
+#[derive(Clone, Debug, PartialEq, Eq)]
+pub enum Question {
+    Judge { room: usize, sheet: Vec<u8> },
+    Certify { room: usize, sheet: Vec<u8> },
+    Build { room: usize, sheet: Vec<u8> },
+    Refusal { kind: u16, sheet: Vec<u8> },
+    Part { kind: u16, sheet: Vec<u8> },
+    Transfer { from: u8, to: u8, sheet: Vec<u8> },
+    House { state: u8, command: u8 },
+    Limits,
+}
+
+/// Reads a line that is neither empty nor begins with `#` or `>`.
+pub fn question(line: &[u8]) -> Result<Question, Unreadable> {
+    let mut reader = Reader::new(line);
+    let name = reader.name(&NAMES)?;
+    let question = fields(name, &mut reader)?;
+    reader.end()?;
+    Ok(question)
+}
+
+fn fields(name: &str, reader: &mut Reader) -> Result<Question, Unreadable> {
+    Ok(match name {
+        "judge" => Question::Judge {
+            room: field(reader, MOST_ROOM)?,
+            sheet: sheet(reader)?,
+        },
+        "certify" => Question::Certify {
+            room: field(reader, MOST_ROOM)?,
+            sheet: sheet(reader)?,
+        },
+        "build" => Question::Build {
+            room: field(reader, MOST_ROOM)?,
+            sheet: sheet(reader)?,
+        },
+        "refusal" => Question::Refusal {
+            kind: field(reader, 65_535)? as u16,
+            sheet: sheet(reader)?,
+        },
+        "part" => Question::Part {
+            kind: field(reader, 65_535)? as u16,
+            sheet: sheet(reader)?,
+        },
+        "transfer" => Question::Transfer {
+            from: field(reader, 255)? as u8,
+            to: field(reader, 255)? as u8,
+            sheet: sheet(reader)?,
+        },
+        "house" => Question::House {
+            state: field(reader, 255)? as u8,
+            command: field(reader, 255)? as u8,
+        },
+        _ => Question::Limits,
+    })
+}
+
+/// The space in front of a field, and a number.
+fn field(reader: &mut Reader, most: usize) -> Result<usize, Unreadable> {
+    reader.take(b' ')?;
+    reader.number(most)
+}
+
+fn sheet(reader: &mut Reader) -> Result<Vec<u8>, Unreadable> {
+    reader.take(b' ')?;
+    part(reader)
+}
+
+impl Question {
+    pub fn name(&self) -> &'static str {
+        match self {
+            Question::Judge { .. } => "judge",
+            Question::Certify { .. } => "certify",
+            Question::Build { .. } => "build",
+            Question::Refusal { .. } => "refusal",
+            Question::Part { .. } => "part",
+            Question::Transfer { .. } => "transfer",
+            Question::House { .. } => "house",
+            Question::Limits => "limits",
+        }
+    }
+
+    /// The numbers in front of the sheet.
+    pub fn numbers(&self) -> Vec<usize> {
+        match *self {
+            Question::Judge { room, .. }
+            | Question::Certify { room, .. }
+            | Question::Build { room, .. } => vec![room],
+            Question::Refusal { kind, .. } | Question::Part { kind, .. } => vec![usize::from(kind)],
+            Question::Transfer { from, to, .. } => vec![usize::from(from), usize::from(to)],
+            Question::House { state, command } => vec![usize::from(state), usize::from(command)],
+            Question::Limits => Vec::new(),
+        }
+    }
+
+    pub fn sheet(&self) -> Option<&[u8]> {
+        match self {
+            Question::Judge { sheet, .. }
+            | Question::Certify { sheet, .. }
+            | Question::Build { sheet, .. }
+            | Question::Refusal { sheet, .. }
+            | Question::Part { sheet, .. }
+            | Question::Transfer { sheet, .. } => Some(sheet),
+            Question::House { .. } | Question::Limits => None,
+        }
+    }
+}

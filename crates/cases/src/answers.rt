@@ -1,0 +1,104 @@
+// The answers of the services, as text.
+use crate::bytes::bytes;
+use crate::bytes::front;
+use crate::output::labelled;
+use crate::output::text;
+use build::Answer as Building;
+use build::MaybeTransfer;
+use certify::Answer as Certification;
+use judge::Answer as Judgement;
+use machine::Entry;
+use machine::Limits;
+use sheet::Check;
+
+// A buffer, or what reading handed back, behind its bar.
+pub(crate) fn buffer(part: &[u8], out: &mut [u8], used: usize) -> usize {
+    let at = text(b" | ", out, used);
+    bytes(part, out, at)
+}
+
+fn refused(number: u8, place: usize, out: &mut [u8], used: usize) -> usize {
+    let at = labelled(b"refused ", number as usize, out, used);
+    labelled(b" at ", place, out, at)
+}
+
+fn pass(size: usize, end: u8, out: &mut [u8], used: usize) -> usize {
+    let at = labelled(b"pass ", size, out, used);
+    labelled(b" end ", end as usize, out, at)
+}
+
+fn wrong(place: usize, specified: u8, given: u8, out: &mut [u8], used: usize) -> usize {
+    let at = labelled(b"wrong at ", place, out, used);
+    let next = labelled(b" want ", specified as usize, out, at);
+    labelled(b" got ", given as usize, out, next)
+}
+
+pub(crate) fn judged(a: Judgement, out: &mut [u8], used: usize) -> usize {
+    match a {
+        Judgement::Pass { size, end } => pass(size, end, out, used),
+        Judgement::Wrong {
+            place,
+            specified,
+            given,
+        } => wrong(place, specified, given, out, used),
+        Judgement::Unfinished { number } => labelled(b"unfinished ", number, out, used),
+        Judgement::Refused { number, place } => refused(number, place, out, used),
+    }
+}
+
+fn open(recognised: usize, number: usize, out: &mut [u8], used: usize) -> usize {
+    let at = labelled(b"open ", number, out, used);
+    labelled(b" recognised ", recognised, out, at)
+}
+
+pub(crate) fn certified(a: Certification, out: &mut [u8], used: usize) -> usize {
+    match a {
+        Certification::Certified { recognised } => labelled(b"certified ", recognised, out, used),
+        Certification::Open { recognised, number } => open(recognised, number, out, used),
+        Certification::Refused { number, place } => refused(number, place, out, used),
+    }
+}
+
+pub(crate) fn built(a: Building, out: &mut [u8], used: usize) -> usize {
+    match a {
+        Building::Built { length } => labelled(b"built ", length, out, used),
+        Building::Refused { number, place } => refused(number, place, out, used),
+    }
+}
+
+// A refusal, or the word for none.
+pub(crate) fn checked(check: Check, out: &mut [u8], used: usize) -> usize {
+    match check {
+        Check::Clear => text(b"none", out, used),
+        Check::Refused { number, place } => refused(number, place, out, used),
+    }
+}
+
+// Where a part lies, and its bytes.
+pub(crate) fn handed(from: usize, part: &[u8], out: &mut [u8], used: usize) -> usize {
+    let at = labelled(b"from ", from, out, used);
+    let next = labelled(b" size ", part.len(), out, at);
+    buffer(part, out, next)
+}
+
+pub(crate) fn transferred(t: MaybeTransfer, out: &mut [u8], used: usize) -> usize {
+    let commands = t.commands;
+    if t.found {
+        let at = text(b"commands ", out, used);
+        bytes(front(&commands, t.length as usize), out, at)
+    } else {
+        text(b"none", out, used)
+    }
+}
+
+pub(crate) fn entry(e: Entry, out: &mut [u8], used: usize) -> usize {
+    let at = labelled(b"next ", e.next as usize, out, used);
+    labelled(b" answer ", e.answer as usize, out, at)
+}
+
+pub(crate) fn limits(l: Limits, out: &mut [u8], used: usize) -> usize {
+    let at = labelled(b"states ", l.states, out, used);
+    let next = labelled(b" commands ", l.commands, out, at);
+    let later = labelled(b" word ", l.word, out, next);
+    labelled(b" sequence ", l.sequence, out, later)
+}

@@ -1,0 +1,89 @@
+// The fields of a case behind its service's name.
+use crate::numbers::Cursor;
+use crate::numbers::Decimal;
+use crate::numbers::expect;
+use crate::numbers::expect_end;
+use crate::numbers::number;
+use crate::parts::Filled;
+use crate::parts::part;
+
+// The largest byte.
+const BYTE: u32 = 255;
+
+// Up to two numbers, how many bytes the part has, and where reading has come to.
+pub struct Fields {
+    pub first: u32,
+    pub second: u32,
+    pub size: usize,
+    pub cursor: Cursor,
+}
+
+// No fields.
+pub(crate) fn no_fields(line: &[u8], c: Cursor) -> Fields {
+    let cursor = expect_end(line, c);
+    Fields {
+        first: 0,
+        second: 0,
+        size: 0,
+        cursor,
+    }
+}
+
+// A number with the space behind it.
+fn spaced(line: &[u8], c: Cursor, most: u32) -> Decimal {
+    let n = number(line, c, most);
+    let cursor = expect(line, n.cursor, b' ');
+    Decimal {
+        value: n.value,
+        cursor,
+    }
+}
+
+// The one part of a case, its last field.
+fn last_part(line: &[u8], c: Cursor, parts: &mut [u8]) -> Filled {
+    let start = Filled { cursor: c, used: 0 };
+    let filled = part(line, start, parts);
+    let cursor = expect_end(line, filled.cursor);
+    let used = filled.used;
+    Filled { cursor, used }
+}
+
+// A number and a sheet.
+pub(crate) fn number_and_sheet(line: &[u8], c: Cursor, most: u32, parts: &mut [u8]) -> Fields {
+    let n = spaced(line, c, most);
+    let filled = last_part(line, n.cursor, parts);
+    let cursor = filled.cursor;
+    Fields {
+        first: n.value,
+        second: 0,
+        size: filled.used,
+        cursor,
+    }
+}
+
+// Two bytes and a sheet.
+pub(crate) fn bytes_and_sheet(line: &[u8], c: Cursor, parts: &mut [u8]) -> Fields {
+    let a = spaced(line, c, BYTE);
+    let b = spaced(line, a.cursor, BYTE);
+    let filled = last_part(line, b.cursor, parts);
+    let cursor = filled.cursor;
+    Fields {
+        first: a.value,
+        second: b.value,
+        size: filled.used,
+        cursor,
+    }
+}
+
+// Two bytes.
+pub(crate) fn two_bytes(line: &[u8], c: Cursor) -> Fields {
+    let a = spaced(line, c, BYTE);
+    let b = number(line, a.cursor, BYTE);
+    let cursor = expect_end(line, b.cursor);
+    Fields {
+        first: a.value,
+        second: b.value,
+        size: 0,
+        cursor,
+    }
+}

@@ -1,0 +1,58 @@
+// The services by name.
+pub enum Service {
+    Unknown,
+    Judge,
+    Certify,
+    Build,
+    Refusal,
+    Part,
+    Transfer,
+    House,
+    Limits,
+}
+
+// A service, and where its name ends; for an unknown one, how far the line is some name.
+pub struct Found {
+    pub service: Service,
+    pub at: usize,
+}
+
+// How many bytes of a line are those of a name.
+fn agreed(line: &[u8], name: &[u8]) -> usize {
+    let mut i = 0;
+    while i < name.len() && i < line.len() && line[i] == name[i] {
+        i += 1;
+    }
+    i
+}
+
+// The service where the line begins with its name, else the other.
+fn named_or(line: &[u8], name: &[u8], service: Service, other: Found) -> Found {
+    let at = agreed(line, name);
+    if at == name.len() {
+        Found { service, at }
+    } else if other.at < at {
+        Found {
+            service: Service::Unknown,
+            at,
+        }
+    } else {
+        other
+    }
+}
+
+// The service that a line names, with the space behind the name where fields follow.
+pub(crate) fn named(line: &[u8]) -> Found {
+    let none = Found {
+        service: Service::Unknown,
+        at: 0,
+    };
+    let a = named_or(line, b"judge ", Service::Judge, none);
+    let b = named_or(line, b"certify ", Service::Certify, a);
+    let c = named_or(line, b"build ", Service::Build, b);
+    let d = named_or(line, b"refusal ", Service::Refusal, c);
+    let e = named_or(line, b"part ", Service::Part, d);
+    let f = named_or(line, b"transfer ", Service::Transfer, e);
+    let g = named_or(line, b"house ", Service::House, f);
+    named_or(line, b"limits", Service::Limits, g)
+}

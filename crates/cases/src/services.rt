@@ -1,0 +1,173 @@
+// The services: the fields of each, and its answer.
+use crate::answers::buffer;
+use crate::answers::built;
+use crate::answers::certified;
+use crate::answers::checked;
+use crate::answers::entry;
+use crate::answers::handed;
+use crate::answers::judged;
+use crate::answers::limits;
+use crate::answers::transferred;
+use crate::bytes::fill;
+use crate::bytes::front;
+use crate::bytes::lent;
+use crate::fields::Fields;
+use crate::fields::bytes_and_sheet;
+use crate::fields::no_fields;
+use crate::fields::number_and_sheet;
+use crate::fields::two_bytes;
+use crate::names::Service;
+use crate::names::named;
+use crate::numbers::Cursor;
+use crate::numbers::failed_at;
+use crate::output::labelled;
+use crate::parts::KIND;
+use build::build;
+use build::transfer;
+use certify::certify;
+use judge::judge;
+use machine::Machine;
+use machine::house_entry;
+use machine::load_sheet;
+use sheet::Check;
+use sheet::Needs;
+use sheet::part_of;
+use sheet::read;
+use sheet::refusal;
+
+// The largest room.
+const ROOM: u32 = 1_048_576;
+
+// What every byte of a buffer is before it is lent.
+const BEFORE: u8 = 238;
+
+fn unknown(at: usize) -> Fields {
+    let cursor = failed_at(at);
+    Fields {
+        first: 0,
+        second: 0,
+        size: 0,
+        cursor,
+    }
+}
+
+// The fields behind a service's name.
+fn read_fields(line: &[u8], service: Service, at: usize, parts: &mut [u8]) -> Fields {
+    let c = Cursor { at, failed: false };
+    match service {
+        Service::Unknown => unknown(at),
+        Service::Judge | Service::Certify | Service::Build => number_and_sheet(
+            line,
+            c,
+            ROOM,
+            parts,
+        ),
+        Service::Refusal | Service::Part => number_and_sheet(line, c, KIND, parts),
+        Service::Transfer => bytes_and_sheet(line, c, parts),
+        Service::House => two_bytes(line, c),
+        Service::Limits => no_fields(line, c),
+    }
+}
+
+// So many bytes of a buffer, as they are before they are lent.
+fn lent_room(buf: &mut [u8], size: usize) -> &mut [u8] {
+    let room = lent(buf, size);
+    fill(BEFORE, room);
+    room
+}
+
+fn judge_case(sheet: &[u8], size: usize, buf: &mut [u8], out: &mut [u8], used: usize) -> usize {
+    let room = lent_room(buf, size);
+    let at = judged(judge(sheet, room), out, used);
+    buffer(room, out, at)
+}
+
+fn certify_case(sheet: &[u8], size: usize, buf: &mut [u8], out: &mut [u8], used: usize) -> usize {
+    let room = lent_room(buf, size);
+    let at = certified(certify(sheet, room), out, used);
+    buffer(room, out, at)
+}
+
+fn build_case(sheet: &[u8], size: usize, buf: &mut [u8], out: &mut [u8], used: usize) -> usize {
+    let room = lent_room(buf, size);
+    let at = built(build(sheet, room), out, used);
+    buffer(room, out, at)
+}
+
+fn part_case(sheet: &[u8], kind: u16, out: &mut [u8], used: usize) -> usize {
+    let place = part_of(sheet, kind);
+    handed(place.from, read(sheet, kind), out, used)
+}
+
+fn transfer_case(sheet: &[u8], from: u8, to: u8, out: &mut [u8], used: usize) -> usize {
+    let needs = Needs {
+        word: false,
+        sequence: false,
+        answers: false,
+    };
+    let loaded = load_sheet(sheet, needs);
+    let check = loaded.check;
+    let machine = loaded.machine;
+    match check {
+        Check::Clear => transferred(transfer(machine, from, to), out, used),
+        Check::Refused {
+            number: _,
+            place: _,
+        } => checked(check, out, used),
+    }
+}
+
+// The answer of a service to its fields, the sheet in the first bytes of the parts.
+fn perform(
+    service: Service,
+    f: Fields,
+    parts: &[u8],
+    buf: &mut [u8],
+    out: &mut [u8],
+    used: usize,
+) -> usize {
+    let sheet = front(parts, f.size);
+    let room = f.first as usize;
+    let kind = (f.first % 65_536) as u16;
+    let a = (f.first % 256) as u8;
+    let b = (f.second % 256) as u8;
+    match service {
+        Service::Unknown => used,
+        Service::Judge => judge_case(sheet, room, buf, out, used),
+        Service::Certify => certify_case(sheet, room, buf, out, used),
+        Service::Build => build_case(sheet, room, buf, out, used),
+        Service::Refusal => checked(refusal(sheet, kind), out, used),
+        Service::Part => part_case(sheet, kind, out, used),
+        Service::Transfer => transfer_case(sheet, a, b, out, used),
+        Service::House => entry(house_entry(a, b), out, used),
+        Service::Limits => limits(Machine::limits(), out, used),
+    }
+}
+
+// The column of a place in a line; of every place behind its end, the one right behind it.
+fn column(line: &[u8], at: usize) -> usize {
+    if at < line.len() {
+        at + 1
+    } else {
+        line.len() + 1
+    }
+}
+
+// The answer to a line that is to be a case.
+pub(crate) fn answer(
+    line: &[u8],
+    parts: &mut [u8],
+    buf: &mut [u8],
+    out: &mut [u8],
+    used: usize,
+) -> usize {
+    let n = named(line);
+    let service = n.service;
+    let f = read_fields(line, service, n.at, parts);
+    let cursor = f.cursor;
+    if cursor.failed {
+        labelled(b"unreadable at ", column(line, cursor.at), out, used)
+    } else {
+        perform(service, f, parts, buf, out, used)
+    }
+}
