@@ -102,7 +102,7 @@ fn built(outcome: Result<usize, Refusal>) -> String {
     }
 }
 
-/// A refusal hands back the empty part at the sheet's start.
+/// Where the part lies, its size and its bytes: none of them, at offset 0, where reading refuses.
 fn handed_back(sheet: &[u8], kind: u16) -> String {
     let (from, bytes) = match part(sheet, kind) {
         Ok(part) => (part.offset(0), part.payload),

@@ -1,6 +1,6 @@
 // The answers of the services, as text.
+use crate::buffers::front;
 use crate::bytes::bytes;
-use crate::bytes::front;
 use crate::output::labelled;
 use crate::output::text;
 use build::Answer as Building;

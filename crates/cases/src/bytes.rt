@@ -1,32 +1,9 @@
-// Parts of a buffer, bytes written many times, and bytes in the notation of cases.
-ghost use Prim.Native.Nat.{_<_, _≤_};
+// Bytes as text, in the notation of cases.
+ghost use Prim.Native.Nat.{_<_};
 ghost use lib.ListN.{length};
+use crate::output::decimal;
 use crate::output::labelled;
-use crate::output::number;
 use crate::output::text;
-
-// The first bytes of a buffer; all of them where there are fewer.
-pub(crate) fn front(buf: &[u8], size: usize) -> &[u8] {
-    if size <= buf.len() { &buf[..size] } else { buf }
-}
-
-// The same, to write to.
-pub(crate) fn lent(buf: &mut [u8], size: usize) -> &mut [u8] {
-    if size <= buf.len() {
-        &mut buf[..size]
-    } else {
-        buf
-    }
-}
-
-// Writes a byte to every place of a buffer.
-pub(crate) fn fill(b: u8, buf: &mut [u8]) {
-    let mut i = 0;
-    while i < buf.len() {
-        buf[i] = b;
-        i += 1;
-    }
-}
 
 // Where the run of equal bytes ends that begins at a place.
 fn run_end(part: &[u8], from: usize) -> usize
@@ -43,7 +20,7 @@ fn run_end(part: &[u8], from: usize) -> usize
 
 // A run of equal bytes: as `B*N` from three on.
 fn run(b: u8, count: usize, out: &mut [u8], used: usize) -> usize {
-    let at = number(b as usize, out, used);
+    let at = decimal(b as usize, out, used);
     if count == 1 {
         at
     } else if count == 2 {
@@ -63,6 +40,7 @@ fn next_run(first: bool, b: u8, count: usize, out: &mut [u8], used: usize) -> us
     }
 }
 
+// The runs of a part, a space between them.
 fn runs(part: &[u8], out: &mut [u8], used: usize) -> usize {
     let mut at = used;
     let mut i = 0;

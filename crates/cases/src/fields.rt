@@ -1,14 +1,12 @@
 // The fields of a case behind its service's name.
+use crate::numbers::BYTE;
 use crate::numbers::Cursor;
 use crate::numbers::Decimal;
 use crate::numbers::expect;
 use crate::numbers::expect_end;
-use crate::numbers::number;
+use crate::numbers::read_number;
 use crate::parts::Filled;
-use crate::parts::part;
-
-// The largest byte.
-const BYTE: u32 = 255;
+use crate::parts::read_part;
 
 // Up to two numbers, how many bytes the part has, and where reading has come to.
 pub struct Fields {
@@ -18,7 +16,7 @@ pub struct Fields {
     pub cursor: Cursor,
 }
 
-// No fields.
+// No fields: the line ends here.
 pub(crate) fn no_fields(line: &[u8], c: Cursor) -> Fields {
     let cursor = expect_end(line, c);
     Fields {
@@ -31,7 +29,7 @@ pub(crate) fn no_fields(line: &[u8], c: Cursor) -> Fields {
 
 // A number with the space behind it.
 fn spaced(line: &[u8], c: Cursor, most: u32) -> Decimal {
-    let n = number(line, c, most);
+    let n = read_number(line, c, most);
     let cursor = expect(line, n.cursor, b' ');
     Decimal {
         value: n.value,
@@ -42,7 +40,7 @@ fn spaced(line: &[u8], c: Cursor, most: u32) -> Decimal {
 // The one part of a case, its last field.
 fn last_part(line: &[u8], c: Cursor, parts: &mut [u8]) -> Filled {
     let start = Filled { cursor: c, used: 0 };
-    let filled = part(line, start, parts);
+    let filled = read_part(line, start, parts);
     let cursor = expect_end(line, filled.cursor);
     let used = filled.used;
     Filled { cursor, used }
@@ -78,7 +76,7 @@ pub(crate) fn bytes_and_sheet(line: &[u8], c: Cursor, parts: &mut [u8]) -> Field
 // Two bytes.
 pub(crate) fn two_bytes(line: &[u8], c: Cursor) -> Fields {
     let a = spaced(line, c, BYTE);
-    let b = number(line, a.cursor, BYTE);
+    let b = read_number(line, a.cursor, BYTE);
     let cursor = expect_end(line, b.cursor);
     Fields {
         first: a.value,

@@ -6,10 +6,10 @@ use crate::output::text;
 use crate::services::answer;
 use sheet::byte;
 
-// What a line is.
+// What becomes of a line.
 enum Line {
-    Comment,
-    Answer,
+    Copied,
+    Dropped,
     Case,
 }
 
@@ -34,12 +34,12 @@ fn line_end(input: &[u8], from: usize) -> usize
 
 fn line_of(line: &[u8]) -> Line {
     if line.len() == 0 {
-        return Line::Comment;
+        return Line::Copied;
     }
     let first = byte(line, 0);
     match first {
-        b'#' => Line::Comment,
-        b'>' => Line::Answer,
+        b'#' => Line::Copied,
+        b'>' => Line::Dropped,
         _ => Line::Case,
     }
 }
@@ -64,11 +64,11 @@ fn line_done(line: &[u8], parts: &mut [u8], buf: &mut [u8], out: &mut [u8], used
 {
     let kind = line_of(line);
     match kind {
-        Line::Comment => Done {
+        Line::Copied => Done {
             used: copied(line, out, used),
             cases: 0,
         },
-        Line::Answer => Done { used, cases: 0 },
+        Line::Dropped => Done { used, cases: 0 },
         Line::Case => Done {
             used: case(line, parts, buf, out, used),
             cases: 1,

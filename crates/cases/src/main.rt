@@ -1,6 +1,7 @@
 // The case runner: reads cases as text from standard input and writes the same text with the answer
 // below each case. docs/CASES.md describes the notation.
 mod answers;
+mod buffers;
 mod bytes;
 mod fields;
 mod lines;
@@ -10,7 +11,8 @@ mod output;
 mod parts;
 mod services;
 
-use bytes::front;
+use buffers::front;
+use libc::STDERR_FILENO;
 use lines::answered;
 use output::flush;
 use streams::Input;
@@ -45,7 +47,9 @@ fn answer(input: &[u8]) {
 // Answers an input unless it is too large.
 fn answer_or_tell(input: &[u8]) {
     if CAPACITY < input.len() {
-        write_error(b"cases: the input has more than 1048576 bytes\n");
+        write_error(b"cases: the input has more than ");
+        io::print_decimal(STDERR_FILENO, CAPACITY as u64);
+        write_error(b" bytes\n");
     } else {
         answer(input);
     }

@@ -11,13 +11,14 @@ pub enum Service {
     Limits,
 }
 
-// A service, and where its name ends; for an unknown one, how far the line is some name.
+// A service, and the place behind its name; for an unknown one, the first place at which the line
+// is no name's beginning any more.
 pub struct Found {
     pub service: Service,
     pub at: usize,
 }
 
-// How many bytes of a line are those of a name.
+// How many bytes of a line are the first ones of a name.
 fn agreed(line: &[u8], name: &[u8]) -> usize {
     let mut i = 0;
     while i < name.len() && i < line.len() && line[i] == name[i] {
@@ -26,7 +27,8 @@ fn agreed(line: &[u8], name: &[u8]) -> usize {
     i
 }
 
-// The service where the line begins with its name, else the other.
+// The service where the line begins with its name, else the other, or how far the line is this
+// name's beginning where that is farther.
 fn named_or(line: &[u8], name: &[u8], service: Service, other: Found) -> Found {
     let at = agreed(line, name);
     if at == name.len() {
@@ -41,7 +43,7 @@ fn named_or(line: &[u8], name: &[u8], service: Service, other: Found) -> Found {
     }
 }
 
-// The service that a line names, with the space behind the name where fields follow.
+// The service that a line names. To the name belongs the space behind it where fields follow.
 pub(crate) fn named(line: &[u8]) -> Found {
     let none = Found {
         service: Service::Unknown,

@@ -1,6 +1,9 @@
 // Reading a line from the front: single bytes and decimal numbers.
 use sheet::byte;
 
+// The largest byte.
+pub(crate) const BYTE: u32 = 255;
+
 // Where reading has come to; where it has failed, the place that cannot be read. Whatever is read
 // after a failure leaves the place as it is.
 pub struct Cursor {
@@ -54,7 +57,7 @@ fn is_digit(b: u8) -> bool {
     48 <= b && b <= 57
 }
 
-// A digit behind a number.
+// A number with a digit behind it; the digits are the bytes 48 to 57.
 fn extended_by(value: u32, digit: u8, most: u32) -> Extended {
     let next = value as u64 * 10 + (digit % 16) as u64;
     if next <= most as u64 {
@@ -68,7 +71,7 @@ fn extended_by(value: u32, digit: u8, most: u32) -> Extended {
 }
 
 // The digits from a place on, at least one, as a number that is not too large.
-fn digits(line: &[u8], from: usize, most: u32) -> Decimal {
+fn read_digits(line: &[u8], from: usize, most: u32) -> Decimal {
     let mut value = 0;
     let mut at = from;
     while at < line.len() && is_digit(byte(line, at)) {
@@ -89,14 +92,14 @@ fn digits(line: &[u8], from: usize, most: u32) -> Decimal {
     Decimal { value, cursor }
 }
 
-// A number of at most some value.
-pub(crate) fn number(line: &[u8], c: Cursor, most: u32) -> Decimal {
+// A number that is at most another.
+pub(crate) fn read_number(line: &[u8], c: Cursor, most: u32) -> Decimal {
     if c.failed {
         Decimal {
             value: 0,
             cursor: c,
         }
     } else {
-        digits(line, c.at, most)
+        read_digits(line, c.at, most)
     }
 }

@@ -1,11 +1,12 @@
 // Reading a part: bytes, runs of them and records, put into a buffer one behind the other.
-use crate::bytes::fill;
+use crate::buffers::fill;
+use crate::numbers::BYTE;
 use crate::numbers::Cursor;
 use crate::numbers::Decimal;
 use crate::numbers::expect;
 use crate::numbers::failed_at;
 use crate::numbers::next_is;
-use crate::numbers::number;
+use crate::numbers::read_number;
 use sheet::HEADER;
 use sheet::byte;
 use sheet::header_of;
@@ -22,14 +23,14 @@ pub struct Filled {
     pub used: usize,
 }
 
-// The length that a record's header is to have, where one is given.
-struct Claim {
+// The length for a record's header, where one is given.
+struct Length {
     given: bool,
     length: usize,
     cursor: Cursor,
 }
 
-// How many bytes of a buffer are left.
+// How many bytes of a buffer are left; none where more are used than it has.
 fn left(parts: &[u8], used: usize) -> usize {
     if parts.len() < used {
         0
@@ -38,8 +39,8 @@ fn left(parts: &[u8], used: usize) -> usize {
     }
 }
 
-// The same as the limit of a number.
-fn limit(parts: &[u8], used: usize) -> u32 {
+// The same as the limit of a number, which has 32 bits.
+pub(crate) fn limit(parts: &[u8], used: usize) -> u32 {
     let bytes = left(parts, used);
     if bytes < LENGTH as usize {
         bytes as u32
@@ -62,9 +63,9 @@ fn put_run(b: u8, count: usize, used: usize, parts: &mut [u8]) -> usize {
 }
 
 // How often a byte is meant, by what stands behind it: `*N`, or nothing for once.
-fn times(line: &[u8], c: Cursor, most: u32) -> Decimal {
+fn read_times(line: &[u8], c: Cursor, most: u32) -> Decimal {
     if next_is(line, c, b'*') {
-        number(line, expect(line, c, b'*'), most)
+        read_number(line, expect(line, c, b'*'), most)
     } else if most == 0 {
         Decimal {
             value: 0,
@@ -79,39 +80,39 @@ fn times(line: &[u8], c: Cursor, most: u32) -> Decimal {
 }
 
 // `B` or `B*N`.
-fn run(line: &[u8], f: Filled, parts: &mut [u8]) -> Filled {
-    let b = number(line, f.cursor, 255);
-    let n = times(line, b.cursor, limit(parts, f.used));
+fn read_run(line: &[u8], f: Filled, parts: &mut [u8]) -> Filled {
+    let b = read_number(line, f.cursor, BYTE);
+    let n = read_times(line, b.cursor, limit(parts, f.used));
     let used = put_run((b.value % 256) as u8, n.value as usize, f.used, parts);
     let cursor = n.cursor;
     Filled { cursor, used }
 }
 
 // Runs with a space before each but the first. No line has more of them than bytes.
-fn runs(line: &[u8], f: Filled, parts: &mut [u8]) -> Filled {
-    let mut filled = run(line, f, parts);
+fn read_runs(line: &[u8], f: Filled, parts: &mut [u8]) -> Filled {
+    let mut filled = read_run(line, f, parts);
     let mut turns = line.len();
     while turns > 0 && next_is(line, filled.cursor, b' ') {
         let cursor = expect(line, filled.cursor, b' ');
         let used = filled.used;
-        filled = run(line, Filled { cursor, used }, parts);
+        filled = read_run(line, Filled { cursor, used }, parts);
         turns -= 1;
     }
     filled
 }
 
 // `:LEN`, or nothing.
-fn length_field(line: &[u8], c: Cursor) -> Claim {
+fn read_length(line: &[u8], c: Cursor) -> Length {
     if next_is(line, c, b':') {
-        let n = number(line, expect(line, c, b':'), LENGTH);
+        let n = read_number(line, expect(line, c, b':'), LENGTH);
         let cursor = n.cursor;
-        Claim {
+        Length {
             given: true,
             length: n.value as usize,
             cursor,
         }
     } else {
-        Claim {
+        Length {
             given: false,
             length: 0,
             cursor: c,
@@ -120,7 +121,7 @@ fn length_field(line: &[u8], c: Cursor) -> Claim {
 }
 
 // A payload behind its space: runs, `-` or nothing.
-fn spaced_payload(line: &[u8], f: Filled, parts: &mut [u8]) -> Filled {
+fn read_spaced_payload(line: &[u8], f: Filled, parts: &mut [u8]) -> Filled {
     let used = f.used;
     if next_is(line, f.cursor, b'}') {
         return f;
@@ -129,60 +130,67 @@ fn spaced_payload(line: &[u8], f: Filled, parts: &mut [u8]) -> Filled {
         let cursor = expect(line, f.cursor, b'-');
         return Filled { cursor, used };
     }
-    runs(line, f, parts)
+    read_runs(line, f, parts)
 }
 
 // What stands in a record behind its kind and length.
-fn payload(line: &[u8], f: Filled, parts: &mut [u8]) -> Filled {
+fn read_payload(line: &[u8], f: Filled, parts: &mut [u8]) -> Filled {
     if next_is(line, f.cursor, b'}') {
         return f;
     }
     let cursor = expect(line, f.cursor, b' ');
     let used = f.used;
-    spaced_payload(line, Filled { cursor, used }, parts)
+    read_spaced_payload(line, Filled { cursor, used }, parts)
 }
 
-// The length of a payload between two places.
-fn between(from: usize, end: usize) -> usize {
-    if end < from { 0 } else { end - from }
+// The header of a record whose payload lies between two places, with the length that is given.
+fn header(kind: Decimal, given: Length, from: usize, end: usize) -> [u8; HEADER] {
+    let number = (kind.value % 65_536) as u16;
+    if given.given {
+        header_of(number, given.length)
+    } else if end < from {
+        header_of(number, 0)
+    } else {
+        header_of(number, end - from)
+    }
 }
 
-// `{K ..}` or `{K:LEN ..}`, where the header fits. It is put before the payload, whose length it
-// has, when that is known.
-fn record(line: &[u8], f: Filled, parts: &mut [u8]) -> Filled {
-    let start = f.used;
-    if left(parts, start) < HEADER {
+// A record behind its brace. The header's place is kept free while the payload is read, whose
+// length it has.
+fn read_body(line: &[u8], f: Filled, parts: &mut [u8]) -> Filled {
+    let kind = read_number(line, f.cursor, KIND);
+    let given = read_length(line, kind.cursor);
+    let cursor = given.cursor;
+    let from = put_run(0, HEADER, f.used, parts);
+    let filled = read_payload(line, Filled { cursor, used: from }, parts);
+    let bytes = header(kind, given, from, filled.used);
+    put(&bytes, f.used, parts);
+    filled
+}
+
+// `{K ..}` or `{K:LEN ..}`, where there is room for its header.
+fn read_record(line: &[u8], f: Filled, parts: &mut [u8]) -> Filled {
+    if left(parts, f.used) < HEADER {
         let cursor = failed_at(f.cursor.at);
-        return Filled {
-            cursor,
-            used: start,
-        };
+        let used = f.used;
+        return Filled { cursor, used };
     }
-    let kind = number(line, expect(line, f.cursor, b'{'), KIND);
-    let claimed = length_field(line, kind.cursor);
-    let cursor = claimed.cursor;
-    let body = put_run(0, HEADER, start, parts);
-    let filled = payload(line, Filled { cursor, used: body }, parts);
-    let end = filled.used;
-    let size = if claimed.given {
-        claimed.length
-    } else {
-        between(body, end)
+    let opened = expect(line, f.cursor, b'{');
+    let start = Filled {
+        cursor: opened,
+        used: f.used,
     };
-    let header = header_of((kind.value % 65_536) as u16, size);
-    put(&header, start, parts);
-    let closed = expect(line, filled.cursor, b'}');
-    Filled {
-        cursor: closed,
-        used: end,
-    }
+    let filled = read_body(line, start, parts);
+    let cursor = expect(line, filled.cursor, b'}');
+    let used = filled.used;
+    Filled { cursor, used }
 }
 
-fn item(line: &[u8], f: Filled, parts: &mut [u8]) -> Filled {
+fn read_item(line: &[u8], f: Filled, parts: &mut [u8]) -> Filled {
     if next_is(line, f.cursor, b'{') {
-        record(line, f, parts)
+        read_record(line, f, parts)
     } else {
-        run(line, f, parts)
+        read_run(line, f, parts)
     }
 }
 
@@ -201,24 +209,24 @@ fn next_item(line: &[u8], c: Cursor) -> Cursor {
 }
 
 // Items, one behind the other. No line has more of them than bytes.
-fn items(line: &[u8], f: Filled, parts: &mut [u8]) -> Filled {
-    let mut filled = item(line, f, parts);
+fn read_items(line: &[u8], f: Filled, parts: &mut [u8]) -> Filled {
+    let mut filled = read_item(line, f, parts);
     let mut turns = line.len();
     while turns > 0 && (joined(line, filled.cursor) || next_is(line, filled.cursor, b' ')) {
         let cursor = next_item(line, filled.cursor);
         let used = filled.used;
-        filled = item(line, Filled { cursor, used }, parts);
+        filled = read_item(line, Filled { cursor, used }, parts);
         turns -= 1;
     }
     filled
 }
 
 // A part: `-`, or items.
-pub(crate) fn part(line: &[u8], f: Filled, parts: &mut [u8]) -> Filled {
+pub(crate) fn read_part(line: &[u8], f: Filled, parts: &mut [u8]) -> Filled {
     if next_is(line, f.cursor, b'-') {
         let cursor = expect(line, f.cursor, b'-');
         let used = f.used;
         return Filled { cursor, used };
     }
-    items(line, f, parts)
+    read_items(line, f, parts)
 }

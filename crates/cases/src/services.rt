@@ -8,9 +8,9 @@ use crate::answers::handed;
 use crate::answers::judged;
 use crate::answers::limits;
 use crate::answers::transferred;
-use crate::bytes::fill;
-use crate::bytes::front;
-use crate::bytes::lent;
+use crate::buffers::fill;
+use crate::buffers::front;
+use crate::buffers::lent;
 use crate::fields::Fields;
 use crate::fields::bytes_and_sheet;
 use crate::fields::no_fields;
@@ -22,6 +22,7 @@ use crate::numbers::Cursor;
 use crate::numbers::failed_at;
 use crate::output::labelled;
 use crate::parts::KIND;
+use crate::parts::limit;
 use build::build;
 use build::transfer;
 use certify::certify;
@@ -35,31 +36,18 @@ use sheet::part_of;
 use sheet::read;
 use sheet::refusal;
 
-// The largest room.
-const ROOM: u32 = 1_048_576;
-
 // What every byte of a buffer is before it is lent.
 const BEFORE: u8 = 238;
 
-fn unknown(at: usize) -> Fields {
-    let cursor = failed_at(at);
-    Fields {
-        first: 0,
-        second: 0,
-        size: 0,
-        cursor,
-    }
-}
-
-// The fields behind a service's name.
-fn read_fields(line: &[u8], service: Service, at: usize, parts: &mut [u8]) -> Fields {
+// The fields behind a service's name, with a room of at most so many bytes.
+fn read_fields(line: &[u8], service: Service, at: usize, room: u32, parts: &mut [u8]) -> Fields {
     let c = Cursor { at, failed: false };
     match service {
-        Service::Unknown => unknown(at),
+        Service::Unknown => no_fields(line, failed_at(at)),
         Service::Judge | Service::Certify | Service::Build => number_and_sheet(
             line,
             c,
-            ROOM,
+            room,
             parts,
         ),
         Service::Refusal | Service::Part => number_and_sheet(line, c, KIND, parts),
@@ -117,7 +105,8 @@ fn transfer_case(sheet: &[u8], from: u8, to: u8, out: &mut [u8], used: usize) ->
     }
 }
 
-// The answer of a service to its fields, the sheet in the first bytes of the parts.
+// The answer of a service to its fields, the sheet in the first bytes of the parts. An unknown one
+// has none: its line could not be read.
 fn perform(
     service: Service,
     f: Fields,
@@ -163,7 +152,7 @@ pub(crate) fn answer(
 ) -> usize {
     let n = named(line);
     let service = n.service;
-    let f = read_fields(line, service, n.at, parts);
+    let f = read_fields(line, service, n.at, limit(buf, 0), parts);
     let cursor = f.cursor;
     if cursor.failed {
         labelled(b"unreadable at ", column(line, cursor.at), out, used)

@@ -2,11 +2,14 @@
 use libc::STDERR_FILENO;
 use libc::STDOUT_FILENO;
 
-// Writes all bytes to standard output, or tells on standard error that it could not.
-pub fn write_output(bytes: &[u8]) {
-    if !io::write_all(STDOUT_FILENO, bytes) {
+// Writes all bytes to standard output, or tells on standard error that it could not; says whether it
+// could.
+pub fn write_output(bytes: &[u8]) -> bool {
+    let written = io::write_all(STDOUT_FILENO, bytes);
+    if !written {
         os::fail(b"standard output");
     }
+    written
 }
 
 // Writes all bytes to standard error, as far as it takes them.

@@ -6,7 +6,8 @@ use mathlib.Core.Path.{_≡_, refl, sym, ap, ap₂, _∙_}
 use mathlib.Core.Bool.{Bool, true, false}
 use mathlib.Core.List.{List, [], _∷_, _++_, append-assoc, append-nil}
 use native.Mathlib.Omega.{arith}
-use native.Mathlib.Nat.{add-zero, add-suc, not-suc-le-zero}
+use native.Mathlib.Numerals.{add-one}
+use native.Mathlib.Nat.{add-zero, add-suc, not-suc-le-zero, le-refl, le-of-suc-le}
 use borrow.Author.Tests.{eqb-true, eqb-false}
 use lib.Dec.{eqb}
 use lib.ListN.{length, getD, take, drop, length-append}
@@ -188,7 +189,7 @@ module _ (M : Mealy) (w : List ℕ) (h : Blocks M w) where
   state-more : (xs ys : List ℕ) (s k : ℕ) → StateTested xs s k → Ended (xs ++ ys) → Tested (xs ++ ys) s k → StateTested (xs ++ ys) s (suc k)
   state-more xs ys s k o e t = record {
     ended = e;
-    tested = λ c l. below-more (Tested (xs ++ ys) s) k (λ d q. longer-tested xs ys s d (o .tested d q)) t c (omega arith);
+    tested = λ c l. below-more (Tested (xs ++ ys) s) k (λ d q. longer-tested xs ys s d (o .tested d q)) t c (rw add-one l);
   }
 
   state-step : (xs ys : List ℕ) (p s k : ℕ) → run M (M .start) xs ≡ p → s < M .n → k < M .k → StateTested (xs ++ ys) s k → StateTested (xs ++ (ys ++ test M w (run M p ys) s k)) s (suc k)
@@ -201,7 +202,7 @@ module _ (M : Mealy) (w : List ℕ) (h : Blocks M w) where
   state-tested : (xs : List ℕ) (p s k : ℕ) → Ended xs → run M (M .start) xs ≡ p → s < M .n → k ≤ M .k → StateTested (xs ++ stateTests M w p s k) s k
   state-tested xs p s zero o e sl kl = record { ended = ended-here xs o (state-tests-none M w p s); tested = λ c l. absurd (not-suc-le-zero l) }
   state-tested xs p s (suc k) o e sl kl =
-      rw (state-tests-more M w p s k) (state-step xs (stateTests M w p s k) p s k e sl kl (state-tested xs p s k o e sl (omega arith)))
+      rw (state-tests-more M w p s k) (state-step xs (stateTests M w p s k) p s k e sl kl (state-tested xs p s k o e sl (le-of-suc-le kl)))
 
   -- the tests of the first states
   record AllTested (xs : List ℕ) (n : ℕ) : Type 0 where
@@ -211,18 +212,18 @@ module _ (M : Mealy) (w : List ℕ) (h : Blocks M w) where
   all-more : (xs ys : List ℕ) (n : ℕ) → AllTested xs n → StateTested (xs ++ ys) n (M .k) → AllTested (xs ++ ys) (suc n)
   all-more xs ys n o t = record {
     ended = t .ended;
-    tested = λ s c l cl. below-more (λ r. (d : ℕ) → d < M .k → Tested (xs ++ ys) r d) n (λ r q d dl. longer-tested xs ys r d (o .tested r d q dl)) (t .tested) s (omega arith) c cl;
+    tested = λ s c l cl. below-more (λ r. (d : ℕ) → d < M .k → Tested (xs ++ ys) r d) n (λ r q d dl. longer-tested xs ys r d (o .tested r d q dl)) (t .tested) s (rw add-one l) c cl;
   }
 
   all-step : (xs ys : List ℕ) (p n : ℕ) → run M (M .start) xs ≡ p → n < M .n → AllTested (xs ++ ys) n → AllTested (xs ++ (ys ++ stateTests M w (run M p ys) n (M .k))) (suc n)
   all-step xs ys p n e nl so =
       let at = run-append M (M .start) xs ys ∙ ap (λ (x : ℕ). run M x ys) e in
       rw (← append-assoc)
-      (all-more (xs ++ ys) (stateTests M w (run M p ys) n (M .k)) n so (state-tested (xs ++ ys) (run M p ys) n (M .k) (so .ended) at nl (omega arith)))
+      (all-more (xs ++ ys) (stateTests M w (run M p ys) n (M .k)) n so (state-tested (xs ++ ys) (run M p ys) n (M .k) (so .ended) at nl (le-refl (M .k))))
 
   all-tested : (xs : List ℕ) (p n : ℕ) → Ended xs → run M (M .start) xs ≡ p → n ≤ M .n → AllTested (xs ++ tests M w p n) n
   all-tested xs p zero o e nl = record { ended = ended-here xs o (tests-none M w p); tested = λ s c l cl. absurd (not-suc-le-zero l) }
-  all-tested xs p (suc n) o e nl = rw (tests-more M w p n) (all-step xs (tests M w p n) p n e nl (all-tested xs p n o e (omega arith)))
+  all-tested xs p (suc n) o e nl = rw (tests-more M w p n) (all-step xs (tests M w p n) p n e nl (all-tested xs p n o e (le-of-suc-le nl)))
 
   -- ---- the whole sequence
   sequence-opened : (s : ℕ) → s < M .n → Opened (sequence M w) s
@@ -230,7 +231,7 @@ module _ (M : Mealy) (w : List ℕ) (h : Blocks M w) where
 
   sequence-tested : (s c : ℕ) → s < M .n → c < M .k → Tested (sequence M w) s c
   sequence-tested s c sl cl =
-      rw (sequence-is M w) (all-tested (opening M w) (run M (M .start) (opening M w)) (M .n) opening-ended refl (omega arith) .tested s c sl cl)
+      rw (sequence-is M w) (all-tested (opening M w) (run M (M .start) (opening M w)) (M .n) opening-ended refl (le-refl (M .n)) .tested s c sl cl)
 
   sequence-begins : (after : List ℕ) × (sequence M w ≡ T M w (M .start) ++ after)
   sequence-begins =

@@ -1,10 +1,10 @@
--- `cases::parts::items` meets its contract: the turns that are left fall.
+-- `cases::parts::read_runs` meets its contract: the turns that are left fall.
 -- Assumes nothing.
 use borrow.Author.Needs.{needs}
 use mathlib.Core.Path.{_≡_}
 use lib.ListN.{length}
-use Rattle.cases.proofs.parts.items.Statement.{statement}
-use Rattle.cases.proofs.parts.items.Tie as tie
+use Rattle.cases.proofs.parts.read_runs.Statement.{statement}
+use Rattle.cases.proofs.parts.read_runs.Tie as tie
 
 abbrev Inv-loop : tie.InvT-loop
 Inv-loop line parts₀ filled₀ turns₀ parts filled turns = length parts ≡ length parts₀
@@ -12,23 +12,20 @@ Inv-loop line parts₀ filled₀ turns₀ parts filled turns = length parts ≡ 
 abbrev μ-loop : tie.MeasureT-loop
 μ-loop line parts₀ filled₀ turns₀ parts filled turns = turns
 
-item-requires : tie.Need-item-requires Inv-loop μ-loop
-item-requires c κs = search needs
+read-run-requires : tie.Need-read-run-requires Inv-loop μ-loop
+read-run-requires c κs = search needs
 
 loop-holds : tie.Need-loop-holds Inv-loop μ-loop
 loop-holds c = search needs
 
-joined-requires : tie.Need-joined-requires Inv-loop μ-loop
-joined-requires c κs = search needs
-
 next-is-requires : tie.Need-next-is-requires Inv-loop μ-loop
 next-is-requires c κs = search needs
 
-next-item-requires : tie.Need-next-item-requires Inv-loop μ-loop
-next-item-requires c κs = search needs
+expect-requires : tie.Need-expect-requires Inv-loop μ-loop
+expect-requires c κs = search needs
 
-item-requires-2 : tie.Need-item-requires-2 Inv-loop μ-loop
-item-requires-2 c κs = search needs
+read-run-requires-2 : tie.Need-read-run-requires-2 Inv-loop μ-loop
+read-run-requires-2 c κs = search needs
 
 sub-turns : tie.Need-sub-turns Inv-loop μ-loop
 sub-turns c = search needs
@@ -51,18 +48,17 @@ same-length-2 c = search needs
 returns-2 : tie.Need-returns-2 Inv-loop μ-loop
 returns-2 c = search needs
 
-pub items-spec : {M : Type 1} → statement M
-items-spec =
+pub read-runs-spec : {M : Type 1} → statement M
+read-runs-spec =
     tie.close
     (tie.spec
     Inv-loop
     μ-loop
-    item-requires
+    read-run-requires
     loop-holds
-    joined-requires
     next-is-requires
-    next-item-requires
-    item-requires-2
+    expect-requires
+    read-run-requires-2
     sub-turns
     loop-less
     loop-again

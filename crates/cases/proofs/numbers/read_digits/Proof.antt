@@ -1,10 +1,10 @@
--- `cases::numbers::digits` meets its contract: each place is below the line's length, and what is left of the line falls.
+-- `cases::numbers::read_digits` meets its contract: each place is below the line's length, and what is left of the line falls.
 -- Assumes nothing.
 use borrow.Author.Needs.{needs}
 use Prim.Native.Nat.{_-_}
 use lib.ListN.{length}
-use Rattle.cases.proofs.numbers.digits.Statement.{statement}
-use Rattle.cases.proofs.numbers.digits.Tie as tie
+use Rattle.cases.proofs.numbers.read_digits.Statement.{statement}
+use Rattle.cases.proofs.numbers.read_digits.Tie as tie
 
 abbrev Inv-loop : tie.InvT-loop
 Inv-loop line from most value₀ at₀ value at = Unit {0}
@@ -45,8 +45,8 @@ loop-again c = search needs
 returns-2 : tie.Need-returns-2 Inv-loop μ-loop
 returns-2 c = search needs
 
-pub digits-spec : {M : Type 1} → statement M
-digits-spec =
+pub read-digits-spec : {M : Type 1} → statement M
+read-digits-spec =
     tie.close
     (tie.spec
     Inv-loop

@@ -1,10 +1,10 @@
--- `cases::parts::runs` meets its contract: the turns that are left fall.
+-- `cases::parts::read_items` meets its contract: the turns that are left fall.
 -- Assumes nothing.
 use borrow.Author.Needs.{needs}
 use mathlib.Core.Path.{_≡_}
 use lib.ListN.{length}
-use Rattle.cases.proofs.parts.runs.Statement.{statement}
-use Rattle.cases.proofs.parts.runs.Tie as tie
+use Rattle.cases.proofs.parts.read_items.Statement.{statement}
+use Rattle.cases.proofs.parts.read_items.Tie as tie
 
 abbrev Inv-loop : tie.InvT-loop
 Inv-loop line parts₀ filled₀ turns₀ parts filled turns = length parts ≡ length parts₀
@@ -12,20 +12,23 @@ Inv-loop line parts₀ filled₀ turns₀ parts filled turns = length parts ≡ 
 abbrev μ-loop : tie.MeasureT-loop
 μ-loop line parts₀ filled₀ turns₀ parts filled turns = turns
 
-run-requires : tie.Need-run-requires Inv-loop μ-loop
-run-requires c κs = search needs
+read-item-requires : tie.Need-read-item-requires Inv-loop μ-loop
+read-item-requires c κs = search needs
 
 loop-holds : tie.Need-loop-holds Inv-loop μ-loop
 loop-holds c = search needs
 
+joined-requires : tie.Need-joined-requires Inv-loop μ-loop
+joined-requires c κs = search needs
+
 next-is-requires : tie.Need-next-is-requires Inv-loop μ-loop
 next-is-requires c κs = search needs
 
-expect-requires : tie.Need-expect-requires Inv-loop μ-loop
-expect-requires c κs = search needs
+next-item-requires : tie.Need-next-item-requires Inv-loop μ-loop
+next-item-requires c κs = search needs
 
-run-requires-2 : tie.Need-run-requires-2 Inv-loop μ-loop
-run-requires-2 c κs = search needs
+read-item-requires-2 : tie.Need-read-item-requires-2 Inv-loop μ-loop
+read-item-requires-2 c κs = search needs
 
 sub-turns : tie.Need-sub-turns Inv-loop μ-loop
 sub-turns c = search needs
@@ -48,17 +51,18 @@ same-length-2 c = search needs
 returns-2 : tie.Need-returns-2 Inv-loop μ-loop
 returns-2 c = search needs
 
-pub runs-spec : {M : Type 1} → statement M
-runs-spec =
+pub read-items-spec : {M : Type 1} → statement M
+read-items-spec =
     tie.close
     (tie.spec
     Inv-loop
     μ-loop
-    run-requires
+    read-item-requires
     loop-holds
+    joined-requires
     next-is-requires
-    expect-requires
-    run-requires-2
+    next-item-requires
+    read-item-requires-2
     sub-turns
     loop-less
     loop-again

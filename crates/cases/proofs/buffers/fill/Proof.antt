@@ -1,11 +1,11 @@
--- `cases::bytes::fill` meets its contract: the buffer keeps its length, and what is left of it falls.
+-- `cases::buffers::fill` meets its contract: the buffer keeps its length, and what is left of it falls.
 -- Assumes nothing.
 use borrow.Author.Needs.{needs}
 use Prim.Native.Nat.{_-_}
 use mathlib.Core.Path.{_≡_}
 use lib.ListN.{length}
-use Rattle.cases.proofs.bytes.fill.Statement.{statement}
-use Rattle.cases.proofs.bytes.fill.Tie as tie
+use Rattle.cases.proofs.buffers.fill.Statement.{statement}
+use Rattle.cases.proofs.buffers.fill.Tie as tie
 
 abbrev Inv-loop : tie.InvT-loop
 Inv-loop b buf₀ i₀ buf i = length buf ≡ length buf₀

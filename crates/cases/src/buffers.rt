@@ -1,0 +1,24 @@
+// The first bytes of a buffer, and one byte for all of it.
+
+// The first bytes of a buffer; all of them where there are fewer.
+pub(crate) fn front(buf: &[u8], size: usize) -> &[u8] {
+    if size <= buf.len() { &buf[..size] } else { buf }
+}
+
+// The same, to write to.
+pub(crate) fn lent(buf: &mut [u8], size: usize) -> &mut [u8] {
+    if size <= buf.len() {
+        &mut buf[..size]
+    } else {
+        buf
+    }
+}
+
+// One byte for every place of a buffer.
+pub(crate) fn fill(b: u8, buf: &mut [u8]) {
+    let mut i = 0;
+    while i < buf.len() {
+        buf[i] = b;
+        i += 1;
+    }
+}
