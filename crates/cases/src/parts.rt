@@ -26,7 +26,7 @@ pub struct Filled {
 // The length for a record's header, where one is given.
 struct Length {
     given: bool,
-    length: usize,
+    value: usize,
     cursor: Cursor,
 }
 
@@ -108,13 +108,13 @@ fn read_length(line: &[u8], c: Cursor) -> Length {
         let cursor = n.cursor;
         Length {
             given: true,
-            length: n.value as usize,
+            value: n.value as usize,
             cursor,
         }
     } else {
         Length {
             given: false,
-            length: 0,
+            value: 0,
             cursor: c,
         }
     }
@@ -143,11 +143,12 @@ fn read_payload(line: &[u8], f: Filled, parts: &mut [u8]) -> Filled {
     read_spaced_payload(line, Filled { cursor, used }, parts)
 }
 
-// The header of a record whose payload lies between two places, with the length that is given.
-fn header(kind: Decimal, given: Length, from: usize, end: usize) -> [u8; HEADER] {
+// The header of a record whose payload lies between two places; its length is that of the payload
+// where none is given.
+fn header(kind: Decimal, length: Length, from: usize, end: usize) -> [u8; HEADER] {
     let number = (kind.value % 65_536) as u16;
-    if given.given {
-        header_of(number, given.length)
+    if length.given {
+        header_of(number, length.value)
     } else if end < from {
         header_of(number, 0)
     } else {
@@ -159,11 +160,11 @@ fn header(kind: Decimal, given: Length, from: usize, end: usize) -> [u8; HEADER]
 // length it has.
 fn read_body(line: &[u8], f: Filled, parts: &mut [u8]) -> Filled {
     let kind = read_number(line, f.cursor, KIND);
-    let given = read_length(line, kind.cursor);
-    let cursor = given.cursor;
+    let length = read_length(line, kind.cursor);
+    let cursor = length.cursor;
     let from = put_run(0, HEADER, f.used, parts);
     let filled = read_payload(line, Filled { cursor, used: from }, parts);
-    let bytes = header(kind, given, from, filled.used);
+    let bytes = header(kind, length, from, filled.used);
     put(&bytes, f.used, parts);
     filled
 }
