@@ -40,6 +40,10 @@ twinTable = 2 ∷ 2 ∷ 1 ∷ 0 ∷ 0 ∷ 5 ∷ 0 ∷ 1 ∷ 1 ∷ 5 ∷ []
 abbrev pub disconnectedTable : List ℕ
 disconnectedTable = 2 ∷ 2 ∷ 1 ∷ 0 ∷ 0 ∷ 5 ∷ 1 ∷ 1 ∷ 1 ∷ 5 ∷ []
 
+-- the twin's with "First next state 2", which is no state of it
+abbrev pub noStateTable : List ℕ
+noStateTable = 2 ∷ 2 ∷ 2 ∷ 0 ∷ 0 ∷ 5 ∷ 0 ∷ 1 ∷ 1 ∷ 5 ∷ []
+
 -- "n=1, k=1, .. any answer"
 abbrev pub singleTable : ℕ → List ℕ
 singleTable answer = 1 ∷ 1 ∷ 0 ∷ answer ∷ []
@@ -84,6 +88,10 @@ pub record Starred : Type 0 where
   pub no-separation-built : (room : ℕ) → building room (unitSheet twinTable (1 ∷ [])) ≡ NotBuilt 6 1
   pub no-separation-certified : (room : ℕ) → certification room (sequenceSheet twinTable (1 ∷ []) builtTwin) ≡ NotCertified 6 1
   pub no-separation-judged : (room : ℕ) → judgement room (answersSheet twinTable (1 ∷ []) builtTwin (0 ∷ [])) ≡ NotJudged 6 1
+  -- "First next state 2: refusal 4 at 8.", which has no star of its own. The word's command and the answer may be any.
+  pub no-state-built : (room command : ℕ) → building room (unitSheet noStateTable (command ∷ [])) ≡ NotBuilt 4 8
+  pub no-state-certified : (room command : ℕ) → certification room (sequenceSheet noStateTable (command ∷ []) builtTwin) ≡ NotCertified 4 8
+  pub no-state-judged : (room command answer : ℕ) → judgement room (answersSheet noStateTable (command ∷ []) builtTwin (answer ∷ [])) ≡ NotJudged 4 8
   -- "Entry (1, 0) leading to 1: building refuses 8 at 1."
   pub not-connected : (room : ℕ) → building room (unitSheet disconnectedTable (0 ∷ [])) ≡ NotBuilt 8 1
   -- "n=1, k=1, word 0, any answer: built 0 0 0 0; 0 0 is certified, 0 is open 1."

@@ -30,7 +30,7 @@ use Rattle.judge.specs.Judging.{cause10, judgeCauses, agreed, resultAt, verdict
 use Rattle.judge.specs.Judging.Laws.{judgement-refused, judgement-verdict}
 use Rattle.report.specs.Lines.{judgeLine}
 use Rattle.report.specs.Lines.Examples as lines
-use Rattle.starred.specs.Starred.{unitSheet, sequenceSheet, answersSheet, twinTable, singleTable, builtTwin, twinWith, twinAnswered, JudgedAs, Starred}
+use Rattle.starred.specs.Starred.{unitSheet, sequenceSheet, answersSheet, twinTable, noStateTable, singleTable, builtTwin, twinWith, twinAnswered, JudgedAs, Starred}
 
 -- what certifying reads in a sheet
 record Sheet (room : ℕ) (s : List ℕ) (M : Mealy) (w xs : List ℕ) : Type 0 where
@@ -75,6 +75,9 @@ record Computed : Type 0 where
   six-built : (room : ℕ) → firstCause (buildCauses room (unitSheet twinTable (1 ∷ []))) ≡ Refused 6 1
   six-certified : (room : ℕ) → firstCause (certifyCauses certifyNeeds room (sequenceSheet twinTable (1 ∷ []) builtTwin)) ≡ Refused 6 1
   six-judged : (room : ℕ) → firstCause (judgeCauses room (answersSheet twinTable (1 ∷ []) builtTwin (0 ∷ []))) ≡ Refused 6 1
+  four-built : (room command : ℕ) → firstCause (buildCauses room (unitSheet noStateTable (command ∷ []))) ≡ Refused 4 8
+  four-certified : (room command : ℕ) → firstCause (certifyCauses certifyNeeds room (sequenceSheet noStateTable (command ∷ []) builtTwin)) ≡ Refused 4 8
+  four-judged : (room command answer : ℕ) → firstCause (judgeCauses room (answersSheet noStateTable (command ∷ []) builtTwin (answer ∷ []))) ≡ Refused 4 8
 
 computed : Computed
 unfolding twinMachine singleMachine headerOf refusal_with_if_ _else_ firstCause first recordAt offset end kindOf cause1 cause2 causeAt onward parseFrom parse parsed ofKind _or_ find sheetCauses when needed refusalOf the part bytes content machineOf run answers cause3 cause4 commandsCause cause6 machineIn machineCauses wordCauses loadCauses buildCauses cause9 certifyCauses cause10 judgeCauses verdict resultAt agreed stateAt
@@ -95,6 +98,9 @@ computed = record {
   six-built = λ room. refl;
   six-certified = λ room. refl;
   six-judged = λ room. refl;
+  four-built = λ room command. refl;
+  four-certified = λ room command. refl;
+  four-judged = λ room command answer. refl;
 }
 
 -- ---- judging the built sequence
@@ -133,6 +139,9 @@ starred = record {
   no-separation-built = λ room. building-refused room _ (computed .six-built room);
   no-separation-certified = λ room. certification-refused room _ (computed .six-certified room);
   no-separation-judged = λ room. judgement-refused room _ (computed .six-judged room);
+  no-state-built = λ room command. building-refused room _ (computed .four-built room command);
+  no-state-certified = λ room command. certification-refused room _ (computed .four-certified room command);
+  no-state-judged = λ room command answer. judgement-refused room _ (computed .four-judged room command answer);
   not-connected = buildings.disconnected-building;
   single-built = buildings.single-building;
   single-bytes = buildings.single-buffer;
