@@ -16,14 +16,17 @@ use streams::write_error;
 use streams::write_output;
 use words::WORD_BUFFER;
 
-// Writes what the bench answers to its words and a sheet.
+// Writes what the bench answers to its words and a sheet. Once standard output has failed, which
+// is told, nothing more is written. Where standard error fails nothing is left to tell it on, and a
+// program has no exit status to set: its answer is not used.
 fn answer(count: usize, first: &[u8], second: &[u8], sheet: &[u8]) {
     let mut bytes = [0u8; OUTPUT];
     let written = bench(count, first, second, sheet, &mut bytes);
     let out = written.out;
     let end = written.end;
-    write_output(&bytes[..out]);
-    write_error(&bytes[out..end]);
+    if write_output(&bytes[..out]) {
+        write_error(&bytes[out..end]);
+    }
 }
 
 // Reads a sheet, and answers.

@@ -44,12 +44,18 @@ fn answer(input: &[u8]) {
     flush(&out, used);
 }
 
-// Answers an input unless it is too large.
+// Tells that an input is too large, in three pieces: each goes out only where the one before it did;
+// says whether all did.
+fn tell_too_large() -> bool {
+    write_error(b"cases: the input has more than ")
+        && io::print_decimal(STDERR_FILENO, CAPACITY as u64)
+        && write_error(b" bytes\n")
+}
+
+// Answers an input unless it is too large. Where standard error fails nothing is left to tell it on.
 fn answer_or_tell(input: &[u8]) {
     if CAPACITY < input.len() {
-        write_error(b"cases: the input has more than ");
-        io::print_decimal(STDERR_FILENO, CAPACITY as u64);
-        write_error(b" bytes\n");
+        tell_too_large();
     } else {
         answer(input);
     }

@@ -22,10 +22,10 @@ write-output-requires : tie.Need-write-output-requires
 write-output-requires c κs = search needs
 
 sub-write-error : tie.Need-sub-write-error
-sub-write-error c = out-end (c .before .before .bench .ensures)
+sub-write-error c = out-end (c .before .before .before .bench .ensures)
 
 part-write-error-start : tie.Need-part-write-error-start
-part-write-error-start c = out-end (c .before .before .before .bench .ensures)
+part-write-error-start c = out-end (c .before .before .before .before .bench .ensures)
 
 part-write-error-end : tie.Need-part-write-error-end
 part-write-error-end c = search needs
@@ -35,6 +35,9 @@ write-error-requires c κs = search needs
 
 returns : tie.Need-returns
 returns c = search needs
+
+returns-2 : tie.Need-returns-2
+returns-2 c = search needs
 
 pub answer-spec : {M : Type 1} → statement M
 answer-spec =
@@ -48,4 +51,5 @@ answer-spec =
     part-write-error-start
     part-write-error-end
     write-error-requires
-    returns)
+    returns
+    returns-2)
