@@ -1,4 +1,4 @@
-// An independent model of the control-unit bench, written from document 01 and,
+// A second model of the control-unit bench, to be read against document 01 and,
 // where it leaves words or the form of an output open, from the description of
 // the program's interface; and the checker that holds the proved program
 // against it.

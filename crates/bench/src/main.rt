@@ -17,8 +17,8 @@ use streams::write_output;
 use words::WORD_BUFFER;
 
 // Writes what the bench answers to its words and a sheet. Once standard output has failed, which
-// is told, nothing more is written. Where standard error fails nothing is left to tell it on, and a
-// program has no exit status to set: its answer is not used.
+// is told, nothing more is written; no service so far writes to both. Where standard error fails
+// nothing is left to tell it on, and a program has no exit status to set: its answer is not used.
 fn answer(count: usize, first: &[u8], second: &[u8], sheet: &[u8]) {
     let mut bytes = [0u8; OUTPUT];
     let written = bench(count, first, second, sheet, &mut bytes);

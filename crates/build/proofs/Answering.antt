@@ -13,6 +13,7 @@ use Rattle.sheet.specs.declared.check.Check.{Check}
 use Rattle.sheet.specs.declared.check.Check.the-variants.{Clear, Refused}
 use Rattle.sheet.specs.Check.{refusal_with_if_, firstCause}
 use Rattle.sheet.specs.Check.Laws.{clear-absent}
+use Rattle.sheet.specs.Values.Laws.{returns-specified}
 use Rattle.sheet.specs.Reader.{content}
 use Rattle.sheet.specs.Writing.{written}
 use Rattle.machine.specs.Limits.{mostWord}
@@ -24,7 +25,7 @@ use Rattle.certify.specs.Certification.{cause9}
 use Rattle.certify.specs.Certification.Laws.{cause9-is}
 use Rattle.build.specs.declared.service.Answer.the-variants.{Built, Refused as RefusedAnswer}
 use Rattle.build.specs.Sequence.{sequence}
-use Rattle.build.specs.Building.{buildNeeds, cause8, buildCauses, Builds}
+use Rattle.build.specs.Building.{buildNeeds, cause8, buildCauses, valuesOf, Builds}
 use Rattle.build.specs.Building.Connection.{clear-blocks}
 use Rattle.build.specs.Building.Service.{refused-early, refused-eight, room-cause, building-refused, building-clear, buffer-refused, buffer-clear}
 use Rattle.build.specs.Table.{Filled}
@@ -32,7 +33,10 @@ use Rattle.build.specs.Writing.{Ready, Writes}
 
 -- a refusal, and nothing written
 refused-builds : (s before : List ℕ) {a b : ℕ} → firstCause (buildCauses (length before) s) ≡ Refused a b → {after : List ℕ} → after ≡ before → Builds s before after (RefusedAnswer a b)
-refused-builds s before e ae = record { answer = sym (building-refused (length before) s e); buffer = ae ∙ sym (buffer-refused s before e) }
+refused-builds s before e ae = record {
+  answer = returns-specified valuesOf (sym (building-refused (length before) s e));
+  buffer = ae ∙ sym (buffer-refused s before e);
+}
 
 -- a part of no bytes, given back, leaves a buffer as it was
 pub front-none : (front before : List ℕ) → length front ≡ 0 → front ++ drop 0 before ≡ before
@@ -97,7 +101,7 @@ module _ (s before : List ℕ) (l : Loaded) (h : LoadedFrom buildNeeds s l) wher
               let fits : size ≤ length middle = ltb-false _ _ (clear-absent 9 size _ (sym ne ∙ e)) in
               let room : end ≤ length middle = omega (arith, wr .ends) in
               record {
-                answer = ap Built size-same ∙ sym (building-clear (length before) s (causes-are ∙ e));
+                answer = returns-specified valuesOf (ap Built size-same ∙ sym (building-clear (length before) s (causes-are ∙ e)));
                 buffer =
                     wr .written room
                     ∙ ap (λ (d : List ℕ). paste d 0 xs (length xs)) me

@@ -4,12 +4,15 @@ use Prim.Native.Nat.{ℕ, _≤_, _<_}
 use mathlib.Core.Path.{_≡_}
 use mathlib.Core.Bool.{Bool, true, false}
 use mathlib.Core.List.{List, [], _∷_, _++_}
+use mathlib.Core.Logic.{_⊎_, inl, inr}
 use mathlib.Core.Option.{Option, none, some}
 use lib.ListN.{length}
 use Rattle.sheet.specs.declared.check.Check.{Check}
 use Rattle.sheet.specs.declared.check.Check.the-variants.{Clear}
+use Rattle.sheet.specs.declared.check.Values.{Values}
 use Rattle.sheet.specs.declared.reader.Needs.{Needs}
 use Rattle.sheet.specs.Check.{refusal_with_if_, firstCause, first, refusedOr, unlessRefused}
+use Rattle.sheet.specs.Values.{refusalValues, Returns}
 use Rattle.sheet.specs.Reader.{the, content}
 use Rattle.sheet.specs.Writing.{written}
 use Rattle.machine.specs.Machine.{Mealy, Separates}
@@ -53,9 +56,14 @@ building room s = refusedOr RefusedAnswer (firstCause (buildCauses room s)) (Bui
 unfoldable pub bufferAfter : List ℕ → List ℕ → List ℕ
 bufferAfter s buffer = unlessRefused (firstCause (buildCauses (length buffer) s)) (written (sequence (machineIn s) (content 2 s)) buffer) buffer
 
--- what building promises of a sheet: its answer, and every byte of the lent buffer
+-- number and values of each answer: the length, for which document 01 has no class, or a refusal's
+abbrev pub valuesOf : Answer → Values ⊎ ℕ
+valuesOf (Built size) = inr size
+valuesOf (RefusedAnswer number place) = inl (refusalValues number place)
+
+-- what building promises of a sheet: the specified answer with its number and values, and every byte of the lent buffer
 pub record Builds (s before after : List ℕ) (a : Answer) : Type 0 where
-  pub answer : a ≡ building (length before) s
+  pub answer : Returns valuesOf (building (length before) s) a
   pub buffer : after ≡ bufferAfter s before
 
 -- ---- when building succeeds

@@ -23,8 +23,9 @@ use Rattle.certify.specs.Recognition.Laws.{closure-more}
 use Rattle.certify.specs.Marks.{marksBy, count, stands, marks}
 use Rattle.certify.specs.Marks.Laws.{marks-by-length, marks-by-bits, marks-by-one, marks-by-true}
 use Rattle.certify.specs.Marks.Agreement.{stands-true, true-stands, marks-unique, marks-length}
-use Rattle.certify.specs.Certification.{certifyNeeds, certifyCauses, verified, openCause, answerOf, outcome, Certifies}
+use Rattle.certify.specs.Certification.{certifyCauses, verified, openCause, answerOf, outcome, Certifies}
 use Rattle.certify.specs.Certification.Laws.{verified-shown, shown-verified, outcome-of, certification-refused, certification-clear, after-refused, after-clear, kept-is}
+use Rattle.certify.specs.Certification.Contract.{certifies}
 use Rattle.certify.specs.Certification.Program.{openBy, open-known}
 use Rattle.certify.specs.Folding.{MarkedIn}
 use Rattle.certify.specs.Sweep.{placeEntry, Closable, Closed}
@@ -88,19 +89,15 @@ module _ (M : Mealy) (w xs : List ℕ) {given ms known : List ℕ} (proper : Pro
       ae ∙ ap₂ answerOf (ce ∙ o) ne ∙ sym (outcome-of M w xs (sym marks-are))
 
 -- ---- the promise
-pub certifies-refused : (s before : List ℕ) {c : Check} {n p : ℕ} → c ≡ firstCause (certifyCauses certifyNeeds (length before) s) → c ≡ Refused n p
+pub certifies-refused : (s before : List ℕ) {c : Check} {n p : ℕ} → c ≡ firstCause (certifyCauses (length before) s) → c ≡ Refused n p
     → Certifies s before before (RefusedAnswer n p)
-certifies-refused s before ce e = record {
-  answer = sym (certification-refused (length before) s (sym ce ∙ e));
-  marks = sym (after-refused s before (sym ce ∙ e));
-}
+certifies-refused s before ce e =
+    certifies s before (sym (certification-refused (length before) s (sym ce ∙ e))) (sym (after-refused s before (sym ce ∙ e)))
 
 pub certifies-clear : (s before : List ℕ) {c : Check} {M : Mealy} {w xs after ms : List ℕ} {a : Answer}
-    → c ≡ firstCause (certifyCauses certifyNeeds (length before) s) → c ≡ Clear → M ≡ machineIn s → w ≡ content 2 s → xs ≡ content 3 s
+    → c ≡ firstCause (certifyCauses (length before) s) → c ≡ Clear → M ≡ machineIn s → w ≡ content 2 s → xs ≡ content 3 s
     → a ≡ outcome M w xs → ms ≡ marks M w xs → after ≡ ms ++ drop (length xs + 1) before → Certifies s before after a
 certifies-clear s before {c} {M} {w} {xs} ce e me we xe ae mse afe =
     let clear = sym ce ∙ e in
-    record {
-      answer = ae ∙ (rw (me, we, xe) (sym (certification-clear (length before) s clear)));
-      marks = afe ∙ ap₂ (λ (l : List ℕ) (n : ℕ). l ++ drop n before) mse (sym (marks-length M w xs)) ∙ kept-is (marks M w xs) before ∙ (rw (me, we, xe) (sym (after-clear s before clear)));
-    }
+    certifies s before (ae ∙ (rw (me, we, xe) (sym (certification-clear (length before) s clear))))
+    (afe ∙ ap₂ (λ (l : List ℕ) (n : ℕ). l ++ drop n before) mse (sym (marks-length M w xs)) ∙ kept-is (marks M w xs) before ∙ (rw (me, we, xe) (sym (after-clear s before clear))))

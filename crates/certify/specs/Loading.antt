@@ -2,21 +2,21 @@
 -- its commands and room for the marks.
 use Prim.Native.Nat.{ℕ, _≤_}
 use mathlib.Core.Path.{_≡_}
+use mathlib.Core.Bool.{Bool}
 use mathlib.Core.List.{List}
 use Rattle.sheet.specs.declared.check.Check.the-variants.{Clear}
-use Rattle.sheet.specs.declared.reader.Needs.{Needs}
 use Rattle.sheet.specs.Check.{firstCause}
 use Rattle.sheet.specs.Reader.{content}
 use Rattle.machine.specs.Limits.{mostSequence}
 use Rattle.machine.specs.declared.loading.Loaded.{Loaded}
 use Rattle.machine.specs.Machine.{meaning, Proper, Commands}
 use Rattle.machine.specs.Causes.{machineIn, held}
-use Rattle.certify.specs.Certification.{markBytes, certifyCauses}
+use Rattle.certify.specs.Certification.{markBytes, sequenceCauses}
 
--- the kinds n needed, the room for marks, the sheet s, and what loading it answers
-pub record SequenceLoaded (n : Needs) (room : ℕ) (s : List ℕ) (l : Loaded) : Type 0 where
+-- whether the answers are needed, the room for marks, the sheet s, and what loading it answers
+pub record SequenceLoaded (answers : Bool) (room : ℕ) (s : List ℕ) (l : Loaded) : Type 0 where
   -- the first refusal, or Clear
-  pub check : l .check ≡ firstCause (certifyCauses n room s)
+  pub check : l .check ≡ firstCause (sequenceCauses answers room s)
   -- where nothing is refused: the machine is the sheet's and within its limits, the sequence is one of its commands, and its marks fit
   pub machine : l .check ≡ Clear → meaning (l .machine) ≡ machineIn s
   pub proper : l .check ≡ Clear → Proper (meaning (l .machine))

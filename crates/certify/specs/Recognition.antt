@@ -1,11 +1,13 @@
--- Recognition as its rules read (document 01, "Recognition"; source document 002, section 2.4): the recognised places, verified entries and
--- certified sequences. M is the machine, w the word, xs the sequence. `Recognised` is shut: what is known of it outside are the laws in
--- Recognition.Laws, and in Marks.Agreement that it can be computed.
-use Prim.Native.Nat.{ℕ, _+_, _≤_, _<_}
+-- Recognition as its rules read (document 01, "Recognition"; source document 002, section 2.4): the recognised places, verified entries,
+-- certified sequences, the open number, and the marks with their number. M is the machine, w the word, xs the sequence. `Recognised` is shut: what is
+-- known of it outside are the laws in Recognition.Laws, and in Marks.Agreement that it can be computed.
+use Prim.Native.Nat.{ℕ, _+_, _*_, _≤_, _<_}
 use mathlib.Core.Path.{_≡_}
 use mathlib.Core.List.{List}
+use mathlib.Core.Logic.{_↔_}
 use lib.ListN.{length, getD, take, drop}
 use Rattle.machine.specs.Machine.{Mealy, stateAt}
+use Rattle.certify.specs.Marks.{count}
 pub mod Laws
 
 -- "the whole word stands in the sequence at p (p+L at most N)"
@@ -43,3 +45,22 @@ pub record Verified (M : Mealy) (w xs : List ℕ) (s c : ℕ) : Type 0 where
 pub record Certified (M : Mealy) (w xs : List ℕ) : Type 0 where
   pub start : Recognised M w xs 0
   pub entries : (s c : ℕ) → s < M .n → c < M .k → Verified M w xs s c
+
+-- the open number: 0 where place 0 is not recognised; else it names the first entry, by state and then by command, that is not verified
+pub data OpenNumber (M : Mealy) (w xs : List ℕ) (v : ℕ) : Type 0 where
+  start-open : (Recognised M w xs 0 → ⊥) → v ≡ 0 → OpenNumber M w xs v
+  entry-open : (s c : ℕ) → s < M .n → c < M .k → Recognised M w xs 0 → (Verified M w xs s c → ⊥)
+      → ((t d : ℕ) → t < s → d < M .k → Verified M w xs t d) → ((d : ℕ) → d < c → Verified M w xs s d)
+      → v ≡ 1 + (s * M .k + c) → OpenNumber M w xs v
+
+-- the marks of a sequence, one for each of its places: 1 where the place is recognised, else 0
+pub record MarksOf (M : Mealy) (w xs ms : List ℕ) : Type 0 where
+  pub long : length ms ≡ length xs + 1
+  pub marked : (p : ℕ) → (getD ms p 0 ≡ 1) ↔ Recognised M w xs p
+  pub otherwise : (p : ℕ) → (Recognised M w xs p → ⊥) → getD ms p 0 ≡ 0
+
+-- how many places are recognised: as many as marks are 1
+pub record RecognisedNumber (M : Mealy) (w xs : List ℕ) (n : ℕ) : Type 0 where
+  pub marks : List ℕ
+  pub are : MarksOf M w xs marks
+  pub number : n ≡ count marks

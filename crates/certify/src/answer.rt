@@ -2,6 +2,8 @@
 ghost use mathlib.Core.Path.{_≡_};
 ghost use Rattle.certify.specs.Certification.{valuesOf, answerOf};
 use sheet::Check;
+use sheet::Values;
+use sheet::refusal_values;
 
 // Certified with the number of recognised places, open with that number and the open number, or
 // refused with number and place.
@@ -9,14 +11,6 @@ pub enum Answer {
     Certified { recognised: usize },
     Open { recognised: usize, number: usize },
     Refused { number: u8, place: usize },
-}
-
-// The fields of the capture rig's result.
-pub struct Values {
-    pub class: u8,
-    pub place: usize,
-    pub a: usize,
-    pub b: usize,
 }
 
 // Class, place, a and b of an answer.
@@ -36,12 +30,7 @@ pub fn values_of(answer: Answer) -> Values
             a: 0,
             b: number,
         },
-        Answer::Refused { number, place } => Values {
-            class: number,
-            place,
-            a: 0,
-            b: 0,
-        },
+        Answer::Refused { number, place } => refusal_values(number, place),
     }
 }
 

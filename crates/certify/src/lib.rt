@@ -10,7 +10,6 @@ mod tally;
 mod word;
 
 pub use answer::Answer;
-pub use answer::Values;
 pub use answer::values_of;
 pub use loading::load_sequence;
 pub use service::certify;

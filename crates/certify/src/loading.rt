@@ -10,11 +10,16 @@ use sheet::first_of;
 use sheet::read;
 use sheet::refuse;
 
-// Loads a sheet for a service that needs the machine, a room for the sequence's marks, and these
-// kinds besides.
-pub fn load_sequence(sheet: &[u8], needs: Needs, room: usize) -> Loaded
-    ensures { λ r. ⌜ SequenceLoaded needs room (now (sheet .entry)) r ⌝ }
+// Loads a sheet for a service that needs machine, word and sequence, a room for the sequence's marks,
+// and perhaps the answers.
+pub fn load_sequence(sheet: &[u8], answers: bool, room: usize) -> Loaded
+    ensures { λ r. ⌜ SequenceLoaded answers room (now (sheet .entry)) r ⌝ }
 {
+    let needs = Needs {
+        word: true,
+        sequence: true,
+        answers,
+    };
     let loaded = load_sheet(sheet, needs);
     let machine = loaded.machine;
     let earlier = loaded.check;

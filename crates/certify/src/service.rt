@@ -15,7 +15,6 @@ use crate::tally::open_check;
 use crate::word::mark_words;
 use machine::Machine;
 use sheet::Check;
-use sheet::Needs;
 use sheet::SEQUENCE_KIND;
 use sheet::WORD_KIND;
 use sheet::read;
@@ -41,12 +40,8 @@ fn recognise(m: Machine, w: &[u8], xs: &[u8], marks: &mut [u8]) -> Answer
 pub fn certify(sheet: &[u8], marks: &mut [u8]) -> Answer
     ensures { λ r. ⌜ Certifies (now (sheet .entry)) (now (marks .entry)) (now (marks .exit)) r ⌝ }
 {
-    let needs = Needs {
-        word: true,
-        sequence: true,
-        answers: false,
-    };
-    let loaded = load_sequence(sheet, needs, marks.len());
+    let answers = false;
+    let loaded = load_sequence(sheet, answers, marks.len());
     let m = loaded.machine;
     let check = loaded.check;
     if let Check::Refused { number, place } = check {

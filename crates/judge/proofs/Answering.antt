@@ -1,30 +1,31 @@
 -- From the checks and certifying's answer to judging's.
 -- Assumes nothing.
 use Prim.Native.Nat.{ℕ, _≤_}
-use mathlib.Core.Path.{_≡_, sym, ap₂, _∙_}
+use mathlib.Core.Path.{_≡_, refl, sym, ap₂, _∙_}
+use mathlib.Core.Bool.{true}
 use mathlib.Core.List.{List}
 use lib.Dec.{ltb}
 use lib.ListN.{length}
 use Rattle.sheet.specs.declared.check.Check.{Check}
 use Rattle.sheet.specs.declared.check.Check.the-variants.{Clear, Refused}
 use Rattle.sheet.specs.declared.record.Record.{Record}
-use Rattle.sheet.specs.Check.{refusal_with_if_, _else_, firstCause}
-use Rattle.sheet.specs.Check.Laws.{clear-refused}
+use Rattle.sheet.specs.Check.{refusal_with_if_, _else_, firstCause, refusedOr}
+use Rattle.sheet.specs.Values.{refusalValues}
+use Rattle.sheet.specs.Values.Laws.{returns-specified}
 use Rattle.sheet.specs.Reader.{the, content}
 use Rattle.machine.specs.Machine.{Mealy}
 use Rattle.machine.specs.Causes.{machineIn}
 use Rattle.certify.specs.declared.answer.Answer.{Answer as Certification}
 use Rattle.certify.specs.declared.answer.Answer.the-variants.{Certified, Open, Refused as RefusedThere}
-use Rattle.certify.specs.Certification.{certifyCauses, Certifies}
-use Rattle.certify.specs.Certification.Laws.{certified-clear, answer-certified, answer-open, answer-refused}
+use Rattle.certify.specs.Certification.{sequenceCauses, Certifies}
 use Rattle.judge.specs.declared.answer.Answer.{Answer}
 use Rattle.judge.specs.declared.answer.Answer.the-variants.{Pass, Wrong, Unfinished, Refused as RefusedAnswer}
-use Rattle.judge.specs.Judging.{judgeNeeds, cause10, judgeCauses, verdict, Judges, Identity, valuesOf}
-use Rattle.judge.specs.Judging.Laws.{cause10-is, judge-causes-are, certifying-clear, few-answers, judgement-refused, judgement-open, judgement-verdict, judged-refused, judged-clear, pass-identity}
+use Rattle.judge.specs.Judging.{cause10, judgeCauses, cause11, verdict, Judges, Identity, valuesOf}
+use Rattle.judge.specs.Judging.Laws.{cause10-is, judge-causes-are, few-answers, judgement-refused, judgement-by, judged-refused, judged-clear, pass-identity}
 
 -- ---- the checks
 module _ (room : ℕ) (s : List ℕ) {r : Record} {xs ys : List ℕ} (re : r ≡ the 4 s) (xe : xs ≡ content 3 s) (ye : ys ≡ content 4 s) where
-  pub checks-are : {earlier ten c : Check} → earlier ≡ firstCause (certifyCauses judgeNeeds room s)
+  pub checks-are : {earlier ten c : Check} → earlier ≡ firstCause (sequenceCauses true room s)
       → ten ≡ (refusal 10 with r .start if ltb (length xs) (length ys)) → c ≡ (earlier else ten) → c ≡ firstCause (judgeCauses room s)
   checks-are ee te ce =
       let ten-is : (refusal 10 with r .start if ltb (length xs) (length ys)) ≡ cause10 (the 4 s) (content 3 s) (content 4 s) = rw (re, xe, ye) (cause10-is (the 4 s) (content 3 s) (content 4 s)) in
@@ -36,12 +37,12 @@ module _ (room : ℕ) (s : List ℕ) {r : Record} {xs ys : List ℕ} (re : r ≡
 -- ---- the promise
 -- the identity claim comes with the answer
 pub promised : {s before after : List ℕ} {a : Answer} → Judges s before after a → Judges s before after a × Identity s a
-promised {s} {before} h = (h, pass-identity (length before) s (h .answer))
+promised {s} {before} h = (h, pass-identity (length before) s (h .answer .is))
 
 module _ (s before : List ℕ) {c : Check} (ce : c ≡ firstCause (judgeCauses (length before) s)) where
   pub judges-refused : {n p : ℕ} → c ≡ Refused n p → Judges s before before (RefusedAnswer n p)
   judges-refused e = record {
-    answer = sym (judgement-refused (length before) s (sym ce ∙ e));
+    answer = returns-specified valuesOf (sym (judgement-refused (length before) s (sym ce ∙ e)));
     marks = sym (judged-refused s before (sym ce ∙ e));
   }
 
@@ -49,25 +50,26 @@ module _ (s before : List ℕ) {c : Check} (ce : c ≡ firstCause (judgeCauses (
     clear : firstCause (judgeCauses (length before) s) ≡ Clear
     clear = sym ce ∙ e
 
+    -- by certifying's answer and the marks that it leaves
     module _ {after : List ℕ} {b : Certification} (h : Certifies s before after b) where
-      -- certifying does not refuse here
-      pub judges-never : {n p : ℕ} → b ≡ RefusedThere n p → ⊥
-      judges-never q = clear-refused (certifying-clear (length before) s clear) (answer-refused (length before) s (sym (h .answer) ∙ q))
-
-      pub judges-open : {n v : ℕ} → b ≡ Open n v → Judges s before after (RefusedAnswer 11 v)
-      judges-open q = record {
-        answer = sym (judgement-open (length before) s clear (answer-open (length before) s (sym (h .answer) ∙ q) .1 .0));
+      judges-by : {a : Answer} → a ≡ refusedOr RefusedAnswer (cause11 b) (verdict (machineIn s) (content 3 s) (content 4 s)) → Judges s before after a
+      judges-by ae = record {
+        answer = returns-specified valuesOf (ae ∙ sym (judgement-by (length before) s clear (sym (h .answer .is))));
         marks = h .marks ∙ sym (judged-clear s before clear);
       }
 
       pub judges-certified : {n : ℕ} {M : Mealy} {xs ys : List ℕ} {a : Answer} → b ≡ Certified n → M ≡ machineIn s → xs ≡ content 3 s → ys ≡ content 4 s
           → a ≡ verdict M xs ys → Judges s before after a
-      judges-certified q me xe ye ae =
-          let shown = answer-certified (length before) s (sym (h .answer) ∙ q) in
-          record {
-            answer = ae ∙ (rw (me, xe, ye) (sym (judgement-verdict (length before) s clear (certified-clear (machineIn s) (content 2 s) (content 3 s) (shown .1 .0)))));
-            marks = h .marks ∙ sym (judged-clear s before clear);
-          }
+      unfolding cause11
+      judges-certified q me xe ye ae = judges-by (ae ∙ (rw (q, me, xe, ye) refl))
+
+      pub judges-open : {n v : ℕ} → b ≡ Open n v → Judges s before after (RefusedAnswer 11 v)
+      unfolding cause11
+      judges-open q = judges-by (rw q refl)
+
+      pub judges-refused-there : {n p : ℕ} → b ≡ RefusedThere n p → Judges s before after (RefusedAnswer n p)
+      unfolding cause11
+      judges-refused-there q = judges-by (rw q refl)
 
 -- ---- the numbers for each answer
 pub values-pass : {a : Answer} {n e : ℕ} → a ≡ Pass n e → record { class = 100; place = n; a = 0; b = e } ≡ valuesOf a
@@ -79,5 +81,5 @@ values-wrong q = rw q
 pub values-unfinished : {a : Answer} {n : ℕ} → a ≡ Unfinished n → record { class = 102; place = n; a = 0; b = 0 } ≡ valuesOf a
 values-unfinished q = rw q
 
-pub values-refused : {a : Answer} {n p : ℕ} → a ≡ RefusedAnswer n p → record { class = n; place = p; a = 0; b = 0 } ≡ valuesOf a
+pub values-refused : {a : Answer} {n p : ℕ} → a ≡ RefusedAnswer n p → refusalValues n p ≡ valuesOf a
 values-refused q = rw q

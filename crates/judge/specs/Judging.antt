@@ -1,6 +1,6 @@
 -- Judging (document 01, "Causes" and "Judging"): causes 1 to 7, 9, 10 and 11, the results, what is written, and the identity claim. Certification
--- is known by its contract and its laws: `cause11` and `marksAfter` are shut. The laws of the verdict stand in Judging.Verdict, those
--- of a sheet in Judging.Laws, bounds on places in Judging.Places.
+-- is known by its contract: `certification` and `marksAfter`, its answer and its buffer, are shut, and what they say is the contract's. The laws of
+-- the verdict stand in Judging.Verdict, those of a sheet in Judging.Laws, bounds on places in Judging.Places.
 use Prim.Native.Nat.{ℕ, suc}
 use mathlib.Core.Path.{_≡_}
 use mathlib.Core.Bool.{true, false, cond}
@@ -8,14 +8,17 @@ use mathlib.Core.List.{List, [], _∷_, _++_}
 use lib.Dec.{ltb, eqb}
 use lib.ListN.{length, getD}
 use Rattle.sheet.specs.declared.check.Check.{Check}
+use Rattle.sheet.specs.declared.check.Check.the-variants.{Clear, Refused}
+use Rattle.sheet.specs.declared.check.Values.{Values}
 use Rattle.sheet.specs.declared.record.Record.{Record}
-use Rattle.sheet.specs.declared.reader.Needs.{Needs}
 use Rattle.sheet.specs.Check.{refusal_with_if_, firstCause, refusedOr, unlessRefused}
+use Rattle.sheet.specs.Values.{refusalValues, Returns}
 use Rattle.sheet.specs.Reader.{the, content}
 use Rattle.machine.specs.Machine.{Mealy, answers, stateAt}
 use Rattle.machine.specs.Causes.{machineIn}
-use Rattle.certify.specs.declared.answer.Values.{Values}
-use Rattle.certify.specs.Certification.{certifyCauses, cause11, marksAfter}
+use Rattle.certify.specs.declared.answer.Answer.{Answer as Certification}
+use Rattle.certify.specs.declared.answer.Answer.the-variants.{Certified, Open, Refused as RefusedThere}
+use Rattle.certify.specs.Certification.{sequenceCauses, certification, marksAfter}
 use Rattle.judge.specs.declared.answer.Answer.{Answer}
 use Rattle.judge.specs.declared.answer.Answer.the-variants.{Pass, Wrong, Unfinished, Refused as RefusedAnswer}
 use Rattle.judge.specs.Unit.{Unit, ownAnswers, Renaming}
@@ -24,17 +27,20 @@ pub mod Laws
 pub mod Places
 
 -- ---- causes
--- "judging all four": the kinds needed
-abbrev pub judgeNeeds : Needs
-judgeNeeds = record { word = true; sequence = true; answers = true }
-
 -- "answers": at the "start of record 4: more than N answers"
 unfoldable pub cause10 : Record → List ℕ → List ℕ → Check
 cause10 r xs ys = refusal 10 with r .start if ltb (length xs) (length ys)
 
--- causes 1 to 7, 9 and 10; each of them "writes nothing"
+-- causes 1 to 7 and 9, all four kinds being needed, and 10; each of them "writes nothing"
 unfoldable pub judgeCauses : ℕ → List ℕ → List Check
-judgeCauses room s = certifyCauses judgeNeeds room s ++ (cause10 (the 4 s) (content 3 s) (content 4 s) ∷ [])
+judgeCauses room s = sequenceCauses true room s ++ (cause10 (the 4 s) (content 3 s) (content 4 s) ∷ [])
+
+-- "not certified", by what certifying answers: an open sequence is refused with its open number. Where certifying itself refuses, its refusal stays
+-- one; that does not happen here, since judging has refused such a sheet before (certifying-clear)
+unfoldable pub cause11 : Certification → Check
+cause11 (Certified recognised) = Clear
+cause11 (Open recognised number) = Refused 11 number
+cause11 (RefusedThere number place) = Refused number place
 
 -- ---- the results
 -- how many of the answers from the front are the specified ones: the first place where they differ, or the length of the shorter list
@@ -59,15 +65,23 @@ verdict M xs ys = resultAt M xs ys (agreed (answers M (M .start) xs) ys)
 unfoldable pub judgement : ℕ → List ℕ → Answer
 judgement room s =
     refusedOr RefusedAnswer (firstCause (judgeCauses room s))
-    (refusedOr RefusedAnswer (cause11 (machineIn s) (content 2 s) (content 3 s)) (verdict (machineIn s) (content 3 s) (content 4 s)))
+    (refusedOr RefusedAnswer (cause11 (certification room s)) (verdict (machineIn s) (content 3 s) (content 4 s)))
 
 -- the lent buffer after judging: "The marks are as after certifying", for the results and for refusal 11
 unfoldable pub judgedMarks : List ℕ → List ℕ → List ℕ
 judgedMarks s buffer = unlessRefused (firstCause (judgeCauses (length buffer) s)) (marksAfter s buffer) buffer
 
--- what judging promises of a sheet: its answer, and every byte of the lent buffer
+-- number and values of each answer: pass has N as its place and the end state as b, wrong its place, the specified answer as a and the given one as b,
+-- unfinished the number of answers as its place
+abbrev pub valuesOf : Answer → Values
+valuesOf (Pass size end) = record { class = 100; place = size; a = 0; b = end }
+valuesOf (Wrong place specified given) = record { class = 101; place = place; a = specified; b = given }
+valuesOf (Unfinished number) = record { class = 102; place = number; a = 0; b = 0 }
+valuesOf (RefusedAnswer number place) = refusalValues number place
+
+-- what judging promises of a sheet: the specified answer with its number and values, and every byte of the lent buffer
 pub record Judges (s before after : List ℕ) (a : Answer) : Type 0 where
-  pub answer : a ≡ judgement (length before) s
+  pub answer : Returns valuesOf (judgement (length before) s) a
   pub marks : after ≡ judgedMarks s before
 
 -- The identity claim, the third demand, of a sheet and judging's answer: "whatever m, u and the unit's table, if judging returns pass and the
@@ -76,11 +90,3 @@ abbrev pub Identity : List ℕ → Answer → Type 0
 Identity s a =
     (U : Unit (machineIn s .n) (machineIn s .k)) (size end : ℕ) → a ≡ Pass size end
     → content 4 s ≡ ownAnswers (machineIn s .n) (machineIn s .k) U (content 3 s) → Renaming (machineIn s) U (content 3 s) end
-
--- "Class 1 to 11 is the refusal, and so are later refusal numbers (a, b zero). 100 pass: place N, b end state. 101 wrong: a specified, b given.
--- 102 unfinished: place the number of answers. .. Fields not named are zero." The place of a refusal and of wrong is its own.
-abbrev pub valuesOf : Answer → Values
-valuesOf (Pass size end) = record { class = 100; place = size; a = 0; b = end }
-valuesOf (Wrong place specified given) = record { class = 101; place = place; a = specified; b = given }
-valuesOf (Unfinished number) = record { class = 102; place = number; a = 0; b = 0 }
-valuesOf (RefusedAnswer number place) = record { class = number; place = place; a = 0; b = 0 }

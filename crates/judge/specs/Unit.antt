@@ -1,11 +1,12 @@
 -- The unit on the bench and the renaming (document 01, "The unit on the bench"): what the identity claim speaks of. That a certified sequence
--- with the specified answers gives a renaming is shown in Unit.Identity.
+-- with the specified answers gives a renaming is shown in Unit.Identity, and in Unit.Behaviour what it says of the unit's answers.
 use Prim.Native.Nat.{ℕ, _≤_, _<_}
 use mathlib.Core.Path.{_≡_}
 use mathlib.Core.List.{List}
 use lib.ListN.{length}
 use Rattle.machine.specs.Machine.{Mealy, run, answers, stateAt}
 pub mod Identity
+pub mod Behaviour
 
 -- The field's implementation under test: "m states, m from 1 to n, and stands in one of them, u, when the first command goes in; u may be any of
 -- them. For each of its states and each of the sheet's k commands it has one next state, among its own, and one answer". That m is at least 1

@@ -1,7 +1,8 @@
 // What judging answers, and document 01's numbers for it.
 ghost use mathlib.Core.Path.{_≡_};
 ghost use Rattle.judge.specs.Judging.{valuesOf};
-use certify::Values;
+use sheet::Values;
+use sheet::refusal_values;
 
 // Pass with the number of commands and the end state; wrong with the first place whose answer
 // differs, the specified answer and the one given; unfinished with the number of answers; refused
@@ -52,11 +53,6 @@ pub fn values_of(answer: Answer) -> Values
             a: 0,
             b: 0,
         },
-        Answer::Refused { number, place } => Values {
-            class: number,
-            place,
-            a: 0,
-            b: 0,
-        },
+        Answer::Refused { number, place } => refusal_values(number, place),
     }
 }

@@ -7,7 +7,6 @@ use certify::certify;
 use certify::load_sequence;
 use sheet::ANSWERS_KIND;
 use sheet::Check;
-use sheet::Needs;
 use sheet::SEQUENCE_KIND;
 use sheet::first_of;
 use sheet::read;
@@ -20,12 +19,8 @@ pub fn judge(sheet: &[u8], marks: &mut [u8]) -> Answer
     ensures { λ r. ⌜ Judges (now (sheet .entry)) (now (marks .entry)) (now (marks .exit)) r ⌝ }
     ensures { λ r. ⌜ Identity (now (sheet .entry)) r ⌝ }
 {
-    let needs = Needs {
-        word: true,
-        sequence: true,
-        answers: true,
-    };
-    let loaded = load_sequence(sheet, needs, marks.len());
+    let answers = true;
+    let loaded = load_sequence(sheet, answers, marks.len());
     let earlier = loaded.check;
     let r = record_of(sheet, ANSWERS_KIND);
     let xs = read(sheet, SEQUENCE_KIND);

@@ -72,11 +72,15 @@ pub record Proper (M : Mealy) : Type 0 where
   pub starts : M .start < M .n
   pub stays : (s c : ℕ) → s < M .n → c < M .k → M .next s c < M .n
 
+-- any number of commands, each below k
+abbrev pub Below : ℕ → List ℕ → Type 0
+Below k w = (i : ℕ) → i < length w → getD w i 0 < k
+
 -- a word or a sequence: 1 to most commands, each below k
 pub record Commands (most k : ℕ) (w : List ℕ) : Type 0 where
   pub some : 1 ≤ length w
   pub few : length w ≤ most
-  pub low : (i : ℕ) → i < length w → getD w i 0 < k
+  pub low : Below k w
 
 -- a word within the limits that separates the states
 pub record Distinguishes (M : Mealy) (w : List ℕ) : Type 0 where

@@ -48,11 +48,11 @@ pub record Ready (s buffer : List ℕ) (n : ℕ) : Type 0 where
   pub built : take n buffer ≡ sequence (machineIn s) (content 2 s)
 
 pub answer-is : {s before after : List ℕ} {a b : Answer} → length before ≡ mostSequence → Builds s before after a → a ≡ b → building mostSequence s ≡ b
-answer-is {s} {before} l h e = ap (λ (room : ℕ). building room s) (sym l) ∙ sym (h .answer) ∙ e
+answer-is {s} {before} l h e = ap (λ (room : ℕ). building room s) (sym l) ∙ sym (h .answer .is) ∙ e
 
 pub built-ready : (s before after : List ℕ) {a : Answer} {n : ℕ} → length before ≡ mostSequence → Builds s before after a → a ≡ Built n → Ready s after n
 built-ready s before after {a} {n} l h e =
-    let here : building (length before) s ≡ Built n = sym (h .answer) ∙ e in
+    let here : building (length before) s ≡ Built n = sym (h .answer .is) ∙ e in
     let load = load-clear (length before) s (answer-built (length before) s here .0) in
     let shows = built-shows (length before) s here in
     let xs : take n after ≡ sequence (machineIn s) (content 2 s) = ap (take n) (h .buffer) ∙ built-buffer s before here .0 in

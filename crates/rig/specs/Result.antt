@@ -6,7 +6,7 @@ use mathlib.Core.List.{List}
 use lib.ListN.{length}
 use Rattle.sheet.specs.Reader.{content}
 use Rattle.machine.specs.Causes.{machineIn}
-use Rattle.certify.specs.declared.answer.Values.{Values}
+use Rattle.sheet.specs.declared.check.Values.{Values}
 use Rattle.certify.specs.Certification.{certification, marksAfter, valuesOf as certifyingValues}
 use Rattle.judge.specs.Unit.{Unit, ownAnswers, Renaming}
 use Rattle.judge.specs.Judging.{judgement, judgedMarks, valuesOf as judgingValues}

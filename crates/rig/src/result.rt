@@ -1,8 +1,8 @@
 // The rig's number.
 ghost use mathlib.Core.Path.{_≡_};
-ghost use Rattle.certify.specs.Certification.Places.{Fits};
+ghost use Rattle.sheet.specs.Values.{Fits};
 ghost use Rattle.rig.specs.Result.{packed};
-use certify::Values;
+use sheet::Values;
 
 // What one of class (2^40) and of place (2^16) counts in the number.
 const CLASS: u64 = 1_099_511_627_776;

@@ -1,5 +1,6 @@
 pub mod Tests
 pub mod Check
+pub mod Values
 pub mod Format
 pub mod Reader
 pub mod Pasting

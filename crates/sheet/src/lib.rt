@@ -7,7 +7,9 @@ mod record;
 mod writing;
 
 pub use check::Check;
+pub use check::Values;
 pub use check::first_of;
+pub use check::refusal_values;
 pub use check::refuse;
 pub use reader::LONGEST;
 pub use reader::Needs;

@@ -6,6 +6,7 @@ ghost use Rattle.sheet.specs.Check.{firstCause};
 ghost use Rattle.sheet.specs.Format.{parsed, find};
 ghost use Rattle.sheet.specs.Reader.{tooLong, isMissing, whenMissing, sheetCauses, needed, refusalOf, seen, handed};
 ghost use Rattle.sheet.specs.Reader.{part as partOf, the as theOf};
+ghost use Rattle.sheet.specs.Values.{Returns, valuesOf};
 use crate::check::Check;
 use crate::check::first_of;
 use crate::check::refuse;
@@ -64,7 +65,7 @@ fn refusal_by(sheet: &[u8], kind: u16, w: Parsed) -> Check
 
 // The refusal's number and place of reading a kind, or that there is none.
 pub fn refusal(sheet: &[u8], kind: u16) -> Check
-    ensures { λ r. ⌜ r ≡ refusalOf kind (now (sheet .entry)) ⌝ }
+    ensures { λ r. ⌜ Returns valuesOf (refusalOf kind (now (sheet .entry))) r ⌝ }
 {
     let w = parse(sheet, kind);
     refusal_by(sheet, kind, w)

@@ -1,5 +1,5 @@
-// Standard output and standard error. Whether a descriptor takes the bytes no contract can say; it
-// says that writing none succeeds.
+// Standard output and standard error. Whether a descriptor takes the bytes no contract here can say;
+// that writing none succeeds they say.
 ghost use Rattle.streams.specs.Output.{WrittenAll};
 use libc::STDERR_FILENO;
 use libc::STDOUT_FILENO;

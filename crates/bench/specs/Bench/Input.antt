@@ -20,11 +20,10 @@ use Rattle.sheet.specs.Reader.Laws.{refusal-is, checks-are}
 use Rattle.machine.specs.Limits.{mostSequence}
 use Rattle.machine.specs.Causes.{loadCauses}
 use Rattle.machine.specs.Causes.Lists.{machine-causes-are, load-causes-are}
-use Rattle.certify.specs.Certification.{certifyNeeds, certifyCauses}
-use Rattle.certify.specs.Certification.Laws.{certify-causes-are, certification-refused}
+use Rattle.certify.specs.Certification.{sequenceNeeds, sequenceCauses}
+use Rattle.certify.specs.Certification.Laws.{sequence-causes-are, certification-refused}
 use Rattle.build.specs.Building.{buildNeeds}
 use Rattle.build.specs.Building.Service.{refused-early, building-refused}
-use Rattle.judge.specs.Judging.{judgeNeeds}
 use Rattle.judge.specs.Judging.Laws.{judge-causes-are, judgement-refused}
 use Rattle.report.specs.Lines.{refusalLine, judgeLine, certifyLine}
 use Rattle.report.specs.Output.{Output, onOutput, onError}
@@ -56,8 +55,8 @@ module _ (s : List ℕ) (l : longest < length s) where
   load-long : (n : Needs) → firstCause (loadCauses n s) ≡ Refused 1 longest
   load-long n = load-causes-are n s ∙ stays _ (machine-causes-are n s ∙ stays _ (checks-are n s ∙ stays _ (read-long 1)))
 
-  certify-long : (n : Needs) (room : ℕ) → firstCause (certifyCauses n room s) ≡ Refused 1 longest
-  certify-long n room = certify-causes-are n room s ∙ stays _ (load-long n)
+  sequence-long : (answers : Bool) (room : ℕ) → firstCause (sequenceCauses answers room s) ≡ Refused 1 longest
+  sequence-long answers room = sequence-causes-are answers room s ∙ stays _ (load-long (sequenceNeeds answers))
 
   output-long : (service : SheetService) → sheetOutput service s ≡ long service
   unfolding certified
@@ -65,9 +64,9 @@ module _ (s : List ℕ) (l : longest < length s) where
       judged-line s
       ∙ ap (λ a. onOutput (judgeLine a))
       (judgement-refused (mostSequence + 1) s
-      (judge-causes-are (mostSequence + 1) s ∙ stays _ (certify-long judgeNeeds (mostSequence + 1))))
+      (judge-causes-are (mostSequence + 1) s ∙ stays _ (sequence-long true (mostSequence + 1))))
   output-long Certify =
-      ap (λ a. onOutput (certifyLine a)) (certification-refused (mostSequence + 1) s (certify-long certifyNeeds (mostSequence + 1)))
+      ap (λ a. onOutput (certifyLine a)) (certification-refused (mostSequence + 1) s (sequence-long false (mostSequence + 1)))
   output-long Build = built-refused s (building-refused mostSequence s (refused-early mostSequence s (load-long buildNeeds)))
   output-long (Read kind) = read-refused s kind (read-long kind)
 

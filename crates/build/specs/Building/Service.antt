@@ -22,7 +22,7 @@ use Rattle.machine.specs.Causes.Lists.{word-causes-are, load-causes-are, machin
 use Rattle.certify.specs.declared.answer.Answer.the-variants.{Certified as CertifiedAnswer}
 use Rattle.certify.specs.Recognition.{Certified}
 use Rattle.certify.specs.Marks.{count, marks}
-use Rattle.certify.specs.Certification.{certifyNeeds, cause9, certifyCauses, outcome, certification}
+use Rattle.certify.specs.Certification.{cause9, certifyCauses, outcome, certification}
 use Rattle.certify.specs.Certification.Laws.{room-clear, clear-room, room-refused, certified-clear, outcome-clear, certification-clear}
 use Rattle.build.specs.declared.service.Answer.the-variants.{Built, Refused as RefusedAnswer}
 use Rattle.build.specs.Sequence.{following, sequence, lengthBound}
@@ -229,7 +229,7 @@ built-buffer s buffer e =
 -- a sheet with the same machine and word, and what is built as its sequence, is answered certified wherever certifying refuses nothing
 pub built-certification : (room : ℕ) (s : List ℕ) {n : ℕ} → building room s ≡ Built n → (marksRoom : ℕ) (with-sequence : List ℕ)
     → machineIn with-sequence ≡ machineIn s → content 2 with-sequence ≡ content 2 s → content 3 with-sequence ≡ sequence (machineIn s) (content 2 s)
-    → firstCause (certifyCauses certifyNeeds marksRoom with-sequence) ≡ Clear
+    → firstCause (certifyCauses marksRoom with-sequence) ≡ Clear
     → certification marksRoom with-sequence ≡ CertifiedAnswer (count (marks (machineIn s) (content 2 s) (sequence (machineIn s) (content 2 s))))
 built-certification room s e marksRoom with-sequence me we xe clear =
     let shows = built-shows room s e in

@@ -2,12 +2,13 @@
 -- capture rig's number holds each of them in its own bits.
 use Prim.Native.Nat.{ℕ, _+_, _^_, _≤_, _<_}
 use mathlib.Core.Path.{_≡_, refl}
+use mathlib.Core.Bool.{Bool, false}
 use mathlib.Core.List.{List}
 use native.Mathlib.Omega.{arith}
-use Rattle.sheet.specs.declared.check.Check.the-variants.{Clear, Refused}
-use Rattle.sheet.specs.declared.reader.Needs.{Needs}
+use Rattle.sheet.specs.declared.check.Check.the-variants.{Clear}
 use Rattle.sheet.specs.Check.{_else_, firstCause}
 use Rattle.sheet.specs.Check.Places.{WhereRefused, place-of, place-else}
+use Rattle.sheet.specs.Values.{Fits}
 use Rattle.sheet.specs.Reader.{the, content}
 use Rattle.sheet.specs.Reader.Places.{Small}
 use Rattle.machine.specs.Limits.{mostEntries, mostSequence}
@@ -19,19 +20,22 @@ use Rattle.machine.specs.Causes.Lists.{load-proper}
 use Rattle.machine.specs.Causes.Places.{commands-small, load-small, load-short}
 use Rattle.certify.specs.declared.answer.Answer.{Answer}
 use Rattle.certify.specs.declared.answer.Answer.the-variants.{Certified, Open, Refused as RefusedAnswer}
-use Rattle.certify.specs.declared.answer.Values.{Values}
-use Rattle.certify.specs.Marks.{count, marks}
+use Rattle.certify.specs.Recognition.{OpenNumber, RecognisedNumber}
+use Rattle.certify.specs.Recognition.Laws.{open-small}
+use Rattle.certify.specs.Marks.{marks}
 use Rattle.certify.specs.Marks.Laws.{count-most}
 use Rattle.certify.specs.Marks.Agreement.{marks-length}
-use Rattle.certify.specs.Certification.{certifyNeeds, cause7, cause9, markBytes, certifyCauses, cause11, certification, valuesOf}
-use Rattle.certify.specs.Certification.Laws.{room-refused, certify-causes-are, load-clear, sequence-commands, refused-open, open-small, answer-certified, answer-open, answer-refused}
+use Rattle.certify.specs.Certification.{sequenceNeeds, cause7, cause9, markBytes, sequenceCauses, certifyCauses, certification, valuesOf}
+use Rattle.certify.specs.Certification.Laws.{room-refused, sequence-causes-are, load-clear, sequence-commands}
+use Rattle.certify.specs.Certification.Contract.{number-is, certification-says}
 
 -- ---- refusals
--- of causes 1 to 7 and 9, for a service that certifies and any kinds that it needs
-pub certify-small : (needs : Needs) (room : ℕ) (s : List ℕ) → WhereRefused Small (firstCause (certifyCauses needs room s))
-certify-small needs room s =
+-- of causes 1 to 7 and 9, for a service that certifies, whether it needs the answers or not
+pub sequence-small : (answers : Bool) (room : ℕ) (s : List ℕ) → WhereRefused Small (firstCause (sequenceCauses answers room s))
+sequence-small answers room s =
     let xs = content 3 s in
-    place-of Small (certify-causes-are needs room s)
+    let needs = sequenceNeeds answers in
+    place-of Small (sequence-causes-are answers room s)
     (place-else Small (firstCause (loadCauses needs s)) (cause7 (machineIn s .k) (the 3 s) xs else cause9 room (markBytes xs)) (load-small needs s)
     (λ q. place-else Small (cause7 (machineIn s .k) (the 3 s) xs) (cause9 room (markBytes xs))
     (commands-small s (load-short needs s q) 7 mostSequence (machineIn s .k) 3 (omega arith))
@@ -41,37 +45,27 @@ certify-small needs room s =
 
 -- ---- results, where nothing is refused
 -- the recognised places are at most N+1
-count-small : (M : Mealy) (w xs : List ℕ) → count (marks M w xs) ≤ markBytes xs
-count-small M w xs = omega (arith, count-most (marks M w xs), marks-length M w xs)
-
--- the open number is at most that of the most entries
-pub open-limit : (M : Mealy) → Proper M → (w xs : List ℕ) {a v : ℕ} → cause11 M w xs ≡ Refused a v → v ≤ mostEntries
-open-limit M h w xs {a} {v} e = omega (arith, open-small M w xs v (refused-open M w xs e .1), proper-entries M h)
+number-small : (M : Mealy) (w xs : List ℕ) {n : ℕ} → RecognisedNumber M w xs n → n ≤ markBytes xs
+number-small M w xs h = omega (arith, number-is M w xs h, count-most (marks M w xs), marks-length M w xs)
 
 -- ---- the values
--- place fits in 24 bits, a and b in 8 bits each
-pub record Fits (v : Values) : Type 0 where
-  pub place : v .place < 2 ^ 24
-  pub a : v .a < 256
-  pub b : v .b < 256
-
 pub certification-fits : (room : ℕ) (s : List ℕ) → Fits (valuesOf (certification room s))
 certification-fits room s = go (certification room s) refl
   where
-    few : firstCause (certifyCauses certifyNeeds room s) ≡ Clear → count (marks (machineIn s) (content 2 s) (content 3 s)) ≤ mostSequence + 1
-    few e = omega (arith, count-small (machineIn s) (content 2 s) (content 3 s), sequence-commands certifyNeeds room s e .few)
+    few : {n : ℕ} → firstCause (certifyCauses room s) ≡ Clear → RecognisedNumber (machineIn s) (content 2 s) (content 3 s) n → n ≤ mostSequence + 1
+    few e h = omega (arith, number-small (machineIn s) (content 2 s) (content 3 s) h, sequence-commands false room s e .few)
 
     go : (x : Answer) → certification room s ≡ x → Fits (valuesOf (certification room s))
     go (Certified n) e =
-        let h = answer-certified room s e in
-        rw e (record { place = omega (arith, few (h .0), h .1 .1); a = omega arith; b = omega arith })
+        let h = certification-says room s .certified n .0 e in
+        rw e (record { place = omega (arith, few (h .clear) (h .number)); a = omega arith; b = omega arith })
     go (Open n v) e =
-        let h = answer-open room s e in
-        let proper = load-proper certifyNeeds s (load-clear certifyNeeds room s (h .0)) in
+        let h = certification-says room s .opened n v .0 e in
+        let proper = load-proper (sequenceNeeds false) s (load-clear false room s (h .clear)) in
         rw e (record {
-          place = omega (arith, few (h .0), h .1 .1);
+          place = omega (arith, few (h .clear) (h .number));
           a = omega arith;
-          b = omega (arith, open-limit (machineIn s) proper (content 2 s) (content 3 s) (h .1 .0));
+          b = omega (arith, open-small (machineIn s) (content 2 s) (content 3 s) v (h .open-number), proper-entries (machineIn s) proper);
         })
     go (RefusedAnswer n p) e =
-        rw e (record { place = omega (arith, certify-small certifyNeeds room s n p (answer-refused room s e) .place); a = omega arith; b = omega arith })
+        rw e (record { place = omega (arith, sequence-small false room s n p (certification-says room s .refused n p .0 e) .place); a = omega arith; b = omega arith })

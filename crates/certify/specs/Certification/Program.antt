@@ -13,6 +13,7 @@ use Rattle.sheet.specs.declared.check.Check.{Check}
 use Rattle.sheet.specs.declared.check.Check.the-variants.{Clear, Refused}
 use Rattle.sheet.specs.Check.{refusal_with_if_, _else_, first}
 use Rattle.sheet.specs.Check.Laws.{first-same, first-rows}
+use Rattle.sheet.specs.Values.{refusalValues}
 use Rattle.machine.specs.Machine.{Mealy}
 use Rattle.certify.specs.declared.answer.Answer.{Answer}
 use Rattle.certify.specs.declared.answer.Answer.the-variants.{Certified as CertifiedAnswer, Open, Refused as RefusedAnswer}
@@ -61,5 +62,5 @@ values-certified e = rw e
 pub values-open : {a : Answer} {n number : ℕ} → a ≡ Open n number → record { class = 111; place = n; a = 0; b = number } ≡ valuesOf a
 values-open e = rw e
 
-pub values-refused : {a : Answer} {number place : ℕ} → a ≡ RefusedAnswer number place → record { class = number; place = place; a = 0; b = 0 } ≡ valuesOf a
+pub values-refused : {a : Answer} {number place : ℕ} → a ≡ RefusedAnswer number place → refusalValues number place ≡ valuesOf a
 values-refused e = rw e

@@ -1,12 +1,13 @@
 -- The laws of recognition: what building and judging may know of it.
-use Prim.Native.Nat.{ℕ, _+_, _≤_}
+use Prim.Native.Nat.{ℕ, _+_, _*_, _≤_}
 use mathlib.Core.Path.{_≡_, refl, _∙_}
 use mathlib.Core.List.{List}
 use native.Mathlib.Omega.{arith}
+use lib.Arith.{digits-lt}
 use lib.ListN.{length, take, drop}
 use Rattle.machine.specs.Machine.{Mealy, stateAt}
 use Rattle.machine.specs.Machine.Laws.{states-agree}
-use Rattle.certify.specs.Recognition.{Stands, Closure, rule1, rule2, Recognised}
+use Rattle.certify.specs.Recognition.{Stands, Closure, rule1, rule2, Recognised, OpenNumber, start-open, entry-open}
 
 -- the smallest set is in any other that has its first places
 pub closure-in : {xs : List ℕ} {state : ℕ → ℕ} {A B : ℕ → Type 0} → ((p : ℕ) → A p → Closure xs state B p) → {p : ℕ} → Closure xs state A p → Closure xs state B p
@@ -55,8 +56,7 @@ module _ (M : Mealy) (w xs : List ℕ) where
   pub recognised-inside : (p : ℕ) → Recognised M w xs p → p ≤ length xs
   recognised-inside = smallest (λ p. p ≤ length xs) (λ p h. omega (arith, h .inside)) (λ p q m ml rp hp rq hq e rm hm i same. i)
 
-  -- the state of a recognised place has a place where the word stands
-  pub recognised-word : (p : ℕ) → Recognised M w xs p → (i : ℕ) × (Stands w xs i) × (stateAt M xs i ≡ stateAt M xs p)
-  recognised-word =
-      smallest (λ p. (i : ℕ) × (Stands w xs i) × (stateAt M xs i ≡ stateAt M xs p)) (λ p h. (p, h, refl))
-      (λ p q m ml rp hp rq hq e rm hm i same. (hm .0, hm .1, hm .2 ∙ states-agree M xs p q m e same))
+-- ---- the open number is at most n·k
+pub open-small : (M : Mealy) (w xs : List ℕ) (v : ℕ) → OpenNumber M w xs v → v ≤ M .n * M .k
+open-small M w xs v (start-open h e) = omega arith
+open-small M w xs v (entry-open s c ls lc r h b d e) = omega (arith, digits-lt {q = s} {m = M .n} {r = c} {c = M .k} ls lc)

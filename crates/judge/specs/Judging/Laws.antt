@@ -8,25 +8,29 @@ use native.Mathlib.Omega.{arith}
 use native.Mathlib.Nat.{le-refl}
 use borrow.Author.Tests.{ltb-false}
 use lib.Dec.{ltb}
-use lib.ListN.{length}
+use lib.ListN.{length, drop}
 use Rattle.sheet.specs.declared.check.Check.{Check}
 use Rattle.sheet.specs.declared.check.Check.the-variants.{Clear, Refused}
 use Rattle.sheet.specs.declared.record.Record.{Record}
 use Rattle.sheet.specs.Check.{refusal_with_if_, _else_, firstCause, refusedOr, unlessRefused}
-use Rattle.sheet.specs.Check.Laws.{clear-absent, both-clear, cause-one, cause-append}
+use Rattle.sheet.specs.Check.Laws.{clear-refused, clear-absent, both-clear, cause-one, cause-append}
 use Rattle.sheet.specs.Reader.{the, content}
-use Rattle.machine.specs.Machine.{Mealy, answers, stateAt, Proper}
-use Rattle.machine.specs.Causes.{machineIn}
+use Rattle.machine.specs.Limits.{mostSequence}
+use Rattle.machine.specs.Machine.{Mealy, answers, stateAt, Separates, Proper, Below, Commands}
+use Rattle.machine.specs.Causes.{machineIn, loadCauses}
 use Rattle.machine.specs.Causes.Lists.{load-proper, word-distinguishes}
-use Rattle.certify.specs.Recognition.{Certified}
-use Rattle.certify.specs.Marks.{marks}
-use Rattle.certify.specs.Certification.{certifyNeeds, certifyCauses, cause11, kept, marksAfter}
-use Rattle.certify.specs.Certification.Laws.{clear-certified, certified-clear, OpenNumber, refused-open, open-refused, after-clear, load-clear, sequence-commands, certify-without-answers}
+use Rattle.certify.specs.declared.answer.Answer.{Answer as Certification}
+use Rattle.certify.specs.declared.answer.Answer.the-variants.{Certified as CertifiedAnswer, Open, Refused as RefusedThere}
+use Rattle.certify.specs.Recognition.{Certified, OpenNumber, MarksOf, RecognisedNumber}
+use Rattle.certify.specs.Certification.{sequenceNeeds, markBytes, sequenceCauses, certifyCauses, certification, marksAfter, keptIn, Says}
+use Rattle.certify.specs.Certification.Laws.{load-clear, sequence-commands, certify-without-answers}
+use Rattle.certify.specs.Certification.Contract.{certification-says, certifies}
 use Rattle.judge.specs.declared.answer.Answer.{Answer}
 use Rattle.judge.specs.declared.answer.Answer.the-variants.{Pass, Refused as RefusedAnswer}
-use Rattle.judge.specs.Unit.{Unit, ownAnswers}
+use Rattle.judge.specs.Unit.{Unit, tableOf, ownAnswers, standsNow}
 use Rattle.judge.specs.Unit.Identity.{identity}
-use Rattle.judge.specs.Judging.{judgeNeeds, cause10, judgeCauses, verdict, judgement, judgedMarks, Identity}
+use Rattle.judge.specs.Unit.Behaviour.{end-alike}
+use Rattle.judge.specs.Judging.{cause10, judgeCauses, cause11, verdict, judgement, judgedMarks, Identity}
 use Rattle.judge.specs.Judging.Verdict.{Judged, passed, wrong, unfinished, judged-verdict, verdict-judged}
 
 -- ---- the causes
@@ -34,22 +38,22 @@ pub cause10-is : (r : Record) (xs ys : List ℕ) → (refusal 10 with r .start i
 unfolding cause10
 cause10-is r xs ys = refl
 
-pub judge-causes-are : (room : ℕ) (s : List ℕ) → firstCause (judgeCauses room s) ≡ (firstCause (certifyCauses judgeNeeds room s) else cause10 (the 4 s) (content 3 s) (content 4 s))
+pub judge-causes-are : (room : ℕ) (s : List ℕ) → firstCause (judgeCauses room s) ≡ (firstCause (sequenceCauses true room s) else cause10 (the 4 s) (content 3 s) (content 4 s))
 unfolding judgeCauses
 judge-causes-are room s =
     let ten = cause10 (the 4 s) (content 3 s) (content 4 s) in
-    cause-append (certifyCauses judgeNeeds room s) (ten ∷ []) ∙ ap (λ (c : Check). firstCause (certifyCauses judgeNeeds room s) else c) (cause-one ten)
+    cause-append (sequenceCauses true room s) (ten ∷ []) ∙ ap (λ (c : Check). firstCause (sequenceCauses true room s) else c) (cause-one ten)
 
 module _ (room : ℕ) (s : List ℕ) (e : firstCause (judgeCauses room s) ≡ Clear) where
-  both-parts : (firstCause (certifyCauses judgeNeeds room s) ≡ Clear) × (cause10 (the 4 s) (content 3 s) (content 4 s) ≡ Clear)
+  both-parts : (firstCause (sequenceCauses true room s) ≡ Clear) × (cause10 (the 4 s) (content 3 s) (content 4 s) ≡ Clear)
   both-parts = both-clear _ _ (sym (judge-causes-are room s) ∙ e)
 
-  pub marking-clear : firstCause (certifyCauses judgeNeeds room s) ≡ Clear
+  pub marking-clear : firstCause (sequenceCauses true room s) ≡ Clear
   marking-clear = both-parts .0
 
   -- certifying refuses nothing that judging takes
-  pub certifying-clear : firstCause (certifyCauses certifyNeeds room s) ≡ Clear
-  certifying-clear = certify-without-answers true true room s marking-clear
+  pub certifying-clear : firstCause (certifyCauses room s) ≡ Clear
+  certifying-clear = certify-without-answers room s marking-clear
 
   pub few-answers : length (content 4 s) ≤ length (content 3 s)
   few-answers = ltb-false _ _ (clear-absent 10 _ _ (cause10-is (the 4 s) (content 3 s) (content 4 s) ∙ both-parts .1))
@@ -60,15 +64,21 @@ module _ (room : ℕ) (s : List ℕ) where
   unfolding judgement
   judgement-refused e = rw e
 
-  pub judgement-open : {n p : ℕ} → firstCause (judgeCauses room s) ≡ Clear → cause11 (machineIn s) (content 2 s) (content 3 s) ≡ Refused n p
-      → judgement room s ≡ RefusedAnswer n p
+  -- otherwise by what certifying answers
+  pub judgement-by : firstCause (judgeCauses room s) ≡ Clear → {b : Certification} → certification room s ≡ b
+      → judgement room s ≡ refusedOr RefusedAnswer (cause11 b) (verdict (machineIn s) (content 3 s) (content 4 s))
   unfolding judgement
-  judgement-open e f = ap₂ (refusedOr RefusedAnswer) e (ap (λ (c : Check). refusedOr RefusedAnswer c (verdict (machineIn s) (content 3 s) (content 4 s))) f)
+  judgement-by e f =
+      ap₂ (refusedOr RefusedAnswer) e (ap (λ (b : Certification). refusedOr RefusedAnswer (cause11 b) (verdict (machineIn s) (content 3 s) (content 4 s))) f)
 
-  pub judgement-verdict : firstCause (judgeCauses room s) ≡ Clear → cause11 (machineIn s) (content 2 s) (content 3 s) ≡ Clear
+  judgement-open : firstCause (judgeCauses room s) ≡ Clear → {n v : ℕ} → certification room s ≡ Open n v → judgement room s ≡ RefusedAnswer 11 v
+  unfolding cause11
+  judgement-open e f = judgement-by e f
+
+  pub judgement-verdict : firstCause (judgeCauses room s) ≡ Clear → {n : ℕ} → certification room s ≡ CertifiedAnswer n
       → judgement room s ≡ verdict (machineIn s) (content 3 s) (content 4 s)
-  unfolding judgement
-  judgement-verdict e f = ap₂ (refusedOr RefusedAnswer) e (ap (λ (c : Check). refusedOr RefusedAnswer c (verdict (machineIn s) (content 3 s) (content 4 s))) f)
+  unfolding cause11
+  judgement-verdict e f = judgement-by e f
 
 pub judged-refused : (s buffer : List ℕ) {n p : ℕ} → firstCause (judgeCauses (length buffer) s) ≡ Refused n p → judgedMarks s buffer ≡ buffer
 unfolding judgedMarks
@@ -78,10 +88,14 @@ pub judged-clear : (s buffer : List ℕ) → firstCause (judgeCauses (length buf
 unfolding judgedMarks
 judged-clear s buffer e = ap (λ (c : Check). unlessRefused c (marksAfter s buffer) buffer) e
 
--- so marks 0 to N are the sequence's, and later bytes stay as they were
-pub marks-kept : (s buffer : List ℕ) → firstCause (judgeCauses (length buffer) s) ≡ Clear
-    → judgedMarks s buffer ≡ kept (marks (machineIn s) (content 2 s) (content 3 s)) buffer
-marks-kept s buffer e = judged-clear s buffer e ∙ after-clear s buffer (certifying-clear (length buffer) s e)
+-- so marks 0 to N are those of the recognised places, and later bytes stay as they were
+pub judged-marked : (s buffer : List ℕ) → firstCause (judgeCauses (length buffer) s) ≡ Clear
+    → MarksOf (machineIn s) (content 2 s) (content 3 s) (keptIn (content 3 s) (judgedMarks s buffer))
+judged-marked s buffer e = rw (judged-clear s buffer e) (certifies s buffer refl refl .marked (certifying-clear (length buffer) s e))
+
+pub judged-later : (s buffer : List ℕ) → firstCause (judgeCauses (length buffer) s) ≡ Clear
+    → drop (markBytes (content 3 s)) (judgedMarks s buffer) ≡ drop (markBytes (content 3 s)) buffer
+judged-later s buffer e = ap (drop (markBytes (content 3 s))) (judged-clear s buffer e) ∙ certifies s buffer refl refl .later
 
 -- ---- what each answer says
 -- the results where nothing is refused and the sequence is certified; a refusal with the number and place of the first cause, or, where only that the
@@ -93,25 +107,36 @@ pub data Result (room : ℕ) (s : List ℕ) : Answer → Type 0 where
       → Judged (machineIn s) (content 3 s) (content 4 s) a → Result room s a
 
 module _ (room : ℕ) (s : List ℕ) where
+  abbrev says : Says room s (certification room s)
+  says = certification-says room s
+
+  -- where judging refuses nothing, certifying answers with the number of recognised places
+  numbered : firstCause (judgeCauses room s) ≡ Clear → (b : Certification) → certification room s ≡ b
+      → (n : ℕ) × RecognisedNumber (machineIn s) (content 2 s) (content 3 s) n
+  numbered e (CertifiedAnswer n) f = (n, says .certified n .0 f .number)
+  numbered e (Open n v) f = (n, says .opened n v .0 f .number)
+  numbered e (RefusedThere n p) f = clear-refused (certifying-clear room s e) (says .refused n p .0 f)
+
   pub result-judgement : {a : Answer} → Result room s a → a ≡ judgement room s
   result-judgement (refused e) = sym (judgement-refused room s e)
-  result-judgement (not-certified e o) = sym (judgement-open room s e (open-refused (machineIn s) (content 2 s) (content 3 s) o))
+  result-judgement (not-certified {v = v} e o) =
+      let r = numbered e (certification room s) refl in
+      sym (judgement-open room s e (says .opened (r .0) v .1 (record { clear = certifying-clear room s e; open-number = o; number = r .1 })))
   result-judgement (judged e c h) =
+      let r = numbered e (certification room s) refl in
       judged-verdict (machineIn s) (content 3 s) (content 4 s) (few-answers room s e) h
-      ∙ sym (judgement-verdict room s e (certified-clear (machineIn s) (content 2 s) (content 3 s) c))
+      ∙ sym (judgement-verdict room s e (says .certified (r .0) .1 (record { clear = certifying-clear room s e; certified = c; number = r .1 })))
 
-  result-by : (c d : Check) → firstCause (judgeCauses room s) ≡ c → cause11 (machineIn s) (content 2 s) (content 3 s) ≡ d → Result room s (judgement room s)
-  result-by (Refused n p) d e f = rw (judgement-refused room s e) (refused e)
-  result-by Clear (Refused n v) e f =
-      let o = refused-open (machineIn s) (content 2 s) (content 3 s) f in
-      let eleven : cause11 (machineIn s) (content 2 s) (content 3 s) ≡ Refused 11 v = f ∙ ap (λ (x : ℕ). Refused x v) (o .0) in
-      rw (judgement-open room s e eleven) (not-certified e (o .1))
-  result-by Clear Clear e f =
+  result-by : (c : Check) (b : Certification) → firstCause (judgeCauses room s) ≡ c → certification room s ≡ b → Result room s (judgement room s)
+  result-by (Refused n p) b e f = rw (judgement-refused room s e) (refused e)
+  result-by Clear (CertifiedAnswer n) e f =
       rw (judgement-verdict room s e f)
-      (judged e (clear-certified (machineIn s) (content 2 s) (content 3 s) f) (verdict-judged (machineIn s) (content 3 s) (content 4 s) (few-answers room s e)))
+      (judged e (says .certified n .0 f .certified) (verdict-judged (machineIn s) (content 3 s) (content 4 s) (few-answers room s e)))
+  result-by Clear (Open n v) e f = rw (judgement-open room s e f) (not-certified e (says .opened n v .0 f .open-number))
+  result-by Clear (RefusedThere n p) e f = clear-refused (certifying-clear room s e) (says .refused n p .0 f)
 
   pub judgement-result : Result room s (judgement room s)
-  judgement-result = result-by (firstCause (judgeCauses room s)) (cause11 (machineIn s) (content 2 s) (content 3 s)) refl refl
+  judgement-result = result-by (firstCause (judgeCauses room s)) (certification room s) refl refl
 
 -- no result is a refusal
 result-not-refused : (M : Mealy) (xs ys : List ℕ) {a : Answer} {n p : ℕ} → Judged M xs ys a → a ≡ RefusedAnswer n p → ⊥
@@ -159,15 +184,34 @@ pub shown-passes : (room : ℕ) (s : List ℕ) {size end : ℕ} → Passes room 
 shown-passes room s h = sym (result-judgement room s (judged (h .clear) (h .certified) (passed (h .complete) (h .long) (h .ends))))
 
 -- ---- the identity claim
+module _ (room : ℕ) (s : List ℕ) (e : firstCause (judgeCauses room s) ≡ Clear) where
+  loaded : firstCause (loadCauses (sequenceNeeds true) s) ≡ Clear
+  loaded = load-clear true room s (marking-clear room s e)
+
+  pub machine-proper : Proper (machineIn s)
+  machine-proper = load-proper (sequenceNeeds true) s loaded
+
+  pub commands-given : Commands mostSequence (machineIn s .k) (content 3 s)
+  commands-given = sequence-commands true room s (marking-clear room s e)
+
+  word-separates : Separates (machineIn s) (content 2 s)
+  word-separates = word-distinguishes (sequenceNeeds true) s refl loaded .separates
+
 pub pass-identity : (room : ℕ) (s : List ℕ) {a : Answer} → a ≡ judgement room s → Identity s a
 pass-identity room s ae U size end pass own =
     let h = pass-shows room s (sym ae ∙ pass) in
-    let load = load-clear judgeNeeds room s (marking-clear room s (h .clear)) in
-    let M = machineIn s in
     rw (h .ends)
-    (identity M (content 2 s) (content 3 s) (load-proper judgeNeeds s load)
-    (sequence-commands judgeNeeds room s (marking-clear room s (h .clear)))
-    (word-distinguishes judgeNeeds s refl load .separates) (h .certified) U (sym (h .complete) ∙ own))
+    (identity (machineIn s) (content 2 s) (content 3 s) (machine-proper room s (h .clear)) (commands-given room s (h .clear)) (word-separates room s (h .clear))
+    (h .certified) U (sym (h .complete) ∙ own))
+
+-- after a pass, whatever further commands of the sheet go in, the unit answers each as the machine does from the end state on
+pub pass-after : (room : ℕ) (s : List ℕ) (U : Unit (machineIn s .n) (machineIn s .k)) (size end : ℕ) → judgement room s ≡ Pass size end
+    → content 4 s ≡ ownAnswers (machineIn s .n) (machineIn s .k) U (content 3 s) → (ys : List ℕ) → Below (machineIn s .k) ys
+    → answers (tableOf (machineIn s .n) (machineIn s .k) U) (standsNow (machineIn s .n) (machineIn s .k) U (content 3 s)) ys ≡ answers (machineIn s) end ys
+pass-after room s U size end pass own ys below =
+    let clear = pass-shows room s pass .clear in
+    end-alike (machineIn s) (machine-proper room s clear) U (content 3 s) end (pass-identity room s (sym pass) U size end refl own)
+    (commands-given room s clear) ys below
 
 -- the claim speaks of something: the specified machine itself is a unit, and where judging passes the answers are its own
 pub itself : (M : Mealy) → Proper M → Unit (M .n) (M .k)

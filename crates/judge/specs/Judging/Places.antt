@@ -2,47 +2,49 @@
 -- end state is one of the machine's, and answers are bytes. So the capture rig's number holds each of them in its own bits.
 use Prim.Native.Nat.{ℕ, _<_}
 use mathlib.Core.Path.{_≡_, refl, sym}
+use mathlib.Core.Bool.{true}
 use mathlib.Core.List.{List}
 use native.Mathlib.Omega.{arith}
 use lib.ListN.{length, getD}
 use Rattle.sheet.specs.declared.check.Check.the-variants.{Clear}
 use Rattle.sheet.specs.Check.{firstCause}
 use Rattle.sheet.specs.Check.Places.{WhereRefused, place-of, place-cause, place-else}
+use Rattle.sheet.specs.Values.{Fits}
 use Rattle.sheet.specs.Reader.{the, content}
 use Rattle.sheet.specs.Reader.Laws.{the-inside}
 use Rattle.sheet.specs.Reader.Places.{Small, Bytes, content-bytes}
 use Rattle.machine.specs.Limits.{mostSequence}
 use Rattle.machine.specs.Machine.{Mealy, Proper, Commands, stateAt}
-use Rattle.machine.specs.Machine.Laws.{answer-at, state-stays}
+use Rattle.machine.specs.Machine.Laws.{answer-at, state-stays, proper-entries}
 use Rattle.machine.specs.Causes.{machineIn}
-use Rattle.machine.specs.Causes.Lists.{load-proper}
 use Rattle.machine.specs.Causes.Places.{load-short, answer-byte}
-use Rattle.certify.specs.Certification.{certifyCauses}
-use Rattle.certify.specs.Certification.Laws.{open-refused, load-clear, sequence-commands}
-use Rattle.certify.specs.Certification.Places.{certify-small, open-limit, Fits}
+use Rattle.certify.specs.Recognition.Laws.{open-small}
+use Rattle.certify.specs.Certification.{sequenceNeeds, sequenceCauses}
+use Rattle.certify.specs.Certification.Laws.{load-clear}
+use Rattle.certify.specs.Certification.Places.{sequence-small}
 use Rattle.judge.specs.declared.answer.Answer.{Answer}
 use Rattle.judge.specs.declared.answer.Answer.the-variants.{Pass}
-use Rattle.judge.specs.Judging.{judgeNeeds, cause10, judgeCauses, judgement, valuesOf}
+use Rattle.judge.specs.Judging.{cause10, judgeCauses, judgement, valuesOf}
 use Rattle.judge.specs.Judging.Verdict.{Judged, passed, wrong, unfinished}
-use Rattle.judge.specs.Judging.Laws.{cause10-is, judge-causes-are, marking-clear, few-answers, Result, refused, not-certified, judged, judgement-result}
+use Rattle.judge.specs.Judging.Laws.{cause10-is, judge-causes-are, few-answers, machine-proper, commands-given, Result, refused, not-certified, judged, judgement-result}
 
 -- ---- refusals
 -- of causes 1 to 7, 9 and 10
 pub judge-small : (room : ℕ) (s : List ℕ) → WhereRefused Small (firstCause (judgeCauses room s))
 judge-small room s =
     place-of Small (judge-causes-are room s)
-    (place-else Small (firstCause (certifyCauses judgeNeeds room s)) (cause10 (the 4 s) (content 3 s) (content 4 s)) (certify-small judgeNeeds room s)
+    (place-else Small (firstCause (sequenceCauses true room s)) (cause10 (the 4 s) (content 3 s) (content 4 s)) (sequence-small true room s)
     (λ q. place-of Small (sym (cause10-is (the 4 s) (content 3 s) (content 4 s))) (place-cause Small 10 (the 4 s .start) _
-    (λ t. record { number = omega arith; place = omega (arith, the-inside 4 s, load-short judgeNeeds s (load-clear judgeNeeds room s q)) }))))
+    (λ t. record { number = omega arith; place = omega (arith, the-inside 4 s, load-short (sequenceNeeds true) s (load-clear true room s q)) }))))
 
 -- ---- the values
 module _ (room : ℕ) (s : List ℕ) (bytes : Bytes s) where
   module _ (e : firstCause (judgeCauses room s) ≡ Clear) where
-    proper : Proper (machineIn s)
-    proper = load-proper judgeNeeds s (load-clear judgeNeeds room s (marking-clear room s e))
+    abbrev proper : Proper (machineIn s)
+    proper = machine-proper room s e
 
-    commands : Commands mostSequence (machineIn s .k) (content 3 s)
-    commands = sequence-commands judgeNeeds room s (marking-clear room s e)
+    abbrev commands : Commands mostSequence (machineIn s .k) (content 3 s)
+    commands = commands-given room s e
 
     judged-fits : {a : Answer} → Judged (machineIn s) (content 3 s) (content 4 s) a → Fits (valuesOf a)
     judged-fits (passed y n t) = record {
@@ -62,7 +64,7 @@ module _ (room : ℕ) (s : List ℕ) (bytes : Bytes s) where
   result-fits : {a : Answer} → Result room s a → Fits (valuesOf a)
   result-fits (refused {p = p} e) = record { place = omega (arith, judge-small room s _ p e .place); a = omega arith; b = omega arith }
   result-fits (not-certified e o) = record {
-    place = omega (arith, open-limit (machineIn s) (proper e) (content 2 s) (content 3 s) (open-refused (machineIn s) (content 2 s) (content 3 s) o));
+    place = omega (arith, open-small (machineIn s) (content 2 s) (content 3 s) _ o, proper-entries (machineIn s) (proper e));
     a = omega arith;
     b = omega arith;
   }

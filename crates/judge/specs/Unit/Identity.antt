@@ -1,6 +1,6 @@
 -- The identity claim over any certified sequence: a unit that gives the specified answers to it is the specified machine, its states renamed. Of
--- certification it uses the laws and what a certified sequence has (`Certified`, `Verified`); of the word one fact, that two places where it stands
--- have one state of the sheet if the unit is in one state there (`alike`).
+-- certification it uses what a certified sequence has (`Certified`, `Verified`) and the induction over recognised places (`smallest`); of the word one
+-- fact, that two places where it stands have one state of the sheet if the unit is in one state there (`alike`).
 use Prim.Native.Nat.{ℕ, zero, suc, _+_, _≤_, _<_}
 use mathlib.Core.Path.{_≡_, refl, sym, ap, ap₂, _∙_}
 use mathlib.Core.List.{List}
@@ -13,8 +13,8 @@ use Rattle.machine.specs.Machine.Laws.{answers-part, answer-at, state-start, st
 use Rattle.machine.specs.Numbers.{choice}
 use Rattle.machine.specs.Pigeonhole.{onto}
 use Rattle.certify.specs.Recognition.{Stands, Recognised, Certified}
-use Rattle.certify.specs.Recognition.Laws.{smallest, recognised-word}
-use Rattle.judge.specs.Unit.{Unit, tableOf, ownAnswers, Renaming}
+use Rattle.certify.specs.Recognition.Laws.{smallest}
+use Rattle.judge.specs.Unit.{Unit, tableOf, ownAnswers, standsNow, Renaming}
 
 module _ (M : Mealy) (w xs : List ℕ) (proper : Proper M) (commands : Commands mostSequence (M .k) xs) (separates : Separates M w)
     (certified : Certified M w xs) (U : Unit (M .n) (M .k)) (same : answers M (M .start) xs ≡ ownAnswers (M .n) (M .k) U xs) where
@@ -39,6 +39,12 @@ module _ (M : Mealy) (w xs : List ℕ) (proper : Proper M) (commands : Commands 
       separates (stateAt M xs p) (stateAt M xs q) (state-low p) (state-low q)
       (word-answers p hp ∙ ap (λ (x : ℕ). answers unit x w) e ∙ sym (word-answers q hq))
 
+  -- the state of a recognised place has a place where the word stands
+  recognised-word : (p : ℕ) → Recognised M w xs p → (i : ℕ) × (Stands w xs i) × (stateAt M xs i ≡ stateAt M xs p)
+  recognised-word =
+      smallest M w xs (λ p. (i : ℕ) × (Stands w xs i) × (stateAt M xs i ≡ stateAt M xs p)) (λ p h. (p, h, refl))
+      (λ p q m ml rp hp rq hq e rm hm i equal. (hm .0, hm .1, hm .2 ∙ states-agree M xs p q m e equal))
+
   -- ---- the state given to each state: that of the unit at a place where the word stands
   Shows : ℕ → ℕ → Type 0
   Shows s x = (p : ℕ) × (Stands w xs p) × (stateAt M xs p ≡ s) × (stateAt unit xs p ≡ x)
@@ -47,7 +53,7 @@ module _ (M : Mealy) (w xs : List ℕ) (proper : Proper M) (commands : Commands 
   unfolding Shows
   shows s l =
       let v = certified .entries s 0 l (proper .some-commands) in
-      let h = recognised-word M w xs (v .place) (v .before) in
+      let h = recognised-word (v .place) (v .before) in
       (stateAt unit xs (h .0), (h .0, h .1, h .2 ∙ v .state, refl))
 
   given : ℕ → ℕ
@@ -126,17 +132,28 @@ module _ (M : Mealy) (w xs : List ℕ) (proper : Proper M) (commands : Commands 
       ∙ ap given (sym (state-next M xs p (omega arith))) in
       rw (← add-one p) step
 
+  -- ---- start, end and no state left out
+  from-start : given (M .start) ≡ U .u
+  unfolding Met
+  from-start = ap given (sym (state-start M xs)) ∙ sym (recognised-met 0 (certified .start)) ∙ state-start unit xs
+
+  at-end : given (stateAt M xs (length xs)) ≡ standsNow (M .n) (M .k) U xs
+  unfolding Met
+  at-end = sym (all-met (length xs) (omega arith)) ∙ state-end unit xs
+
   -- the claim: the end state is that of place N
   pub identity : Renaming M U xs (stateAt M xs (length xs))
-  unfolding Met
-  identity = record {
-    given = given;
-    into = given-low;
-    one-to-one = given-one;
-    onto = given-onto;
-    answers-alike = given-answers;
-    goes-alike = given-next;
-    end-is = refl;
-    start-given = ap given (sym (state-start M xs)) ∙ sym (recognised-met 0 (certified .start)) ∙ state-start unit xs;
-    end-given = sym (all-met (length xs) (omega arith)) ∙ state-end unit xs;
-  }
+  identity =
+      let start = from-start in
+      let end = at-end in
+      record {
+        given = given;
+        into = given-low;
+        one-to-one = λ s t sl tl e. let same-state = given-one s t sl tl e in cc;
+        onto = λ x l. let o = given-onto x l in let found = o .2 in (o .0, o .1, cc);
+        answers-alike = given-answers;
+        goes-alike = given-next;
+        end-is = refl;
+        start-given = cc;
+        end-given = cc;
+      }

@@ -21,8 +21,8 @@ use Rattle.machine.specs.Causes.Laws.{few-entries, commands-clear}
 use Rattle.machine.specs.Causes.Lists.{machine-same, machine-causes-are, word-causes-are, load-causes-are, shape-of, clear-table, load-machine, load-word, word-distinguishes}
 use Rattle.certify.specs.declared.answer.Answer.the-variants.{Certified}
 use Rattle.certify.specs.Marks.{count, marks}
-use Rattle.certify.specs.Certification.{certifyNeeds, cause7, certification}
-use Rattle.certify.specs.Certification.Laws.{room-clear, certify-causes-are}
+use Rattle.certify.specs.Certification.{sequenceNeeds, cause7, certification}
+use Rattle.certify.specs.Certification.Laws.{room-clear, sequence-causes-are}
 use Rattle.build.specs.declared.service.Answer.the-variants.{Built}
 use Rattle.build.specs.Sequence.{sequence}
 use Rattle.build.specs.Building.{buildNeeds, building}
@@ -85,7 +85,7 @@ pub record Carries (s xs t : List ℕ) : Type 0 where
   pub word : content 2 t ≡ content 2 s
   pub sequence : content 3 t ≡ xs
   pub short : length t ≤ longest
-  pub clear : firstCause (loadCauses certifyNeeds t) ≡ Clear
+  pub clear : firstCause (loadCauses (sequenceNeeds false) t) ≡ Clear
 
 parts-carry : (s xs : List ℕ) → Source s → length xs ≤ mostSequence → Carries s xs (take (end (the 2 s)) s ++ headerOf 3 (length xs) ++ xs)
 parts-carry s xs h few =
@@ -103,8 +103,8 @@ parts-carry s xs h few =
     let the-two : the 2 t ≡ the 2 s = sym (the-found 2 t {f = At (the 2 s)} (sym f2) refl) in
     let machine : machineIn t ≡ machineIn s = machine-same s t one in
     let none : whenMissing t 4 false ≡ Clear = sym (when-missing t 4 false) ∙ absent 2 (length t) refl in
-    let sheet : firstCause (sheetCauses (needed certifyNeeds) t) ≡ Clear =
-    checks-are certifyNeeds t
+    let sheet : firstCause (sheetCauses (needed (sequenceNeeds false)) t) ≡ Clear =
+    checks-are (sequenceNeeds false) t
     ∙ ap₂ _else_ (reading.not-refused s xs p inside low short 1 f1)
     (ap₂ _else_ (present-kind 2 t f2) (ap₂ _else_ (present-kind 3 t f3) none ∙ else-clear Clear) ∙ else-clear Clear)
     ∙ else-clear Clear in
@@ -120,8 +120,8 @@ parts-carry s xs h few =
       sequence = reading.content-three s xs p inside low short;
       short = omega (arith, short, reading.added-long s xs p inside low);
       clear =
-          load-causes-are certifyNeeds t
-          ∙ ap₂ _else_ (machine-causes-are certifyNeeds t ∙ ap₂ _else_ sheet table ∙ else-clear Clear) (word-causes-are t ∙ word)
+          load-causes-are (sequenceNeeds false) t
+          ∙ ap₂ _else_ (machine-causes-are (sequenceNeeds false) t ∙ ap₂ _else_ sheet table ∙ else-clear Clear) (word-causes-are t ∙ word)
           ∙ else-clear Clear;
     }
 
@@ -146,6 +146,6 @@ built-sheet-certified room s {n} e marksRoom enough =
     commands-clear 7 mostSequence (machineIn t .k) (the 3 t) (content 3 t)
     (subst (λ (M : Mealy). Commands mostSequence (M .k) (content 3 t)) (sym (c .machine)) (subst (λ (l : List ℕ). Commands mostSequence (machineIn s .k) l) (sym (c .sequence)) (shows .commands))) in
     built-certification room s e marksRoom t (c .machine) (c .word) (c .sequence)
-    (certify-causes-are certifyNeeds marksRoom t
+    (sequence-causes-are false marksRoom t
     ∙ ap₂ _else_ (c .clear) (ap₂ _else_ seven (room-clear marksRoom (length (content 3 t) + 1) long) ∙ else-clear Clear)
     ∙ else-clear Clear)

@@ -17,7 +17,7 @@ values-of-requires c κs = search needs
 pack-requires : tie.Need-pack-requires
 pack-requires c κs =
     let h = c .before .before .before .certify .ensures in
-    rw (c .values-of .ensures, h .answer) (certification-fits _ _)
+    rw (c .values-of .ensures, h .answer .is) (certification-fits _ _)
 
 same-length : tie.Need-same-length
 same-length c = search needs
@@ -25,7 +25,7 @@ same-length c = search needs
 returns : tie.Need-returns
 returns c =
     let h = c .before .before .before .before .certify .ensures in
-    record { number = c .pack .ensures ∙ ap packed (c .before .values-of .ensures ∙ ap valuesOf (h .answer)); marks = h .marks }
+    record { number = c .pack .ensures ∙ ap packed (c .before .values-of .ensures ∙ ap valuesOf (h .answer .is)); marks = h .marks }
 
 pub rig-certify-spec : {M : Type 1} → statement M
 rig-certify-spec =

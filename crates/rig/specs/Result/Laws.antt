@@ -3,12 +3,13 @@ use Prim.Native.Nat.{ℕ}
 use mathlib.Core.Path.{_≡_, refl, sym, _∙_, subst}
 use mathlib.Core.List.{List}
 use native.Mathlib.Omega.{arith}
+use Rattle.sheet.specs.Values.{Fits}
 use Rattle.sheet.specs.Reader.{content}
 use Rattle.sheet.specs.Reader.Places.{Bytes}
 use Rattle.machine.specs.Causes.{machineIn}
-use Rattle.certify.specs.declared.answer.Values.{Values}
+use Rattle.sheet.specs.declared.check.Values.{Values}
 use Rattle.certify.specs.Certification.{certification, valuesOf as certifyingValues}
-use Rattle.certify.specs.Certification.Places.{Fits, certification-fits}
+use Rattle.certify.specs.Certification.Places.{certification-fits}
 use Rattle.judge.specs.Unit.{Renaming}
 use Rattle.judge.specs.Judging.{judgement, valuesOf as judgingValues}
 use Rattle.judge.specs.Judging.Laws.{pass-identity}

@@ -3,7 +3,6 @@
 use Prim.Native.Nat.{ℕ, _≤_}
 use mathlib.Core.Path.{_≡_, refl, ap, _∙_}
 use mathlib.Core.List.{List, [], _∷_}
-use native.Mathlib.Nat.{le-refl}
 use borrow.Author.Tests.{le-ltb}
 use Rattle.sheet.specs.declared.check.Check.{Check}
 use Rattle.sheet.specs.declared.check.Check.the-variants.{Clear, Refused}
@@ -16,10 +15,9 @@ use Rattle.machine.specs.Machine.{Mealy, machineOf, run, answers, stateAt}
 use Rattle.machine.specs.Causes.{cause3, cause4, commandsCause, cause6, machineIn, machineCauses, wordCauses, loadCauses}
 use Rattle.certify.specs.declared.answer.Answer.{Answer}
 use Rattle.certify.specs.declared.answer.Answer.the-variants.{Certified}
-use Rattle.certify.specs.Recognition.{Certified as CertifiedSequence}
 use Rattle.certify.specs.Marks.Twin.{twin as twinMachine, single as singleMachine}
-use Rattle.certify.specs.Certification.{certifyNeeds, cause9, certifyCauses, cause11, outcome, certification}
-use Rattle.certify.specs.Certification.Laws.{certification-clear, certification-refused, certified-clear, answer-certified}
+use Rattle.certify.specs.Certification.{cause9, sequenceCauses, certifyCauses, outcome, certification}
+use Rattle.certify.specs.Certification.Laws.{certification-clear, certification-refused}
 use Rattle.certify.specs.Certification.Twin as outcomes
 use Rattle.build.specs.Building.{buildCauses}
 use Rattle.build.specs.Building.Service.{building-refused}
@@ -27,14 +25,14 @@ use Rattle.build.specs.Building.Twin as buildings
 use Rattle.judge.specs.declared.answer.Answer.{Answer as Judgement}
 use Rattle.judge.specs.declared.answer.Answer.the-variants.{Pass, Wrong, Unfinished}
 use Rattle.judge.specs.Judging.{cause10, judgeCauses, agreed, resultAt, verdict, judgement}
-use Rattle.judge.specs.Judging.Laws.{judgement-refused, judgement-verdict}
+use Rattle.judge.specs.Judging.Laws.{certifying-clear, judgement-refused, judgement-verdict}
 use Rattle.report.specs.Lines.{judgeLine}
 use Rattle.report.specs.Lines.Examples as lines
 use Rattle.starred.specs.Starred.{unitSheet, sequenceSheet, answersSheet, twinTable, noStateTable, singleTable, builtTwin, twinWith, twinAnswered, JudgedAs, Starred}
 
 -- what certifying reads in a sheet
 record Sheet (room : ℕ) (s : List ℕ) (M : Mealy) (w xs : List ℕ) : Type 0 where
-  clear : firstCause (certifyCauses certifyNeeds room s) ≡ Clear
+  clear : firstCause (certifyCauses room s) ≡ Clear
   machine : machineIn s ≡ M
   word : content 2 s ≡ w
   sequence : content 3 s ≡ xs
@@ -73,14 +71,14 @@ record Computed : Type 0 where
   too-many : (room : ℕ) → 13 ≤ room → (a b c d e f g h i j k l m : ℕ)
       → firstCause (judgeCauses room (twinAnswered (a ∷ b ∷ c ∷ d ∷ e ∷ f ∷ g ∷ h ∷ i ∷ j ∷ k ∷ l ∷ m ∷ []))) ≡ Refused 10 41
   six-built : (room : ℕ) → firstCause (buildCauses room (unitSheet twinTable (1 ∷ []))) ≡ Refused 6 1
-  six-certified : (room : ℕ) → firstCause (certifyCauses certifyNeeds room (sequenceSheet twinTable (1 ∷ []) builtTwin)) ≡ Refused 6 1
+  six-certified : (room : ℕ) → firstCause (certifyCauses room (sequenceSheet twinTable (1 ∷ []) builtTwin)) ≡ Refused 6 1
   six-judged : (room : ℕ) → firstCause (judgeCauses room (answersSheet twinTable (1 ∷ []) builtTwin (0 ∷ []))) ≡ Refused 6 1
   four-built : (room command : ℕ) → firstCause (buildCauses room (unitSheet noStateTable (command ∷ []))) ≡ Refused 4 8
-  four-certified : (room command : ℕ) → firstCause (certifyCauses certifyNeeds room (sequenceSheet noStateTable (command ∷ []) builtTwin)) ≡ Refused 4 8
+  four-certified : (room command : ℕ) → firstCause (certifyCauses room (sequenceSheet noStateTable (command ∷ []) builtTwin)) ≡ Refused 4 8
   four-judged : (room command answer : ℕ) → firstCause (judgeCauses room (answersSheet noStateTable (command ∷ []) builtTwin (answer ∷ []))) ≡ Refused 4 8
 
 computed : Computed
-unfolding twinMachine singleMachine headerOf refusal_with_if_ _else_ firstCause first recordAt offset end kindOf cause1 cause2 causeAt onward parseFrom parse parsed ofKind _or_ find sheetCauses when needed refusalOf the part bytes content machineOf run answers cause3 cause4 commandsCause cause6 machineIn machineCauses wordCauses loadCauses buildCauses cause9 certifyCauses cause10 judgeCauses verdict resultAt agreed stateAt
+unfolding twinMachine singleMachine headerOf refusal_with_if_ _else_ firstCause first recordAt offset end kindOf cause1 cause2 causeAt onward parseFrom parse parsed ofKind _or_ find sheetCauses when needed refusalOf the part bytes content machineOf run answers cause3 cause4 commandsCause cause6 machineIn machineCauses wordCauses loadCauses buildCauses cause9 sequenceCauses cause10 judgeCauses verdict resultAt agreed stateAt
 computed = record {
   built = λ room l. record { clear = buildings.nine-clear room 13 l; machine = refl; word = refl; sequence = refl };
   each-other = λ room l. record { clear = buildings.nine-clear room 7 l; machine = refl; word = refl; sequence = refl };
@@ -103,17 +101,11 @@ computed = record {
   four-judged = λ room command answer. refl;
 }
 
--- ---- judging the built sequence
-certified-in : (room : ℕ) {s : List ℕ} {M : Mealy} {w xs : List ℕ} {n : ℕ} → Sheet room s M w xs → outcome M w xs ≡ Certified n → CertifiedSequence M w xs
-certified-in room {s} h e = rw (← h .machine, ← h .word, ← h .sequence) (answer-certified room s (answered room h e) .1 .0)
-
-twin-certified : CertifiedSequence twinMachine (0 ∷ []) builtTwin
-twin-certified = certified-in 13 (computed .built 13 (le-refl 13)) outcomes.twin-built
-
+-- ---- judging the built sequence, which certifying answers certified
 judged : (room : ℕ) {s ys : List ℕ} {a : Judgement} → Judged room s ys → verdict twinMachine builtTwin ys ≡ a → judgement room s ≡ a
 judged room {s} h e =
-    let certified : cause11 (machineIn s) (content 2 s) (content 3 s) ≡ Clear =
-    rw (h .machine, h .word, h .sequence) (certified-clear twinMachine (0 ∷ []) builtTwin twin-certified) in
+    let certified : certification room s ≡ Certified 13 =
+    certification-clear room s (certifying-clear room s (h .clear)) ∙ (rw (h .machine, h .word, h .sequence) outcomes.twin-built) in
     judgement-verdict room s (h .clear) certified ∙ (rw (h .machine, h .sequence, h .answers) e)
 
 -- with its line

@@ -31,7 +31,7 @@ first-of-requires-2 c κs = search needs
 returns : tie.Need-returns
 returns c =
     let start = c .before .before .before .before .before .before .before .before in
-    sequence-loaded (start .args .needs) (start .args .room) (now (start .args .sheet)) (c .before .before .before .before .before .before .load-sheet .ensures)
+    sequence-loaded (start .args .answers) (start .args .room) (now (start .args .sheet)) (c .before .before .before .before .before .before .load-sheet .ensures)
     (handed-content _ (start .args .sheet) (c .before .before .before .before .read .result) (c .before .before .before .before .read .ensures))
     (c .before .before .before .commands .ensures) (c .before .before .refuse .ensures) (c .before .first-of .ensures) (c .first-of2 .ensures)
 

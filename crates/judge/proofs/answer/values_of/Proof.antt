@@ -1,6 +1,7 @@
 -- `judge::answer::values_of` meets its contract.
 -- Assumes nothing.
 use borrow.Author.Needs.{needs}
+use mathlib.Core.Path.{_∙_}
 use Rattle.judge.proofs.Answering.{values-pass, values-wrong, values-unfinished, values-refused}
 use Rattle.judge.proofs.answer.values_of.Statement.{statement}
 use Rattle.judge.proofs.answer.values_of.Tie as tie
@@ -26,6 +27,9 @@ enum-known-answer-3 c = search needs
 enum-known-answer-4 : tie.Need-enum-known-answer-4
 enum-known-answer-4 c = search needs
 
+refusal-values-requires : tie.Need-refusal-values-requires
+refusal-values-requires c κs = search needs
+
 returns : tie.Need-returns
 returns c =
     values-pass (c .before .answer .given .1)
@@ -40,7 +44,7 @@ returns-3 c =
 
 returns-4 : tie.Need-returns-4
 returns-4 c =
-    values-refused (c .before .answer4 .given .1)
+    c .refusal-values .ensures ∙ values-refused (c .before .before .answer4 .given .1)
 
 pub values-of-spec : {M : Type 1} → statement M
 values-of-spec =
@@ -53,6 +57,7 @@ values-of-spec =
     cast-t13
     enum-known-answer-3
     enum-known-answer-4
+    refusal-values-requires
     returns
     returns-2
     returns-3

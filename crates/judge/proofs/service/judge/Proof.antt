@@ -12,7 +12,7 @@ use Rattle.sheet.specs.Reader.{content}
 use Rattle.sheet.specs.Reader.Laws.{handed-content}
 use Rattle.judge.specs.Judging.{judgeCauses}
 use Rattle.judge.specs.Judging.Laws.{marking-clear}
-use Rattle.judge.proofs.Answering.{checks-are, few-here, promised, judges-refused, judges-never, judges-open, judges-certified}
+use Rattle.judge.proofs.Answering.{checks-are, few-here, promised, judges-refused, judges-certified, judges-open, judges-refused-there}
 use Rattle.judge.proofs.service.judge.Statement.{statement}
 use Rattle.judge.proofs.service.judge.Tie as tie
 
@@ -112,7 +112,7 @@ same-length-3 c = search needs
 returns-4 : tie.Need-returns-4
 returns-4 c =
     let d = c .before .before .before .before .before .before .before .before .before in
-    absurd (judges-never (sheet d) (buffer d) (check-is d) (c .before .before .before .before .before .before .before .enum-told .given .1) (c .before .before .before .before .before .certify .ensures) (c .before .certified2 .given .1))
+    promised (judges-refused-there (sheet d) (buffer d) (check-is d) (c .before .before .before .before .before .before .before .enum-told .given .1) (c .before .before .before .before .before .certify .ensures) (c .before .certified2 .given .1))
 
 pub judge-spec : {M : Type 1} → statement M
 judge-spec =

@@ -22,7 +22,7 @@ returns : tie.Need-returns
 unfolding certified
 returns c =
     writes-output _ refl
-    (prints-same (ap certifyLine (sym (c .before .before .before .certify .ensures .answer))) (c .certify-line .ensures))
+    (prints-same (ap certifyLine (sym (c .before .before .before .certify .ensures .answer .is))) (c .certify-line .ensures))
 
 pub certify-sheet-spec : {M : Type 1} → statement M
 certify-sheet-spec =

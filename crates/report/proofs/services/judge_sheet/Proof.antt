@@ -22,7 +22,7 @@ returns : tie.Need-returns
 unfolding judged
 returns c =
     writes-output _ refl
-    (prints-same (ap judgeLine (sym (c .before .before .before .judge .ensures .0 .answer))) (c .judge-line .ensures))
+    (prints-same (ap judgeLine (sym (c .before .before .before .judge .ensures .0 .answer .is))) (c .judge-line .ensures))
 
 pub judge-sheet-spec : {M : Type 1} → statement M
 judge-sheet-spec =

@@ -31,7 +31,7 @@ first-of-requires-3 c κs = search needs
 returns : tie.Need-returns
 returns c =
     c .first-of3 .ensures
-    ∙ ap₂ _else_ (c .before .before .before .before .before .before .refusal .ensures)
+    ∙ ap₂ _else_ (c .before .before .before .before .before .before .refusal .ensures .is)
     (c .before .first-of2 .ensures
     ∙ ap₂ _else_ (c .before .before .before .before .before .required .ensures)
     (c .before .before .first-of .ensures ∙ ap₂ _else_ (c .before .before .before .before .required2 .ensures) (c .before .before .before .required3 .ensures)))
