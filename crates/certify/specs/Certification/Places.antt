@@ -1,6 +1,6 @@
 -- The values of certifying's answer are small: places of refusals lie inside the longest sheet, counts at most N+1, open numbers at most n·k. So the
 -- capture rig's number holds each of them in its own bits.
-use Prim.Native.Nat.{ℕ, _+_, _^_, _≤_, _<_}
+use Prim.Native.Nat.{ℕ, _+_, _≤_}
 use mathlib.Core.Path.{_≡_, refl}
 use mathlib.Core.Bool.{Bool, false}
 use mathlib.Core.List.{List}
@@ -11,8 +11,8 @@ use Rattle.sheet.specs.Check.Places.{WhereRefused, place-of, place-else}
 use Rattle.sheet.specs.Values.{Fits}
 use Rattle.sheet.specs.Reader.{the, content}
 use Rattle.sheet.specs.Reader.Places.{Small}
-use Rattle.machine.specs.Limits.{mostEntries, mostSequence}
-use Rattle.machine.specs.Machine.{Mealy, Proper}
+use Rattle.machine.specs.Limits.{mostSequence}
+use Rattle.machine.specs.Machine.{Mealy}
 use Rattle.machine.specs.Machine.Laws.{proper-entries}
 use Rattle.machine.specs.Causes.{machineIn, loadCauses}
 use Rattle.machine.specs.Causes.Laws.{clear-commands}
@@ -20,7 +20,7 @@ use Rattle.machine.specs.Causes.Lists.{load-proper}
 use Rattle.machine.specs.Causes.Places.{commands-small, load-small, load-short}
 use Rattle.certify.specs.declared.answer.Answer.{Answer}
 use Rattle.certify.specs.declared.answer.Answer.the-variants.{Certified, Open, Refused as RefusedAnswer}
-use Rattle.certify.specs.Recognition.{OpenNumber, RecognisedNumber}
+use Rattle.certify.specs.Recognition.{RecognisedNumber}
 use Rattle.certify.specs.Recognition.Laws.{open-small}
 use Rattle.certify.specs.Marks.{marks}
 use Rattle.certify.specs.Marks.Laws.{count-most}

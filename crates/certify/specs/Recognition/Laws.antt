@@ -1,12 +1,11 @@
 -- The laws of recognition: what building and judging may know of it.
 use Prim.Native.Nat.{ℕ, _+_, _*_, _≤_}
-use mathlib.Core.Path.{_≡_, refl, _∙_}
+use mathlib.Core.Path.{_≡_, refl}
 use mathlib.Core.List.{List}
 use native.Mathlib.Omega.{arith}
 use lib.Arith.{digits-lt}
 use lib.ListN.{length, take, drop}
 use Rattle.machine.specs.Machine.{Mealy, stateAt}
-use Rattle.machine.specs.Machine.Laws.{states-agree}
 use Rattle.certify.specs.Recognition.{Stands, Closure, rule1, rule2, Recognised, OpenNumber, start-open, entry-open}
 
 -- the smallest set is in any other that has its first places

@@ -188,11 +188,11 @@ module _ (room : ℕ) (s : List ℕ) (e : firstCause (judgeCauses room s) ≡ Cl
   loaded : firstCause (loadCauses (sequenceNeeds true) s) ≡ Clear
   loaded = load-clear true room s (marking-clear room s e)
 
-  pub machine-proper : Proper (machineIn s)
-  machine-proper = load-proper (sequenceNeeds true) s loaded
+  pub judged-proper : Proper (machineIn s)
+  judged-proper = load-proper (sequenceNeeds true) s loaded
 
-  pub commands-given : Commands mostSequence (machineIn s .k) (content 3 s)
-  commands-given = sequence-commands true room s (marking-clear room s e)
+  pub judged-commands : Commands mostSequence (machineIn s .k) (content 3 s)
+  judged-commands = sequence-commands true room s (marking-clear room s e)
 
   word-separates : Separates (machineIn s) (content 2 s)
   word-separates = word-distinguishes (sequenceNeeds true) s refl loaded .separates
@@ -201,7 +201,7 @@ pub pass-identity : (room : ℕ) (s : List ℕ) {a : Answer} → a ≡ judgement
 pass-identity room s ae U size end pass own =
     let h = pass-shows room s (sym ae ∙ pass) in
     rw (h .ends)
-    (identity (machineIn s) (content 2 s) (content 3 s) (machine-proper room s (h .clear)) (commands-given room s (h .clear)) (word-separates room s (h .clear))
+    (identity (machineIn s) (content 2 s) (content 3 s) (judged-proper room s (h .clear)) (judged-commands room s (h .clear)) (word-separates room s (h .clear))
     (h .certified) U (sym (h .complete) ∙ own))
 
 -- after a pass, whatever further commands of the sheet go in, the unit answers each as the machine does from the end state on
@@ -210,8 +210,8 @@ pub pass-after : (room : ℕ) (s : List ℕ) (U : Unit (machineIn s .n) (machine
     → answers (tableOf (machineIn s .n) (machineIn s .k) U) (standsNow (machineIn s .n) (machineIn s .k) U (content 3 s)) ys ≡ answers (machineIn s) end ys
 pass-after room s U size end pass own ys below =
     let clear = pass-shows room s pass .clear in
-    end-alike (machineIn s) (machine-proper room s clear) U (content 3 s) end (pass-identity room s (sym pass) U size end refl own)
-    (commands-given room s clear) ys below
+    end-alike (machineIn s) (judged-proper room s clear) U (content 3 s) end (pass-identity room s (sym pass) U size end refl own)
+    (judged-commands room s clear) ys below
 
 -- the claim speaks of something: the specified machine itself is a unit, and where judging passes the answers are its own
 pub itself : (M : Mealy) → Proper M → Unit (M .n) (M .k)

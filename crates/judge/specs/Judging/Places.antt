@@ -26,7 +26,7 @@ use Rattle.judge.specs.declared.answer.Answer.{Answer}
 use Rattle.judge.specs.declared.answer.Answer.the-variants.{Pass}
 use Rattle.judge.specs.Judging.{cause10, judgeCauses, judgement, valuesOf}
 use Rattle.judge.specs.Judging.Verdict.{Judged, passed, wrong, unfinished}
-use Rattle.judge.specs.Judging.Laws.{cause10-is, judge-causes-are, few-answers, machine-proper, commands-given, Result, refused, not-certified, judged, judgement-result}
+use Rattle.judge.specs.Judging.Laws.{cause10-is, judge-causes-are, few-answers, judged-proper, judged-commands, Result, refused, not-certified, judged, judgement-result}
 
 -- ---- refusals
 -- of causes 1 to 7, 9 and 10
@@ -41,10 +41,10 @@ judge-small room s =
 module _ (room : ℕ) (s : List ℕ) (bytes : Bytes s) where
   module _ (e : firstCause (judgeCauses room s) ≡ Clear) where
     abbrev proper : Proper (machineIn s)
-    proper = machine-proper room s e
+    proper = judged-proper room s e
 
     abbrev commands : Commands mostSequence (machineIn s .k) (content 3 s)
-    commands = commands-given room s e
+    commands = judged-commands room s e
 
     judged-fits : {a : Answer} → Judged (machineIn s) (content 3 s) (content 4 s) a → Fits (valuesOf a)
     judged-fits (passed y n t) = record {
