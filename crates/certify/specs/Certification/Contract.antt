@@ -125,30 +125,23 @@ module _ (room : ℕ) (s : List ℕ) where
   }
 
 -- ---- what stands in the buffer
-kept-front : (ms buffer xs : List ℕ) → length ms ≡ markBytes xs → keptIn xs (kept ms buffer) ≡ ms
-unfolding kept keptIn
-kept-front ms buffer xs e = rw (← e) (take-append-seam ms (drop (length ms) buffer))
+module _ (M : Mealy) (w xs buffer : List ℕ) where
+  kept-marked : MarksOf M w xs (keptIn xs (kept (marks M w xs) buffer))
+  unfolding kept keptIn
+  kept-marked = rw (← marks-length M w xs, take-append-seam (marks M w xs) (drop (length (marks M w xs)) buffer)) (marks-of M w xs)
 
-kept-later : (ms buffer xs : List ℕ) → length ms ≡ markBytes xs → drop (markBytes xs) (kept ms buffer) ≡ drop (markBytes xs) buffer
-unfolding kept
-kept-later ms buffer xs e = rw (← e) (drop-append-seam ms (drop (length ms) buffer))
+  kept-later : drop (markBytes xs) (kept (marks M w xs) buffer) ≡ drop (markBytes xs) buffer
+  unfolding kept
+  kept-later = rw (← marks-length M w xs) (drop-append-seam (marks M w xs) (drop (length (marks M w xs)) buffer))
 
 module _ (s before : List ℕ) where
   buffer-marked : firstCause (certifyCauses (length before) s) ≡ Clear
       → MarksOf (machineIn s) (content 2 s) (content 3 s) (keptIn (content 3 s) (marksAfter s before))
-  buffer-marked e =
-      let M = machineIn s in
-      let w = content 2 s in
-      let xs = content 3 s in
-      rw (after-clear s before e, kept-front (marks M w xs) before xs (marks-length M w xs)) (marks-of M w xs)
+  buffer-marked e = rw (after-clear s before e) (kept-marked (machineIn s) (content 2 s) (content 3 s) before)
 
   later-by : (c : Check) → firstCause (certifyCauses (length before) s) ≡ c
       → drop (markBytes (content 3 s)) (marksAfter s before) ≡ drop (markBytes (content 3 s)) before
-  later-by Clear e =
-      let M = machineIn s in
-      let w = content 2 s in
-      let xs = content 3 s in
-      ap (drop (markBytes xs)) (after-clear s before e) ∙ kept-later (marks M w xs) before xs (marks-length M w xs)
+  later-by Clear e = rw (after-clear s before e) (kept-later (machineIn s) (content 2 s) (content 3 s) before)
   later-by (Refused n p) e = ap (drop (markBytes (content 3 s))) (after-refused s before e)
 
   holds : Certifies s before (marksAfter s before) (certification (length before) s)
