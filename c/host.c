@@ -1,7 +1,9 @@
-/* A C host of the rig: calls both functions on the scope paper's twin and its other small machines, and compares each 64-bit number and every
- * byte of the lent buffer, with the bytes around it, with what the paper says. One line a case; ends with status 1 if any case differs.
+/* A C host of the rig: calls both functions on the twin (docs/SPECIFICATION.md, section 10.2) and other small machines,
+ * and compares each 64-bit number and every byte of the lent buffer, with the bytes around it, with what is specified.
+ * One line a case; ends with status 1 if any case differs.
  *
- * The expected numbers are worked out from the paper. In hexadecimal the four fields stand side by side: class, place (six digits), a, b. */
+ * The expected numbers are worked out by hand. In hexadecimal the four fields lie side by side: class, place (six
+ * digits), a, b. */
 #include <inttypes.h>
 #include <stdio.h>
 #include <string.h>

@@ -1,7 +1,7 @@
 #!/usr/bin/env python3
 """Writes the sample sheets into the folder of this file, and prints the table of README.md.
 
-The model below is written from the scope paper and shares nothing with the crates: sheets, runs,
+The model below reads docs/SPECIFICATION.md in Python and shares nothing with the crates: sheets, runs,
 transfers, the built sequence, recognition as the smallest set of the two rules, certification. The
 lines of judging and of the refusals are written out beside their sheets.
 """

@@ -5,7 +5,7 @@ use crate::machine::Machine;
 use crate::refusal::Refusal;
 use crate::sheet::sheet_of;
 
-/// The sequence that document 01 prescribes, or cause 8. The word must fit the
+/// The sequence of the specification's §6.3, or cause 8. The word must fit the
 /// machine; whether it separates is not asked here.
 pub fn build(machine: &Machine, word: &[u8]) -> Result<Vec<u8>, Refusal> {
     let mut tests = Vec::new();
@@ -57,7 +57,7 @@ pub fn bound(n: usize, k: usize, word: usize) -> usize {
 }
 
 /// What `bench build` writes: records 1 and 2 of the sheet and the built
-/// sequence as record 3; document 01 leaves its form open.
+/// sequence as record 3 (§8.2).
 pub fn build_sheet(sheet: &[u8]) -> Result<Vec<u8>, Refusal> {
     let mut machine = Machine::default();
     let checked = check(sheet, Service::Building, &mut machine)?;

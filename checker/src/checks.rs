@@ -1,4 +1,4 @@
-// Checks 1 to 7 in document 01's order, as far as a service needs them.
+// Checks 1 to 7 in the specification's order (§4.1), as far as a service needs them.
 
 use crate::machine::{Machine, LONGEST_SEQUENCE, LONGEST_WORD, MOST_COMMANDS, MOST_STATES};
 use crate::refusal::Refusal;

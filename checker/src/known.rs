@@ -1,4 +1,4 @@
-// The machines that document 01 gives, the twin and the house unit, and two of
+// The machines that the specification gives (§10), the twin and the house unit, and two of
 // the largest size.
 
 use crate::machine::Machine;

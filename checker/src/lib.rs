@@ -1,7 +1,6 @@
-// A second model of the control-unit bench, to be read against document 01 and,
-// where it leaves words or the form of an output open, from the description of
-// the program's interface; and the checker that holds the proved program
-// against it.
+// A second model of the control-unit bench, to be read against
+// docs/SPECIFICATION.md, and the checker that holds the proved program against
+// it. The sections that comments cite are those of that page.
 
 pub mod building;
 pub mod certifying;

@@ -42,7 +42,7 @@ pub fn judged(outcome: Result<Verdict, Refusal>) -> String {
     }
 }
 
-/// The line of `bench certify`; document 01 leaves its form open.
+/// The line of `bench certify` (§8.1).
 pub fn certified(outcome: Result<Certificate, Refusal>) -> String {
     match outcome {
         Err(refusal) => refused(refusal),

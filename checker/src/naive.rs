@@ -1,4 +1,4 @@
-// Recognition plainly as document 01's two rules read, repeated until nothing
+// Recognition plainly as the two rules of §5.1 read, repeated until nothing
 // changes. Slow, for short sequences only: the yardstick of `recognition`.
 
 use crate::machine::Machine;

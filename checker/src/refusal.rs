@@ -1,4 +1,4 @@
-// A refusal: the number of its cause and the place, and document 01's phrases.
+// A refusal: the number of its cause and the place, and its phrase (§4.2).
 
 #[derive(Clone, Copy, Debug, PartialEq, Eq)]
 pub struct Refusal {
@@ -11,7 +11,7 @@ impl Refusal {
         Refusal { number, place }
     }
 
-    /// The cause phrase of document 01's table; none above 11.
+    /// The cause phrase of the table; none above 11.
     pub fn phrase(&self) -> Option<&'static str> {
         const PHRASES: [&str; 11] = [
             "sheet cut or too long",

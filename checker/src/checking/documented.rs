@@ -8,7 +8,7 @@ use crate::machine::Machine;
 use crate::sheet::sheet_of;
 use std::path::Path;
 
-/// The sheets of document 01's cases.
+/// The sheets of the specification's cases (§10.3).
 fn sheets() -> Vec<Vec<u8>> {
     let (built, right) = (TWIN_BUILT, TWIN_ANSWERS);
     let mut wrong = right;
@@ -63,7 +63,7 @@ fn other_machines() -> Vec<Vec<u8>> {
 impl Comparer {
     pub fn documented(&mut self, seed: u64, directory: &Path) -> Result<(), Difference> {
         for (index, sheet) in sheets().into_iter().enumerate() {
-            let kind = String::from("document 01");
+            let kind = String::from("documented");
             let case = Case {
                 seed,
                 index,

@@ -1,4 +1,4 @@
-// A unit and document 01's renaming, decided from the two tables alone.
+// A unit and the renaming (§9.2), decided from the two tables alone.
 
 use crate::machine::Machine;
 

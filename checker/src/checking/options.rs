@@ -16,7 +16,7 @@ Holds the proved bench against a model written without sight of its code.
   --lengths L    every L-th sheet length from 0 to 40913 (default 1: all)
   --cases N      about so many random cases as text, besides the 65536 of the
                  house unit's table; 0: neither (default 400000)
-  --random-only  without what is the same in every run: document 01's cases,
+  --random-only  without what is the same in every run: the documented cases,
                  words of every kind, chains
   --directory D  where the programs, bench and cases, are (default target/bin)
   --spoil NAME   spoils what the bench answered, so that the run must fail;

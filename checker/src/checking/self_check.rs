@@ -1,4 +1,4 @@
-// The model against itself and against document 01's claims: fast recognition
+// The model against itself and against the specification's claims: fast recognition
 // is the naive one, and what is built is certified and within its bound.
 
 use super::compare::Comparer;

@@ -208,7 +208,7 @@ impl Comparer {
 }
 
 /// The third demand, for one verdict: pass exactly if there is a renaming, and
-/// then the end state is given the state in which the unit stands.
+/// then the end state is assigned the unit's present state.
 fn claim(subject: &Subject, unit: &Unit, verdict: u64) -> Result<(), String> {
     let end = subject.machine.after(0, &subject.sequence);
     let stands = unit.table.after(unit.start, &subject.sequence);

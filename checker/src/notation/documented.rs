@@ -1,4 +1,4 @@
-// Readable cases with answers worked out by hand from document 01's cases and
+// Readable cases with answers worked out by hand from the specification's cases and
 // from the description of the notation.
 
 use super::*;
