@@ -50,7 +50,7 @@ pub fn transfer(machine: &Machine, from: usize, to: usize) -> Option<Vec<u8>> {
     Some(transfer)
 }
 
-/// Document 01's bound on the length of what is built.
+/// The bound (§6.4) on the length of what is built.
 pub fn bound(n: usize, k: usize, word: usize) -> usize {
     let c = word + n - 1;
     (n + 1) * c + n * k * (n * c + 1)

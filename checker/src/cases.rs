@@ -1,4 +1,4 @@
-// Document 01's own cases, held against the model, and fast against naive.
+// The specification's own cases (§10.3), held against the model, and fast against naive.
 
 use crate::building::{bound, build, build_into, build_sheet};
 use crate::certifying::{Certificate, Certifier};

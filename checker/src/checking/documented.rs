@@ -1,4 +1,4 @@
-// Document 01's machines and sequences as sheets, for functions and program.
+// The specification's machines and sequences as sheets, for functions and program.
 
 use super::compare::{needed_room, Comparer};
 use super::difference::{Case, Difference};

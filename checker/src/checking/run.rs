@@ -50,7 +50,7 @@ fn missing(counts: &Counts, options: &Options) -> Vec<String> {
 }
 
 impl Comparer {
-    /// Document 01's cases, words of every kind, and the chains.
+    /// The specification's cases, words of every kind, and the chains.
     fn fixed(&mut self, options: &Options) -> Result<(), Difference> {
         self.documented(options.seed, &options.directory)?;
         self.command_lines(options)?;

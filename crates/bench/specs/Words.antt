@@ -1,4 +1,4 @@
--- From the words that the bench is started with to the service that they ask for. The laws stand in Words.Laws.
+-- From the words that the bench is started with to the service that they ask for (§8.2). The laws stand in Words.Laws.
 use Prim.Native.Nat.{ℕ, zero, suc, _+_, _*_, _-_}
 use Prim.Native.String.{String}
 use mathlib.Core.Bool.{Bool, true, cond, _&&_}

@@ -1,4 +1,4 @@
--- Building (document 01, "Causes" and "Building"): causes 1 to 6, 8 and 9, the answer, and what is written; and when building succeeds. The
+-- Building: causes 1 to 6, 8 and 9 (§4.2), the answer and what is written (§6.4), and when building succeeds (§6.5). The
 -- laws of cause 8 stand in Building.Connection, those of the service in Building.Service; in Building.Twin the starred cases are computed.
 use Prim.Native.Nat.{ℕ, _≤_, _<_}
 use mathlib.Core.Path.{_≡_}
@@ -27,7 +27,7 @@ pub mod Service
 pub mod Twin
 
 -- ---- causes
--- "Building needs kinds 1 and 2"
+-- the kinds that building needs (§2.3): the machine, and the word
 abbrev pub buildNeeds : Needs
 buildNeeds = record { word = true; sequence = false; answers = false }
 
@@ -36,43 +36,43 @@ abbrev pub noTransfer : Option (List ℕ) → Bool
 noTransfer none = true
 noTransfer (some t) = false
 
--- "not connected": the "least s such that no path leads from where the word takes s to s+1 (0 after n-1)". That no path of any length leads
--- there is a law: refused-unconnected and unconnected-refused, in Building.Connection
+-- not connected (§4.2): the lowest s that has no transfer B(s). That no commands at all lead there is a law:
+-- refused-unconnected and unconnected-refused, in Building.Connection
 unfoldable pub cause8 : Mealy → List ℕ → Check
 cause8 M w = first (M .n) (λ s. refusal 8 with s if noTransfer (B M w s))
 
--- causes 1 to 6, then 8, then 9 with the "built length"
+-- causes 1 to 6, then 8, then 9 with the length of the sequence
 unfoldable pub buildCauses : ℕ → List ℕ → List Check
 buildCauses room s =
     loadCauses buildNeeds s
     ++ (cause8 (machineIn s) (content 2 s) ∷ cause9 room (length (sequence (machineIn s) (content 2 s))) ∷ [])
 
 -- ---- the service
--- what building answers to a sheet and a room: "The result is the length"
+-- what building answers to a sheet and a room: the length of the sequence (§6.4)
 unfoldable pub building : ℕ → List ℕ → Answer
 building room s = refusedOr RefusedAnswer (firstCause (buildCauses room s)) (Built (length (sequence (machineIn s) (content 2 s))))
 
--- the lent buffer after building: "the first bytes of the buffer hold the sequence; later bytes are unchanged"
+-- the lent buffer after building (§6.4)
 unfoldable pub bufferAfter : List ℕ → List ℕ → List ℕ
 bufferAfter s buffer = unlessRefused (firstCause (buildCauses (length buffer) s)) (written (sequence (machineIn s) (content 2 s)) buffer) buffer
 
--- number and values of each answer: the length, for which document 01 has no class, or a refusal's
+-- number and values of each answer: the length, for which §8.3 has no class, or a refusal's
 abbrev pub valuesOf : Answer → Values ⊎ ℕ
 valuesOf (Built size) = inr size
 valuesOf (RefusedAnswer number place) = inl (refusalValues number place)
 
--- what building promises of a sheet: the specified answer with its number and values, and every byte of the lent buffer
+-- what building promises of a sheet (§4.4): the specified answer with its number and values, and every byte of the lent buffer
 pub record Builds (s before after : List ℕ) (a : Answer) : Type 0 where
   pub answer : Returns valuesOf (building (length before) s) a
   pub buffer : after ≡ bufferAfter s before
 
 -- ---- when building succeeds
--- strongly connected: a command string, of any length, leads from every state to every state
+-- strongly connected (§6.5): a command string, of any length, leads from each state to each state
 abbrev pub StronglyConnected : Mealy → Type 0
 StronglyConnected M = (a b : ℕ) → a < M .n → b < M .n → (u : List ℕ) × Leads M a b u
 
--- what building needs: a sheet that is well formed (no cause of 1 to 5), a word that separates, a table that is strongly connected, and room.
--- It succeeds exactly then: built-buildable and buildable-built, in Building.Service
+-- when building succeeds (§6.5): no cause of 1 to 5 is present, the word separates, the table is strongly connected, and
+-- there is room. It succeeds exactly then: built-buildable and buildable-built, in Building.Service
 pub record Buildable (room : ℕ) (s : List ℕ) : Type 0 where
   pub machine : firstCause (machineCauses buildNeeds s) ≡ Clear
   pub word : cause5 (machineIn s .k) (the 2 s) (content 2 s) ≡ Clear

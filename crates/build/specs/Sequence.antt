@@ -1,5 +1,5 @@
--- The prescribed sequence (document 01, "Building"), of a machine M and a word w: the field's checking sequence. Sequence.Cycle has the laws
--- of the states counted round, Sequence.Laws where each part leads; Sequence.Certified shows that the sequence is certified, Sequence.Length
+-- The prescribed sequence (§6.2, §6.3), of a machine M and a word w: the field's checking sequence. Sequence.Cycle has
+-- the laws of the states counted round, Sequence.Laws where each part leads; Sequence.Certified shows that the sequence is certified, Sequence.Length
 -- how long it is at most. In the laws T(s) is called a block.
 use Prim.Native.Nat.{ℕ, zero, suc, _+_, _-_, _*_}
 use mathlib.Core.Bool.{Bool, true, false}
@@ -20,29 +20,30 @@ abbrev pub nextOr : Bool → ℕ → ℕ
 nextOr true s = 0
 nextOr false s = s + 1
 
--- "s+1 (0 after n-1)", of a number of states n
+-- the state after s (§6.2), of a number of states n
 unfoldable pub following : ℕ → ℕ → ℕ
 following n s = nextOr (eqb (s + 1) n) s
 
--- "the transfer B(s) .. from where the word takes s to s+1 (0 after n-1)"
+-- B(s) (§6.2): the transfer to the state after s, from the state in which the word leaves s
 abbrev pub B : Mealy → List ℕ → ℕ → Option (List ℕ)
 B M w s = transfer M (run M s w) (following (M .n) s)
 
--- "T(s) is the word followed by B(s)": the field's T-sequence. Where there is no B(s) cause 8 is present and nothing is built
+-- T(s) (§6.2), the field's T-sequence. Where there is no B(s) cause 8 is present and nothing is built
 unfoldable pub T : Mealy → List ℕ → ℕ → List ℕ
 T M w s = w ++ Option·getD (B M w s) []
 
--- the i-th state after the start, counted round; "0 is the start", so it is state i for each i below n: nthState-is, in Sequence.Cycle
+-- the i-th state after the start, counted round; for start 0 it is state i, for each i below n: nthState-is, in
+-- Sequence.Cycle
 unfoldable pub nthState : Mealy → ℕ → ℕ
 nthState M zero = M .start
 nthState M (suc i) = following (M .n) (nthState M i)
 
--- the first i of T(0), T(1), ..
+-- the first i blocks of the opening
 unfoldable pub firstBlocks : Mealy → List ℕ → ℕ → List ℕ
 firstBlocks M w zero = []
 firstBlocks M w (suc i) = firstBlocks M w i ++ T M w (nthState M i)
 
--- "T(0), T(1), .., T(n-1), T(0)": the field's α-sequence
+-- the opening (§6.3, 1): a block for each state, then that of the start again. It is the field's α-sequence
 unfoldable pub opening : Mealy → List ℕ → List ℕ
 opening M w = firstBlocks M w (M .n) ++ T M w (M .start)
 
@@ -51,31 +52,32 @@ abbrev pub unless : Bool → List ℕ → List ℕ
 unless true xs = []
 unless false xs = xs
 
--- "T of the present state, again and again, until state s is reached (none if already there)", at most i times. n times are enough
--- (approach-reaches, in Sequence.Laws); the equations without the bound are approach-here and approach-more
+-- the way to state s (§6.3, 2): as long as the machine is not in s, the block of its present state, at most i times. n
+-- times are enough (approach-reaches, in Sequence.Laws); approach-here and approach-more are the equations without i
 unfoldable pub approach : Mealy → List ℕ → ℕ → ℕ → ℕ → List ℕ
 approach M w zero present s = []
 approach M w (suc i) present s = unless (eqb present s) (T M w present ++ approach M w i (run M present (T M w present)) s)
 
--- an entry's test: the approach, "the command, then T of the state it leads to". The command with T is the field's transition test
+-- an entry's test (§6.3, 2): the way there, the command, and the block of the entry's next state. Command and block are
+-- the field's transition test
 unfoldable pub test : Mealy → List ℕ → ℕ → ℕ → ℕ → List ℕ
 test M w present s c = approach M w (M .n) present s ++ (c ∷ T M w (M .next s c))
 
--- "commands rising inside a state": the tests of a state's first entries, from the present state on
+-- the tests of a state's first entries by rising command, from the present state on
 unfoldable pub stateTests : Mealy → List ℕ → ℕ → ℕ → ℕ → List ℕ
 stateTests M w present s zero = []
 stateTests M w present s (suc c) = let xs = stateTests M w present s c in xs ++ test M w (run M present xs) s c
 
--- "for each entry, states rising": the tests of the first states' entries
+-- the tests of the first states by rising state
 unfoldable pub tests : Mealy → List ℕ → ℕ → ℕ → List ℕ
 tests M w present zero = []
 tests M w present (suc s) = let xs = tests M w present s in xs ++ stateTests M w (run M present xs) s (M .k)
 
--- the sequence
+-- the whole sequence (§6.3)
 unfoldable pub sequence : Mealy → List ℕ → List ℕ
 sequence M w = let xs = opening M w in xs ++ tests M w (run M (M .start) xs) (M .n)
 
--- "c = L+n-1", which no T(s) is longer than
+-- c of the length formula (§6.4), which no T(s) exceeds
 abbrev pub blockBound : Mealy → List ℕ → ℕ
 blockBound M w = length w + M .n - 1
 
@@ -83,6 +85,6 @@ blockBound M w = length w + M .n - 1
 abbrev pub mostBlock : ℕ
 mostBlock = mostWord + mostStates - 1
 
--- "the length is at most (n+1)c + nk(nc+1)": sequence-length, in Sequence.Length
+-- the length formula (§6.4), which the sequence keeps to: sequence-length, in Sequence.Length
 unfoldable pub lengthBound : Mealy → List ℕ → ℕ
 lengthBound M w = (M .n + 1) * blockBound M w + M .n * M .k * (M .n * blockBound M w + 1)

@@ -1,6 +1,5 @@
--- Transfers (document 01, "Building"): the shortest command string from a state to a state, first in byte order among those, or none.
--- `IsTransfer` says it and `transfer` computes it; Transfer.Laws shows that both agree for the states of a machine within its limits, by the
--- laws of Transfer.Paths.
+-- Transfers (§6.1). `IsTransfer` says what one is and `transfer` computes it; Transfer.Laws shows that both agree for the
+-- states of a machine within its limits, by the laws of Transfer.Paths.
 use Prim.Native.Nat.{ℕ, zero, suc, _≤_, _<_}
 use mathlib.Core.Path.{_≡_}
 use mathlib.Core.Bool.{Bool, true, false, _&&_}
@@ -13,7 +12,7 @@ use Rattle.build.specs.declared.transfers.MaybeTransfer.{MaybeTransfer}
 pub mod Laws
 pub mod Paths
 
--- ---- as document 01 says it
+-- ---- as the specification says it
 -- a command string that leads from a to b: the field's transfer sequence, of any length
 pub record Leads (M : Mealy) (a b : ℕ) (u : List ℕ) : Type 0 where
   pub commands : (i : ℕ) → i < length u → getD u i 0 < M .k
@@ -26,7 +25,8 @@ pub record Before (u v : List ℕ) : Type 0 where
   pub same : take place u ≡ take place v
   pub lower : getD u place 0 < getD v place 0
 
--- "the shortest command string, first in byte order among those"
+-- the transfer from a to b (§6.1): of the strings that lead there none is shorter, and none of its length comes before it
+-- in byte order
 pub record IsTransfer (M : Mealy) (a b : ℕ) (t : List ℕ) : Type 0 where
   pub leads : Leads M a b t
   pub shortest : (u : List ℕ) → Leads M a b u → length t ≤ length u

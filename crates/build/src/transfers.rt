@@ -1,5 +1,4 @@
-// The transfer from a state to a state: the shortest command string, first in byte order among
-// those, or none.
+// The transfer from a state to a state (§6.1), or that there is none.
 ghost use mathlib.Core.Path.{_≡_};
 ghost use lib.ListN.{take};
 ghost use Rattle.machine.specs.Machine.{meaning};

@@ -47,7 +47,7 @@ fn block(w: &[u8], rows: &[u8], s: u8, at: usize, buffer: &mut [u8]) -> usize
     put(&rows[first..end], middle, buffer)
 }
 
-// T of the present state, again and again, until a state is reached.
+// The block of the present state, as long as the machine is not in state s.
 fn approach(m: Machine, w: &[u8], rows: &[u8], from: Position, s: u8, buffer: &mut [u8]) -> usize
     requires { ⌜ Asked (meaning m) (now w) (now rows) (from .at) (from .state) mostApproach ⌝ }
     requires { ⌜ s < meaning m .n ⌝ }

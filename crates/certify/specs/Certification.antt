@@ -1,5 +1,4 @@
--- Certifying (document 01, "Causes" and "Recognition"): causes 1 to 7 and 9, the open number, the answer, what is written, and the contract.
--- Shut are `verified`, `openCause`, `openIn`, `outcome`, `certification` and `marksAfter`: what an answer and a mark mean is said by the contract
+-- Certifying: causes 1 to 7 and 9 (§4.2), the open number, the answer, what is written (§5.4), and the contract. Shut are `verified`, `openCause`, `openIn`, `outcome`, `certification` and `marksAfter`: what an answer and a mark mean is said by the contract
 -- itself, in the words of Recognition, and Certification.Contract shows that it holds of these definitions. Certification.Laws has the laws of the
 -- causes and what building and the starred cases need, Certification.Program the open number by a table of known entries, as the program finds it,
 -- and in Certification.Twin the starred sequences are computed.
@@ -33,19 +32,19 @@ pub mod Program
 pub mod Twin
 
 -- ---- causes
--- the kinds that a service which certifies needs: 1 to 3, and 4 where it needs the answers
+-- the kinds that a service which certifies needs (§2.3): 1 to 3, and 4 where it needs the answers
 abbrev pub sequenceNeeds : Bool → Needs
 sequenceNeeds answers = record { word = true; sequence = true; answers = answers }
 
--- "sequence": "as 5, for record 3"
+-- sequence (§4.2)
 abbrev pub cause7 : ℕ → Record → List ℕ → Check
 cause7 k r xs = commandsCause 7 mostSequence k r xs
 
--- "room": the "bytes needed"
+-- room (§4.2), with the bytes that are needed
 unfoldable pub cause9 : ℕ → ℕ → Check
 cause9 room bytes = refusal 9 with bytes if ltb room bytes
 
--- "N+1 marks": the bytes that the marks of a sequence need
+-- the bytes that the marks of a sequence need (§4.2, cause 9)
 abbrev pub markBytes : List ℕ → ℕ
 markBytes xs = length xs + 1
 
@@ -78,7 +77,7 @@ openCause M xs ms =
 pub openIn : Mealy → List ℕ → List ℕ → Check
 openIn M w xs = openCause M xs (marks M w xs)
 
--- "certified, with the number of recognised places; or open, with that number and the open number"
+-- certified or open (§5.4), by the open number and by how many places are recognised
 abbrev pub answerOf : Check → ℕ → Answer
 answerOf Clear recognised = CertifiedAnswer recognised
 answerOf (Refused number place) recognised = Open recognised place
@@ -92,7 +91,7 @@ outcome M w xs = answerOf (openIn M w xs) (count (marks M w xs))
 pub certification : ℕ → List ℕ → Answer
 certification room s = refusedOr RefusedAnswer (firstCause (certifyCauses room s)) (outcome (machineIn s) (content 2 s) (content 3 s))
 
--- how marks are kept in a buffer: "marks 0 to N hold 1 for recognised, 0 otherwise; later bytes are unchanged"
+-- how marks are kept in a buffer (§5.4): they are its first bytes, and the bytes behind keep their values
 unfoldable pub kept : List ℕ → List ℕ → List ℕ
 kept ms buffer = written ms buffer
 
@@ -106,7 +105,8 @@ unfoldable pub keptIn : List ℕ → List ℕ → List ℕ
 keptIn xs buffer = take (markBytes xs) buffer
 
 -- ---- the contract
--- number and values of each answer: certified and open have the number of recognised places as their place, and open has its open number as b
+-- number and values of each answer (§8.3): certified and open have the number of recognised places as their place, and
+-- open has its open number as b
 abbrev pub valuesOf : Answer → Values
 valuesOf (CertifiedAnswer recognised) = record { class = 110; place = recognised; a = 0; b = 0 }
 valuesOf (Open recognised number) = record { class = 111; place = recognised; a = 0; b = number }
@@ -130,7 +130,7 @@ pub record Says (room : ℕ) (s : List ℕ) (a : Answer) : Type 0 where
   pub opened : (n v : ℕ) → (a ≡ Open n v) ↔ OpenWith room s n v
   pub refused : (n p : ℕ) → (a ≡ RefusedAnswer n p) ↔ (firstCause (certifyCauses room s) ≡ Refused n p)
 
--- what certifying a sheet promises: the specified answer with its number and values, and what it says; every byte of the lent buffer, and what
+-- what certifying a sheet promises (§4.4): the specified answer with its number and values, and what it says; every byte of the lent buffer, and what
 -- these are: the marks of the recognised places with later bytes unchanged, or, on a refusal, what was there before
 pub record Certifies (s before after : List ℕ) (a : Answer) : Type 0 where
   pub answer : Returns valuesOf (certification (length before) s) a

@@ -1,5 +1,5 @@
--- What a service that certifies begins with, here and in judging: the first refusal of causes 1 to 7 and 9, or the machine, with a sequence of
--- its commands and room for the marks.
+-- What a service that certifies begins with, here and in judging: the first refusal of causes 1 to 7 and 9 (§4.2), or the
+-- machine, with a sequence of its commands and room for the marks.
 use Prim.Native.Nat.{ℕ, _≤_}
 use mathlib.Core.Path.{_≡_}
 use mathlib.Core.Bool.{Bool}
@@ -22,5 +22,5 @@ pub record SequenceLoaded (answers : Bool) (room : ℕ) (s : List ℕ) (l : Load
   pub proper : l .check ≡ Clear → Proper (meaning (l .machine))
   pub commands : l .check ≡ Clear → Commands mostSequence (meaning (l .machine) .k) (content 3 s)
   pub fits : l .check ≡ Clear → markBytes (content 3 s) ≤ room
-  -- on a refusal document 01 leaves the machine free: it is this one in any case
+  -- on a refusal the specification leaves the machine free: it is this one in any case
   pub holds : meaning (l .machine) ≡ held s

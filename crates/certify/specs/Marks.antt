@@ -22,7 +22,7 @@ unfoldable pub tabulate : ℕ → (ℕ → ℕ) → List ℕ
 tabulate zero f = []
 tabulate (suc n) f = f 0 ∷ tabulate n (λ i. f (suc i))
 
--- "1 for recognised, 0 otherwise"
+-- the mark of a place, by whether it is recognised (§5.4)
 abbrev pub mark : Bool → ℕ
 mark true = 1
 mark false = 0
@@ -76,6 +76,6 @@ settled (suc f) xs state ms =
 pub closure : List ℕ → (ℕ → ℕ) → (ℕ → Bool) → List ℕ
 closure xs state base = settled (length xs + 1) xs state (marksBy xs base)
 
--- "marks 0 to N hold 1 for recognised, 0 otherwise"
+-- the marks of a sequence (§5.4), computed
 pub marks : Mealy → List ℕ → List ℕ → List ℕ
 marks M w xs = closure xs (stateAt M xs) (stands w xs)

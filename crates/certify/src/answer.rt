@@ -1,4 +1,4 @@
-// What certifying answers, and document 01's numbers for it.
+// What certifying answers, and its number and values.
 ghost use mathlib.Core.Path.{_≡_};
 ghost use Rattle.certify.specs.Certification.{valuesOf, answerOf};
 use sheet::Check;

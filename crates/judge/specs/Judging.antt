@@ -1,5 +1,5 @@
--- Judging (document 01, "Causes" and "Judging"): causes 1 to 7, 9, 10 and 11, the results, what is written, and the identity claim. Certification
--- is known by its contract: `certification` and `marksAfter`, its answer and its buffer, are shut, and what they say is the contract's. The laws of
+-- Judging: causes 1 to 7, 9, 10 and 11 (§4.2), the results and what is written (§7), and the identity claim (§9.3).
+-- Certification is known by its contract: `certification` and `marksAfter`, its answer and its buffer, are shut, and what they say is the contract's. The laws of
 -- the verdict stand in Judging.Verdict, those of a sheet in Judging.Laws, bounds on places in Judging.Places.
 use Prim.Native.Nat.{ℕ, suc}
 use mathlib.Core.Path.{_≡_}
@@ -27,16 +27,17 @@ pub mod Laws
 pub mod Places
 
 -- ---- causes
--- "answers": at the "start of record 4: more than N answers"
+-- answers (§4.2), at the start of the record: there are more than commands
 unfoldable pub cause10 : Record → List ℕ → List ℕ → Check
 cause10 r xs ys = refusal 10 with r .start if ltb (length xs) (length ys)
 
--- causes 1 to 7 and 9, all four kinds being needed, and 10; each of them "writes nothing"
+-- causes 1 to 7 and 9, all four kinds being needed, and 10: those that write nothing (§4.3)
 unfoldable pub judgeCauses : ℕ → List ℕ → List Check
 judgeCauses room s = sequenceCauses true room s ++ (cause10 (the 4 s) (content 3 s) (content 4 s) ∷ [])
 
--- "not certified", by what certifying answers: an open sequence is refused with its open number. Where certifying itself refuses, its refusal stays
--- one; that does not happen here, since judging has refused such a sheet before (certifying-clear)
+-- not certified (§4.2), by what certifying answers: an open sequence is refused with its open number. Where certifying
+-- itself refuses, its refusal stays one; that does not happen here, since judging has refused such a sheet before
+-- (certifying-clear)
 unfoldable pub cause11 : Certification → Check
 cause11 (Certified recognised) = Clear
 cause11 (Open recognised number) = Refused 11 number
@@ -49,8 +50,8 @@ agreed [] ys = 0
 agreed (x ∷ xs) [] = 0
 agreed (x ∷ xs) (y ∷ ys) = elim (eqb x y) [ true ↦ suc (agreed xs ys) | false ↦ 0 ]
 
--- the result, by that number. "wrong with the first place whose answer differs, the specified answer and the one given"; "unfinished with the
--- number of answers, all right, fewer than N"; "pass with the end state", "which is the state of place N", here with N before it
+-- the result (§7), by that number: wrong where an answer at that place was given, unfinished where none was and the
+-- sequence goes on, otherwise pass with N and the state of place N
 unfoldable pub resultAt : Mealy → List ℕ → List ℕ → ℕ → Answer
 resultAt M xs ys right =
     cond (ltb right (length ys)) (Wrong right (getD (answers M (M .start) xs) right 0) (getD ys right 0))
@@ -61,17 +62,17 @@ unfoldable pub verdict : Mealy → List ℕ → List ℕ → Answer
 verdict M xs ys = resultAt M xs ys (agreed (answers M (M .start) xs) ys)
 
 -- ---- the service
--- what judging answers to a sheet and a room for marks: cause 11, "not certified", comes last
+-- what judging answers to a sheet and a room for marks: cause 11 comes last (§4.1)
 unfoldable pub judgement : ℕ → List ℕ → Answer
 judgement room s =
     refusedOr RefusedAnswer (firstCause (judgeCauses room s))
     (refusedOr RefusedAnswer (cause11 (certification room s)) (verdict (machineIn s) (content 3 s) (content 4 s)))
 
--- the lent buffer after judging: "The marks are as after certifying", for the results and for refusal 11
+-- the lent buffer after judging (§7): that of certifying, for the results and for refusal 11
 unfoldable pub judgedMarks : List ℕ → List ℕ → List ℕ
 judgedMarks s buffer = unlessRefused (firstCause (judgeCauses (length buffer) s)) (marksAfter s buffer) buffer
 
--- number and values of each answer: pass has N as its place and the end state as b, wrong its place, the specified answer as a and the given one as b,
+-- number and values of each answer (§8.3): pass has N as its place and the end state as b, wrong its place, the specified answer as a and the given one as b,
 -- unfinished the number of answers as its place
 abbrev pub valuesOf : Answer → Values
 valuesOf (Pass size end) = record { class = 100; place = size; a = 0; b = end }
@@ -79,13 +80,13 @@ valuesOf (Wrong place specified given) = record { class = 101; place = place; a 
 valuesOf (Unfinished number) = record { class = 102; place = number; a = 0; b = 0 }
 valuesOf (RefusedAnswer number place) = refusalValues number place
 
--- what judging promises of a sheet: the specified answer with its number and values, and every byte of the lent buffer
+-- what judging promises of a sheet (§4.4): the specified answer with its number and values, and every byte of the lent buffer
 pub record Judges (s before after : List ℕ) (a : Answer) : Type 0 where
   pub answer : Returns valuesOf (judgement (length before) s) a
   pub marks : after ≡ judgedMarks s before
 
--- The identity claim, the third demand, of a sheet and judging's answer: "whatever m, u and the unit's table, if judging returns pass and the
--- answers judged are the unit's own, there is such a renaming". The answers are its own "if record 4 holds exactly these N, in order".
+-- the identity claim (§9.3), of a sheet and judging's answer: for every unit, if the answer is pass and record 4 holds the
+-- answers that the unit gives to the sequence, there is a renaming with that end state
 abbrev pub Identity : List ℕ → Answer → Type 0
 Identity s a =
     (U : Unit (machineIn s .n) (machineIn s .k)) (size end : ℕ) → a ≡ Pass size end

@@ -1,12 +1,12 @@
-// What judging answers, and document 01's numbers for it.
+// What judging answers, and its number and values.
 ghost use mathlib.Core.Path.{_≡_};
 ghost use Rattle.judge.specs.Judging.{valuesOf};
 use sheet::Values;
 use sheet::refusal_values;
 
-// Pass with the number of commands and the end state; wrong with the first place whose answer
-// differs, the specified answer and the one given; unfinished with the number of answers; refused
-// with number and place.
+// Pass with the number of commands and the end state; wrong with the place of the first wrong
+// answer, what was specified there and what was given; unfinished with the number of answers;
+// refused with number and place.
 pub enum Answer {
     Pass {
         size: usize,

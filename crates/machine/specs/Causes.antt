@@ -1,5 +1,4 @@
--- Causes 3 to 6, and causes 1 to 6 in order (document 01, "Causes, in the order they are checked"). The laws stand in Causes.Laws (3, 4, 5
--- and 7), Causes.Separation (6), Causes.Lists (the lists) and Causes.Places (how large a place is).
+-- Causes 3 to 6, and causes 1 to 6 in order (§4.1, §4.2). The laws stand in Causes.Laws (3, 4, 5 and 7), Causes.Separation (6), Causes.Lists (the lists) and Causes.Places (how large a place is).
 use Prim.Native.Nat.{ℕ, _+_, _*_}
 use mathlib.Core.Bool.{Bool, true, false, not, _&&_, _||_}
 use mathlib.Core.List.{List, [], _∷_, _++_}
@@ -22,14 +21,14 @@ pub mod Separation
 abbrev pub outside : ℕ → ℕ → ℕ → Bool
 outside least most x = ltb x least || ltb most x
 
--- "machine shape": "n or k outside limits, or payload not 2+2nk bytes", at the "start of record 1"
+-- machine shape (§4.2), at the start of the record: a limit of n or k is not kept, or the payload's length is wrong
 unfoldable pub cause3 : Record → List ℕ → Check
 cause3 r p =
     let n = getD p 0 0 in
     let k = getD p 1 0 in
     refusal 3 with r .start if (outside 1 mostStates n || outside 1 mostCommands k || not (eqb (length p) (2 + 2 * (n * k))))
 
--- "next state": "offset of the first next-state byte that is n or more"
+-- next state (§4.2), at its offset: the first byte for a next state that is not below n
 unfoldable pub cause4 : Record → List ℕ → Check
 cause4 r p =
     let n = getD p 0 0 in
@@ -41,13 +40,14 @@ cause4 r p =
 unfoldable pub byteCause : ℕ → ℕ → List ℕ → ℕ → ℕ → ℕ → ℕ → Check
 byteCause number base p from stride bound i = refusal number with base + (from + stride * i) if leb bound (getD p (from + stride * i) 0)
 
--- causes 5 and 7: "start of record 2 if the length is outside limits; else offset of the first command k or above"
+-- causes 5 and 7 (§4.2): at the start of the record where the length is not within its limits, else at the offset of the
+-- first command that is not below k
 unfoldable pub commandsCause : ℕ → ℕ → ℕ → Record → List ℕ → Check
 commandsCause number most k r w =
     (refusal number with r .start if outside 1 most (length w))
     else first (length w) (λ i. refusal number with offset r i if leb k (getD w i 0))
 
--- "word"
+-- word (§4.2)
 abbrev pub cause5 : ℕ → Record → List ℕ → Check
 cause5 k r w = commandsCause 5 mostWord k r w
 
@@ -62,15 +62,15 @@ same (x ∷ xs) (y ∷ ys) = eqb x y && same xs ys
 abbrev pub agrees : ℕ → List ℕ → List ℕ → List ℕ → ℕ → ℕ → Bool
 agrees k next answer w i j = same (answers (tabled 0 k 0 next answer) i w) (answers (tabled 0 k 0 next answer) j w)
 
--- the cause at a pair of states: "16i+j", "j above i, whose answers to the word are equal"
+-- the cause at a pair of states: i below j, and both answer the word alike
 abbrev pub pairCause : Mealy → List ℕ → ℕ → ℕ → Check
 pairCause M w i j = refusal 6 with 16 * i + j if (ltb i j && same (answers M i w) (answers M j w))
 
--- "word does not separate": "least i, then least j"
+-- word does not separate (§4.2), with 16·i + j: the lowest i for which there is such a pair, and for it the lowest j
 unfoldable pub cause6 : Mealy → List ℕ → Check
 cause6 M w = first (M .n) (λ i. first (M .n) (pairCause M w i))
 
--- the machine of a sheet
+-- the machine of a sheet (§3.1)
 unfoldable pub machineIn : List ℕ → Mealy
 machineIn s = machineOf (content 1 s)
 
@@ -88,6 +88,6 @@ unfoldable pub wordCauses : Bool → List ℕ → List Check
 wordCauses true s = cause5 (machineIn s .k) (the 2 s) (content 2 s) ∷ cause6 (machineIn s) (content 2 s) ∷ []
 wordCauses false s = []
 
--- causes 1 to 6, "the rest by number, as far as the service needs them"
+-- causes 1 to 6 by their numbers, 5 and 6 where the word is needed (§4.1)
 unfoldable pub loadCauses : Needs → List ℕ → List Check
 loadCauses n s = machineCauses n s ++ wordCauses (n .word) s

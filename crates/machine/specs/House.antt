@@ -1,5 +1,5 @@
--- The house control unit (document 01, "The house unit and the twin"): its entries as the table there has them, next/answer; its
--- machine record, the machine and the word. The laws stand in House.Laws.
+-- The house control unit (§10.1): its entries as the table there has them, next state/answer; its machine record, the
+-- machine and the word. The laws stand in House.Laws.
 use Prim.Native.Nat.{ℕ}
 use mathlib.Core.List.{List, [], _∷_, _++_}
 use lib.ListN.{getD}
@@ -8,7 +8,7 @@ use Rattle.machine.specs.Machine.{Mealy, machineOf}
 pub mod Laws
 
 infix 75 _▹_
--- an entry; document 01 writes next/answer
+-- an entry; the specification writes next state/answer
 abbrev pub _▹_ : ℕ → ℕ → Entry
 n ▹ a = record { next = n; answer = a }
 
@@ -21,11 +21,11 @@ houseTable =
     ∷ (3 ▹ 2 ∷ 3 ▹ 21 ∷ 3 ▹ 21 ∷ 1 ▹ 6 ∷ [])
     ∷ []
 
--- "Looking up a state or command above 3 gives next state 255 and answer 0."
+-- looking up an entry; where the table has none, that is, above 3, it is 255/0
 unfoldable pub houseEntry : ℕ → ℕ → Entry
 houseEntry s c = getD (getD houseTable s []) c (255 ▹ 0)
 
--- entries as a machine record has them: "pairs (next state, answer)", one row a state, "all commands of state 0 first"
+-- entries as a machine record has them (§2.2): a pair each, row by row
 abbrev pub pairs : List Entry → List ℕ
 pairs [] = []
 pairs (e ∷ es) = e .next ∷ e .answer ∷ pairs es
@@ -34,7 +34,7 @@ abbrev pub rowPairs : List (List Entry) → List ℕ
 rowPairs [] = []
 rowPairs (row ∷ rows) = pairs row ++ rowPairs rows
 
--- the payload of its machine record: "n=4, k=4", then the table
+-- the payload of its machine record: 4 states, 4 commands, then the table
 unfoldable pub housePayload : List ℕ
 housePayload = 4 ∷ 4 ∷ rowPairs houseTable
 
@@ -42,6 +42,6 @@ housePayload = 4 ∷ 4 ∷ rowPairs houseTable
 unfoldable pub house : Mealy
 house = machineOf housePayload
 
--- "word 0 1"
+-- its word
 abbrev pub houseWord : List ℕ
 houseWord = 0 ∷ 1 ∷ []

@@ -1,4 +1,4 @@
--- The limits of the machine record (document 01, "The sheet"). The code names them once, as constants of the type Machine, and
+-- The limits of the machine record (§2.2). The code names them once, as constants of the type Machine, and
 -- `Machine::limits` shows that both are the same.
 use Prim.Native.Nat.{ℕ, _+_, _*_, _≤_}
 use mathlib.Core.Path.{_≡_, refl}
@@ -6,19 +6,19 @@ use native.Mathlib.Nat.{mul-le-mul}
 use Rattle.sheet.specs.Format.{longest, header}
 use Rattle.machine.specs.declared.machine.Limits.{Limits}
 
--- "n is 1 to 10"
+-- the most states, n
 abbrev pub mostStates : ℕ
 mostStates = 10
 
--- "k is 1 to 8"
+-- the most commands, k
 abbrev pub mostCommands : ℕ
 mostCommands = 8
 
--- word: "1 to 16 commands"
+-- the most commands of a word, L
 abbrev pub mostWord : ℕ
 mostWord = 16
 
--- sequence: "1 to 20,355 commands"
+-- the most commands of a sequence, N
 abbrev pub mostSequence : ℕ
 mostSequence = 20355
 
@@ -26,7 +26,7 @@ mostSequence = 20355
 abbrev pub mostEntries : ℕ
 mostEntries = mostStates * mostCommands
 
--- the most bytes of the machine's payload, "n, k, then n·k pairs"
+-- the most bytes of the machine's payload: n, k, and two bytes for each entry
 abbrev pub mostMachine : ℕ
 mostMachine = 2 + 2 * mostEntries
 
@@ -34,7 +34,7 @@ mostMachine = 2 + 2 * mostEntries
 abbrev pub limits : Limits
 limits = record { states = mostStates; commands = mostCommands; word = mostWord; sequence = mostSequence }
 
--- the longest sheet is that of the largest machine, word, sequence and answers
+-- the longest sheet is that of the largest machine, word, sequence and answers (§2.1)
 pub longest-is : longest ≡ (header + mostMachine) + (header + mostWord) + (header + mostSequence) + (header + mostSequence)
 longest-is = refl
 

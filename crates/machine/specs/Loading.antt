@@ -1,4 +1,4 @@
--- What a service that needs the machine begins with: the first refusal of causes 1 to 6, or the machine.
+-- What a service that needs the machine begins with: the first refusal of causes 1 to 6, or the machine (§4.2, §4.4).
 use Prim.Native.Nat.{ℕ}
 use mathlib.Core.Path.{_≡_}
 use mathlib.Core.Bool.{true}
@@ -20,5 +20,5 @@ pub record LoadedFrom (n : Needs) (s : List ℕ) (l : Loaded) : Type 0 where
   pub machine : l .check ≡ Clear → meaning (l .machine) ≡ machineIn s
   pub proper : l .check ≡ Clear → Proper (machineIn s)
   pub distinguishes : n .word ≡ true → l .check ≡ Clear → Distinguishes (machineIn s) (content 2 s)
-  -- on a refusal document 01 leaves the machine free: it is this one in any case
+  -- on a refusal the specification leaves the machine free: it is this one in any case
   pub holds : meaning (l .machine) ≡ held s

@@ -1,4 +1,4 @@
--- The machine that a sheet specifies, and its runs (document 01, "The sheet" and "Recognition"; separation, "Causes" row 6).
+-- The machine that a sheet specifies (§3.1), its runs (§3.2), and separation (§3.3).
 -- The laws stand in Machine.Laws.
 use Prim.Native.Nat.{ℕ, _+_, _*_, _≤_, _<_}
 use mathlib.Core.Path.{_≡_}
@@ -17,11 +17,11 @@ pub record Mealy : Type 0 where
   pub next : ℕ → ℕ → ℕ
   pub answer : ℕ → ℕ → ℕ
 
--- where pair e stands in the machine's payload: "n, k, then n·k pairs (next state, answer)"
+-- where pair e begins in the machine's payload, behind n and k (§2.2, §3.1)
 abbrev pub pairAt : ℕ → ℕ
 pairAt e = 2 + 2 * e
 
--- the machine of a payload: "all commands of state 0 first", and "States count from 0, and 0 is the start."
+-- the machine of a payload (§3.1): entry (s, c) is pair s·k + c, its next state and its answer; the start is 0
 unfoldable pub machineOf : List ℕ → Mealy
 machineOf p = record {
   n = getD p 0 0;
@@ -45,25 +45,25 @@ tabled n k start next answer = record {
 abbrev pub meaning : Machine → Mealy
 meaning m = tabled (m .n) (m .k) (m .start) (m .next) (m .answer)
 
--- the state after some commands
+-- the state that some commands lead to (§3.2)
 unfoldable pub run : Mealy → ℕ → List ℕ → ℕ
 run M s [] = s
 run M s (c ∷ w) = run M (M .next s c) w
 
--- the answers to some commands
+-- the answers to some commands (§3.2)
 unfoldable pub answers : Mealy → ℕ → List ℕ → List ℕ
 answers M s [] = []
 answers M s (c ∷ w) = M .answer s c ∷ answers M (M .next s c) w
 
--- "Run the machine from state 0 along the sequence: places 0 to N, place p has a state."
+-- the state of place p of a sequence (§3.2): where its first p commands lead from the start
 unfoldable pub stateAt : Mealy → List ℕ → ℕ → ℕ
 stateAt M xs p = run M (M .start) (take p xs)
 
--- the word separates the states, that is, it is a preset distinguishing sequence: no two answer it alike
+-- the word separates (§3.3): no two states answer it alike. It is then the field's preset distinguishing sequence
 abbrev pub Separates : Mealy → List ℕ → Type 0
 Separates M w = (i j : ℕ) → i < M .n → j < M .n → answers M i w ≡ answers M j w → i ≡ j
 
--- a machine within the limits, whose start and next states are states
+-- a machine within the limits (§2.2), whose start and next states are states
 pub record Proper (M : Mealy) : Type 0 where
   pub some-states : 1 ≤ M .n
   pub few-states : M .n ≤ mostStates

@@ -62,7 +62,7 @@ impl Machine {
         Machine::load(&payload)
     }
 
-    // The limits as document 01 has them.
+    // The limits (§2.2).
     pub fn limits() -> Limits
         ensures { λ r. ⌜ r ≡ theLimits ⌝ }
     {

@@ -1,5 +1,4 @@
--- The lines that the bench prints, to the byte: those of judging and of a refusal (document 01, "Judging"), and those of certifying, which
--- document 01 leaves to us.
+-- The lines that the bench prints, to the byte (§8.1): those of judging, of certifying and of a refusal.
 use Prim.Native.Nat.{ℕ}
 use Prim.Native.String.{String}
 use mathlib.Core.List.{List, [], _∷_, _++_}
@@ -26,20 +25,19 @@ abbrev pub newline : List ℕ
 newline = bytes "\n"
 
 -- ---- the lines
--- "`REFUSED 6 at 1 word does not separate`: for a refusal it prints the cause phrase that belongs to the refusal number, after number and place";
--- where there is none, "the line ends after the place"
+-- `REFUSED 6 at 1 word does not separate`: number, place and phrase; without a phrase the line stops behind the place
 unfoldable pub refusalLine : ℕ → ℕ → List ℕ
 refusalLine number place = labelled "REFUSED " number ++ labelled " at " place ++ spaced (phrase number) ++ newline
 
--- "`PASS 12 end 0`: N, end state"
+-- `PASS 12 end 0`: N and the end state
 unfoldable pub passLine : ℕ → ℕ → List ℕ
 passLine size end = labelled "PASS " size ++ labelled " end " end ++ newline
 
--- "`WRONG at 6 want 5 got 6`: place, specified, given"
+-- `WRONG at 6 want 5 got 6`: the place, then what was specified and what was given
 unfoldable pub wrongLine : ℕ → ℕ → ℕ → List ℕ
 wrongLine place specified given = labelled "WRONG at " place ++ labelled " want " specified ++ labelled " got " given ++ newline
 
--- "`UNFINISHED 4`: number of answers"
+-- `UNFINISHED 4`: how many answers there are
 unfoldable pub unfinishedLine : ℕ → List ℕ
 unfinishedLine number = labelled "UNFINISHED " number ++ newline
 

@@ -1,4 +1,4 @@
--- What a run of the bench writes: the bytes for standard output and the bytes for standard error; and what the functions promise
+-- What a run of the bench writes (§8.2): the bytes for standard output and the bytes for standard error; and what the functions promise
 -- that make them in a lent buffer. The laws stand in Output.Laws.
 use Prim.Native.Nat.{ℕ}
 use mathlib.Core.Path.{_≡_}

@@ -1,4 +1,4 @@
--- The cause phrases (document 01, "Causes"), as bytes.
+-- The phrases of the refusals (§4.2, §8.1), as bytes.
 use Prim.Native.Nat.{ℕ}
 use mathlib.Core.List.{List, [], _∷_}
 use lib.ListN.{getD}
@@ -25,6 +25,6 @@ phrases =
 abbrev pub longestPhrase : ℕ
 longestPhrase = 22
 
--- "the cause phrase that belongs to the refusal number"; "Numbers above 11, which later requests add, have no phrase", and 0 is no refusal
+-- the phrase of a refusal's number; above 11 there is none (§8.1), and 0 is no refusal
 unfoldable pub phrase : ℕ → List ℕ
 phrase number = getD ([] ∷ phrases) number []

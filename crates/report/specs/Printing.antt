@@ -1,4 +1,4 @@
--- What the functions promise that make a line or a sheet in a lent buffer.
+-- What the functions promise that make a line or a sheet in a lent buffer (§4.3, §4.4).
 use Prim.Native.Nat.{ℕ}
 use mathlib.Core.Path.{_≡_}
 use mathlib.Core.List.{List}

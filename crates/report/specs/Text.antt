@@ -1,4 +1,4 @@
--- Text as bytes: quoted text, and numbers in decimal.
+-- Text as bytes (§8.1): quoted text, and numbers in decimal.
 use Prim.Native.Nat.{ℕ, zero, suc, _+_, _/_, _%_}
 use Prim.Native.Char.{code}
 use Prim.Native.String.{String, [] as none, _∷_ as _then_}

@@ -1,5 +1,5 @@
--- The lines that answer the words that the bench is started with: the list of services, and what is wrong with other words.
--- Document 01 leaves their form to us.
+-- The lines that answer the words that the bench is started with (§8.2): the list of services, and what is wrong with
+-- other words.
 use Prim.Native.Nat.{ℕ}
 use mathlib.Core.List.{List, _++_}
 use Rattle.report.specs.Text.{bytes}

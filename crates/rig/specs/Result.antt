@@ -1,5 +1,5 @@
--- The capture rig's result (document 01, "Judging"): one 64-bit number for class, place, a and b, and what the two exported functions promise. The
--- laws stand in Result.Laws.
+-- The C host's number (§8.3), for class, place, a and b, and what the two exported functions promise. The laws stand in
+-- Result.Laws.
 use Prim.Native.Nat.{ℕ, _+_, _*_, _/_, _%_, _^_}
 use mathlib.Core.Path.{_≡_}
 use mathlib.Core.List.{List}
@@ -12,7 +12,7 @@ use Rattle.judge.specs.Unit.{Unit, ownAnswers, Renaming}
 use Rattle.judge.specs.Judging.{judgement, judgedMarks, valuesOf as judgingValues}
 pub mod Laws
 
--- "It gets one 64-bit number: class·2^40 + place·2^16 + a·256 + b."
+-- the number of an answer's values (§8.3)
 unfoldable pub packed : Values → ℕ
 packed v = v .class * 2 ^ 40 + v .place * 2 ^ 16 + v .a * 256 + v .b
 
@@ -39,8 +39,8 @@ pub record RigJudges (s before after : List ℕ) (r : ℕ) : Type 0 where
   pub number : r ≡ packed (judgingValues (judgement (length before) s))
   pub marks : after ≡ judgedMarks s before
 
--- The identity claim as the host has it, of a sheet and the number that `rig_judge` returns: whatever the unit, if the number says "100 pass" and
--- "record 4 holds exactly these N, in order", there is a renaming, and it gives the unit's present state to "b end state".
+-- the identity claim (§9.3) as the host has it, of a sheet and the number that `rig_judge` returns: for every unit, if the
+-- class is 100 and record 4 holds the answers that the unit gives to the sequence, there is a renaming with end state b
 abbrev pub RigIdentity : List ℕ → ℕ → Type 0
 RigIdentity s r =
     (U : Unit (machineIn s .n) (machineIn s .k)) → classIn r ≡ 100

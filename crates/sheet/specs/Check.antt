@@ -1,4 +1,4 @@
--- Checks, the order in which their causes count, and what a refusal leaves (document 01, "Causes, in the order they are checked").
+-- Checks, the order in which their causes count (§4.1), and what a refusal leaves (§4.3).
 -- A check is Clear, or Refused with the refusal's number and its place. The laws stand in Check.Laws, bounds on places in Check.Places.
 use Prim.Native.Nat.{ℕ, zero, suc}
 use mathlib.Core.Bool.{Bool, true, false}
@@ -20,24 +20,23 @@ unfoldable pub _else_ : Check → Check → Check
 Clear else d = d
 (Refused n p) else d = Refused n p
 
--- the first present cause of a list: "returned when its cause is the first present, and at no other time"
+-- the first cause of a list that is present, with which a service refuses; Clear where none is (§4.1)
 unfoldable pub firstCause : List Check → Check
 firstCause [] = Clear
 firstCause (c ∷ cs) = c else firstCause cs
 
--- the first present of f 0, f 1, .., f (n - 1): every "first" and "least" of document 01
+-- the first present of f 0, f 1, .., f (n - 1): what "first" and "lowest" mean in the table of causes (§4.2)
 unfoldable pub first : ℕ → (ℕ → Check) → Check
 first zero f = Clear
 first (suc n) f = first n f else f n
 
 -- ---- what a refusal leaves, for every service that answers and writes
--- the service's answer, or, where something is refused, its own answer of refused with "the number, the place"
+-- the service's answer, or, where something is refused, its own answer of refused with number and place
 abbrev pub refusedOr : {A : Type 0} → (ℕ → ℕ → A) → Check → A → A
 refusedOr refused Clear answer = answer
 refusedOr refused (Refused number place) answer = refused number place
 
--- the lent buffer: "a refusal other than judging's 11 writes nothing". It holds what the service writes, or, where something is refused, what was
--- there before
+-- the lent buffer (§4.3): it holds what the service writes, or, where something is refused, what it held before
 abbrev pub unlessRefused : Check → List ℕ → List ℕ → List ℕ
 unlessRefused Clear after before = after
 unlessRefused (Refused number place) after before = before

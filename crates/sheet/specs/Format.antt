@@ -1,4 +1,4 @@
--- The byte format of a sheet (document 01, "The sheet"), and causes 1 and 2 at each record.
+-- The byte format of a sheet (§2.1), and causes 1 and 2 at each record (§4.1).
 -- The laws stand in Format.Laws; Format.Records has which records come first.
 use Prim.Native.Nat.{ℕ, zero, suc, _+_, _*_, _-_}
 use mathlib.Core.Bool.{Bool, true, false, cond, _||_}
@@ -16,15 +16,16 @@ use Rattle.sheet.specs.Check.{refusal_with_if_, _else_}
 pub mod Laws
 pub mod Records
 
--- "The longest sheet has 40,912 bytes."
+-- the most bytes of a sheet (§2.1)
 abbrev pub longest : ℕ
 longest = 40912
 
--- "4 bytes payload length, 2 bytes kind": the header's bytes
+-- the bytes of a record's header: 4 for the payload's length and 2 for the kind (§2.1)
 abbrev pub header : ℕ
 header = 6
 
--- the record whose header starts at this place, "both little-endian". Bytes past the sheet's end count as 0; cause 1 is present there
+-- the record whose header starts at this offset, each number with its lowest byte first (§2.1). Bytes past the sheet's
+-- end count as 0; cause 1 is present there
 unfoldable pub recordAt : List ℕ → ℕ → Record
 recordAt s at = record {
   start = at;
@@ -40,11 +41,11 @@ offset r i = r .start + header + i
 unfoldable pub end : Record → ℕ
 end r = offset r (r .size)
 
--- "Kind 1, machine", "Kind 2, word", "Kind 3, sequence", "Kind 4, answers"
+-- what each number of a kind means (§2.2)
 unfoldable pub kindOf : ℕ → Kind
 kindOf k = cond (eqb k 1) Machine (cond (eqb k 2) Word (cond (eqb k 3) Sequence (cond (eqb k 4) Answers Unknown)))
 
--- the place of a kind in the "rising order"; an unknown kind is above none
+-- the kinds in the order in which a sheet has them (§2.1); an unknown kind is above none
 abbrev pub rank : Kind → ℕ
 rank Unknown = 0
 rank Machine = 1
@@ -56,15 +57,15 @@ rank Answers = 4
 abbrev pub rankAt : List ℕ → ℕ → ℕ
 rankAt s at = rank (kindOf (recordAt s at .kind))
 
--- cause 1 at a record: its "header or payload runs past the end"
+-- cause 1 at a record (§4.2): the sheet does not hold all of its header and payload
 unfoldable pub cause1 : List ℕ → ℕ → Check
 cause1 s at = refusal 1 with at if (ltb (length s) (at + header) || ltb (length s) (end (recordAt s at)))
 
--- cause 2 at a record: its "kind is not 1 to 4 or not above the one before"
+-- cause 2 at a record (§4.2): its kind is unknown, or not above that of the record before, whose rank is last
 unfoldable pub cause2 : List ℕ → ℕ → ℕ → Check
 cause2 s at last = refusal 2 with at if leb (rankAt s at) last
 
--- "checks 1 and 2 go record by record from the front, 1 before 2 at each"
+-- the check of a record: cause 1, then cause 2 (§4.1)
 unfoldable pub causeAt : List ℕ → ℕ → ℕ → Check
 causeAt s at last = cause1 s at else cause2 s at last
 
@@ -100,7 +101,7 @@ parseFrom (suc f) s at last =
 unfoldable pub parse : List ℕ → ℕ → ℕ → Parsed
 parse s at last = parseFrom (length s - at) s at last
 
--- the whole sheet
+-- the whole sheet, from its first byte on
 unfoldable pub parsed : List ℕ → Parsed
 parsed s = parse s 0 0
 

@@ -1,4 +1,4 @@
--- Checks 1 and 2 of a whole sheet, and what reading it hands back (document 01, "The sheet" and "Causes").
+-- Checks 1 and 2 of a whole sheet (§4.1, §4.2), and what reading it gives (§2.4).
 -- The laws stand in Reader.Laws, bounds on places in Reader.Places.
 use Prim.Native.Nat.{ℕ, _+_, _≤_}
 use mathlib.Core.Path.{_≡_}
@@ -19,7 +19,7 @@ use Rattle.sheet.specs.Format.{longest, header, end, parsed, find}
 pub mod Laws
 pub mod Places
 
--- "The sheet's length is compared first": cause 1 at "40,912 if longer than that"
+-- cause 1 of a sheet that is too long, which comes before every other (§4.1)
 abbrev pub tooLong : List ℕ → Check
 tooLong s = refusal 1 with longest if ltb longest (length s)
 
@@ -28,11 +28,11 @@ abbrev pub isMissing : Found → Bool
 isMissing (At r) = false
 isMissing Missing = true
 
--- "a needed kind missing, the sheet's length"
+-- cause 2 of a needed kind that no record has, with the sheet's length as its place (§4.2)
 abbrev pub missing : List ℕ → ℕ → Check
 missing s k = refusal 2 with length s if isMissing (find k (parsed s .records))
 
--- causes 1 and 2 in order, for the kinds that a service needs; "a missing kind comes last"
+-- causes 1 and 2 in order, for the kinds that a service needs: the length, the records, the missing kinds (§4.1)
 unfoldable pub sheetCauses : List ℕ → List ℕ → List Check
 sheetCauses needed s = tooLong s ∷ parsed s .stop ∷ map (missing s) needed
 
@@ -45,11 +45,11 @@ when false k = []
 unfoldable pub whenMissing : List ℕ → ℕ → Bool → Check
 whenMissing s k b = firstCause (map (missing s) (when b k))
 
--- the kinds that a service on a machine needs: kind 1 always, the others as it says
+-- the kinds that a service on a machine needs (§2.3): kind 1 always, the others as it says
 unfoldable pub needed : Needs → List ℕ
 needed n = 1 ∷ (when (n .word) 2 ++ (when (n .sequence) 3 ++ when (n .answers) 4))
 
--- reading "makes checks 1 and 2 only, the wanted kind being the needed one"
+-- what reading a kind refuses with (§2.4): checks 1 and 2, that kind being needed
 unfoldable pub refusalOf : ℕ → List ℕ → Check
 refusalOf k s = firstCause (sheetCauses (k ∷ []) s)
 
@@ -62,17 +62,17 @@ recordOr Missing = record { start = 0; size = 0; kind = 0 }
 unfoldable pub the : ℕ → List ℕ → Record
 the k s = recordOr (find k (parsed s .records))
 
--- where a record's payload lies, "header left out"; the empty part at the sheet's start where there is none
+-- where a record's payload lies, behind the header; the empty part at the sheet's start where there is none
 abbrev pub payloadPart : Found → Part
 payloadPart (At r) = record { from = r .start + header; size = r .size }
 payloadPart Missing = record { from = 0; size = 0 }
 
--- the wanted record's payload; "a refusal hands back the empty part at the sheet's start"
+-- the wanted record's payload; on a refusal the empty part at the sheet's start (§2.4)
 abbrev pub partWhen : Check → Found → Part
 partWhen Clear f = payloadPart f
 partWhen (Refused n p) f = payloadPart Missing
 
--- where what reading a kind hands back lies
+-- where the part lies that reading a kind gives
 unfoldable pub part : ℕ → List ℕ → Part
 part k s = partWhen (refusalOf k s) (find k (parsed s .records))
 
@@ -80,7 +80,7 @@ part k s = partWhen (refusalOf k s) (find k (parsed s .records))
 unfoldable pub bytes : Part → List ℕ → List ℕ
 bytes p s = take (p .size) (drop (p .from) s)
 
--- what reading a kind hands back, as bytes
+-- the bytes of that part: the payload, or none on a refusal
 unfoldable pub content : ℕ → List ℕ → List ℕ
 content k s = bytes (part k s) s
 
@@ -88,12 +88,11 @@ content k s = bytes (part k s) s
 abbrev pub seen : RefT (List ℕ) → (ℕ × ℕ) × List ℕ
 seen r = (r .ptr, now r)
 
--- "hands back the part of it": the same block, the part's position and its bytes, "and no copy"
+-- the part as a reference into the lent sheet (§2.4): the same block, so no copy, the part's position, and its bytes
 unfoldable pub handed : RefT (List ℕ) → Part → (ℕ × ℕ) × List ℕ
 handed s p = ((s .ptr .0, s .ptr .1 + p .from), bytes p (now s))
 
--- reading a kind that is not refused: the record is of that kind and lies inside the sheet, and its payload, header left out, is what is
--- handed back
+-- reading a kind that is not refused: the record is of that kind and lies inside the sheet, and the part is its payload
 pub record Reads (k : ℕ) (s : List ℕ) : Type 0 where
   pub kind : the k s .kind ≡ k
   pub from : part k s .from ≡ the k s .start + header

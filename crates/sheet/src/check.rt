@@ -1,9 +1,9 @@
-// A check's answer, how two checks in a row answer, and document 01's number and values of an answer.
+// A check's answer, how two checks in a row answer, and the number and values of an answer.
 ghost use mathlib.Core.Path.{_≡_};
 ghost use Rattle.sheet.specs.Check.{refusal_with_if_, _else_};
 ghost use Rattle.sheet.specs.Values.{refusalValues};
 
-// Clear, or document 01's refusal number with its place.
+// Clear, or a refusal's number with its place.
 pub enum Check {
     Clear,
     Refused { number: u8, place: usize },

@@ -1,6 +1,6 @@
--- Document 01's cases with a star ("The house unit and the twin"): one collection, in its order, of the bytes of their sheets and the definitions
--- of building, certifying, judging and the bench's line. That all of them hold is shown once, as a whole, in Starred.Shown. Where a room is lent,
--- the case holds for every room that is large enough.
+-- The cases with a star (§10.3): one collection, in their order, of the bytes of their sheets and the definitions of
+-- building, certifying, judging and the bench's line. That all of them hold is shown once, as a whole, in Starred.Shown.
+-- Where a room is lent, the case holds for every room that is large enough.
 use Prim.Native.Nat.{ℕ, _≤_}
 use mathlib.Core.Path.{_≡_}
 use mathlib.Core.List.{List, [], _∷_, _++_}
@@ -18,7 +18,7 @@ use Rattle.report.specs.Lines.{judgeLine}
 pub mod Shown
 
 -- ---- the sheets
--- a record: "4 bytes payload length, 2 bytes kind, both little-endian, then the payload"
+-- a record of a kind and a payload
 abbrev pub recordOf : ℕ → List ℕ → List ℕ
 recordOf kind payload = headerOf kind (length payload) ++ payload
 
@@ -32,23 +32,23 @@ sequenceSheet table word xs = unitSheet table word ++ recordOf 3 xs
 abbrev pub answersSheet : List ℕ → List ℕ → List ℕ → List ℕ → List ℕ
 answersSheet table word xs ys = sequenceSheet table word xs ++ recordOf 4 ys
 
--- the payload of record 1. "The twin: n=2, k=2, word 0; state 0: 1/0, 0/5; state 1: 0/1, 1/5"
+-- the payload of the twin's record 1 (§10.2)
 abbrev pub twinTable : List ℕ
 twinTable = 2 ∷ 2 ∷ 1 ∷ 0 ∷ 0 ∷ 5 ∷ 0 ∷ 1 ∷ 1 ∷ 5 ∷ []
 
--- the same with "Entry (1, 0) leading to 1"
+-- the same where entry (1, 0) goes to 1
 abbrev pub disconnectedTable : List ℕ
 disconnectedTable = 2 ∷ 2 ∷ 1 ∷ 0 ∷ 0 ∷ 5 ∷ 1 ∷ 1 ∷ 1 ∷ 5 ∷ []
 
--- the twin's with "First next state 2", which is no state of it
+-- the twin's where entry (0, 0) goes to 2, which is no state
 abbrev pub noStateTable : List ℕ
 noStateTable = 2 ∷ 2 ∷ 2 ∷ 0 ∷ 0 ∷ 5 ∷ 0 ∷ 1 ∷ 1 ∷ 5 ∷ []
 
--- "n=1, k=1, .. any answer"
+-- one state and one command, with any answer
 abbrev pub singleTable : ℕ → List ℕ
 singleTable answer = 1 ∷ 1 ∷ 0 ∷ answer ∷ []
 
--- "Built: 0 0 0 0 0 0 1 0 0 0 1 0"
+-- the twin's built sequence
 abbrev pub builtTwin : List ℕ
 builtTwin = 0 ∷ 0 ∷ 0 ∷ 0 ∷ 0 ∷ 0 ∷ 1 ∷ 0 ∷ 0 ∷ 0 ∷ 1 ∷ 0 ∷ []
 
@@ -65,36 +65,36 @@ JudgedAs room s a line = (judgement room s ≡ a) × (judgeLine (judgement room 
 
 -- ---- the collection
 pub record Starred : Type 0 where
-  -- "Built: 0 0 0 0 0 0 1 0 0 0 1 0; certified, 13."
+  -- the twin as built, and certified
   pub built : (room : ℕ) → 12 ≤ room → building room (unitSheet twinTable (0 ∷ [])) ≡ Built 12
   pub built-bytes : (buffer : List ℕ) → 12 ≤ length buffer → bufferAfter (unitSheet twinTable (0 ∷ [])) buffer ≡ builtTwin ++ drop 12 buffer
   pub built-certified : (room : ℕ) → 13 ≤ room → certification room (twinWith builtTwin) ≡ Certified 13
-  -- "0 0 1 0 1 0: open 2, 5 recognised." "0 0 1 0 1 0 0: certified, 8."
+  -- two places that would recognise each other (§5.2), and one command more
   pub each-other : (room : ℕ) → 7 ≤ room → certification room (twinWith (0 ∷ 0 ∷ 1 ∷ 0 ∷ 1 ∷ 0 ∷ [])) ≡ Open 5 2
   pub longer : (room : ℕ) → 8 ≤ room → certification room (twinWith (0 ∷ 0 ∷ 1 ∷ 0 ∷ 1 ∷ 0 ∷ 0 ∷ [])) ≡ Certified 8
-  -- "0: open 1, 1 recognised." "1 0 0: open 0, 2 recognised." "0 0 0: open 2, 4 recognised."
+  -- short sequences that are open
   pub one : (room : ℕ) → 2 ≤ room → certification room (twinWith (0 ∷ [])) ≡ Open 1 1
   pub late : (room : ℕ) → 4 ≤ room → certification room (twinWith (1 ∷ 0 ∷ 0 ∷ [])) ≡ Open 2 0
   pub three : (room : ℕ) → 4 ≤ room → certification room (twinWith (0 ∷ 0 ∷ 0 ∷ [])) ≡ Open 4 2
-  -- "Built sequence, answers 0 1 0 1 0 1 5 0 1 0 5 1: `PASS 12 end 0`."
+  -- the built sequence with the right answers
   pub passes : (room : ℕ) → 13 ≤ room → JudgedAs room (twinAnswered (0 ∷ 1 ∷ 0 ∷ 1 ∷ 0 ∷ 1 ∷ 5 ∷ 0 ∷ 1 ∷ 0 ∷ 5 ∷ 1 ∷ [])) (Pass 12 0) (bytes "PASS 12 end 0\n")
-  -- "The same with 6 at place 6: `WRONG at 6 want 5 got 6`." "First four only: `UNFINISHED 4`."
+  -- the same with another answer at place 6, and with the first four answers
   pub wrong-at : (room : ℕ) → 13 ≤ room → JudgedAs room (twinAnswered (0 ∷ 1 ∷ 0 ∷ 1 ∷ 0 ∷ 1 ∷ 6 ∷ 0 ∷ 1 ∷ 0 ∷ 5 ∷ 1 ∷ [])) (Wrong 6 5 6) (bytes "WRONG at 6 want 5 got 6\n")
   pub unfinished-run : (room : ℕ) → 13 ≤ room → JudgedAs room (twinAnswered (0 ∷ 1 ∷ 0 ∷ 1 ∷ [])) (Unfinished 4) (bytes "UNFINISHED 4\n")
-  -- "Thirteen answers: refusal 10 at 41."
+  -- thirteen answers, whatever they are
   pub too-many : (room : ℕ) → 13 ≤ room → (a b c d e f g h i j k l m : ℕ)
       → judgement room (twinAnswered (a ∷ b ∷ c ∷ d ∷ e ∷ f ∷ g ∷ h ∷ i ∷ j ∷ k ∷ l ∷ m ∷ [])) ≡ NotJudged 10 41
-  -- "Word 1: refusal 6 at 1."
+  -- a word that does not separate
   pub no-separation-built : (room : ℕ) → building room (unitSheet twinTable (1 ∷ [])) ≡ NotBuilt 6 1
   pub no-separation-certified : (room : ℕ) → certification room (sequenceSheet twinTable (1 ∷ []) builtTwin) ≡ NotCertified 6 1
   pub no-separation-judged : (room : ℕ) → judgement room (answersSheet twinTable (1 ∷ []) builtTwin (0 ∷ [])) ≡ NotJudged 6 1
-  -- "First next state 2: refusal 4 at 8.", which has no star of its own. The word's command and the answer may be any.
+  -- a next state that is none; the word's command and the answer may be any
   pub no-state-built : (room command : ℕ) → building room (unitSheet noStateTable (command ∷ [])) ≡ NotBuilt 4 8
   pub no-state-certified : (room command : ℕ) → certification room (sequenceSheet noStateTable (command ∷ []) builtTwin) ≡ NotCertified 4 8
   pub no-state-judged : (room command answer : ℕ) → judgement room (answersSheet noStateTable (command ∷ []) builtTwin (answer ∷ [])) ≡ NotJudged 4 8
-  -- "Entry (1, 0) leading to 1: building refuses 8 at 1."
+  -- a table that is not connected
   pub not-connected : (room : ℕ) → building room (unitSheet disconnectedTable (0 ∷ [])) ≡ NotBuilt 8 1
-  -- "n=1, k=1, word 0, any answer: built 0 0 0 0; 0 0 is certified, 0 is open 1."
+  -- one state and one command
   pub single-built : (answer room : ℕ) → 4 ≤ room → building room (unitSheet (singleTable answer) (0 ∷ [])) ≡ Built 4
   pub single-bytes : (answer : ℕ) (buffer : List ℕ) → 4 ≤ length buffer → bufferAfter (unitSheet (singleTable answer) (0 ∷ [])) buffer ≡ (0 ∷ 0 ∷ 0 ∷ 0 ∷ []) ++ drop 4 buffer
   pub single-pair : (answer room : ℕ) → 3 ≤ room → certification room (sequenceSheet (singleTable answer) (0 ∷ []) (0 ∷ 0 ∷ [])) ≡ Certified 3

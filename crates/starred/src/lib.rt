@@ -1,2 +1,2 @@
-// Document 01's cases with a star, one collection, stated and shown about the definitions: it stands
-// in specs/. There is no code.
+// The cases with a star (§10.3), one collection, stated and proved of the definitions, in specs/.
+// There is no code.

@@ -1,4 +1,4 @@
--- What writing answers.
+-- What writing to a stream answers (§4.4: an answer that the specification leaves free).
 use Prim.Native.Nat.{ℕ}
 use mathlib.Core.Path.{_≡_}
 use mathlib.Core.Bool.{Bool, true}

@@ -39,7 +39,7 @@ not-there : (o : Option (List ℕ)) → noTransfer o ≡ true → o ≡ none
 not-there none e = refl
 not-there (some t) e = cc
 
--- "least s such that no path leads from where the word takes s to s+1 (0 after n-1)", over paths of any length
+-- cause 8 as §4.2 has it, over strings of any length
 pub record NotConnected (M : Mealy) (w : List ℕ) (s : ℕ) : Type 0 where
   pub state : s < M .n
   pub none-leads-on : (u : List ℕ) → Leads M (run M s w) (following (M .n) s) u → ⊥

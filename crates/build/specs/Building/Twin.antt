@@ -1,4 +1,4 @@
--- The starred cases of building (document 01, "The house unit and the twin"), computed from the definitions, of the bytes of their sheets and for
+-- The starred cases of building (§10.3), computed from the definitions, of the bytes of their sheets and for
 -- every room that is large enough; the collection of all starred cases takes them from here. What certifying answers to the built sequences comes
 -- from certify's Certification.Twin.
 use Prim.Native.Nat.{ℕ, _≤_}
@@ -40,12 +40,12 @@ disconnectedSheet = 10 ∷ 0 ∷ 0 ∷ 0 ∷ 1 ∷ 0 ∷ 2 ∷ 2 ∷ 1 ∷ 0 ∷
 unfoldable pub singleSheet : ℕ → List ℕ
 singleSheet answer = 4 ∷ 0 ∷ 0 ∷ 0 ∷ 1 ∷ 0 ∷ 1 ∷ 1 ∷ 0 ∷ answer ∷ 1 ∷ 0 ∷ 0 ∷ 0 ∷ 2 ∷ 0 ∷ 0 ∷ []
 
--- ---- "Built: 0 0 0 0 0 0 1 0 0 0 1 0"
+-- ---- the twin's sequence
 pub twin-sequence : sequence twin (0 ∷ []) ≡ 0 ∷ 0 ∷ 0 ∷ 0 ∷ 0 ∷ 0 ∷ 1 ∷ 0 ∷ 0 ∷ 0 ∷ 1 ∷ 0 ∷ []
 unfolding sequence tests stateTests test approach opening firstBlocks nthState T following transfer firstPath firstOf orElse guard run twin machineOf
 twin-sequence = refl
 
--- "certified, 13": 13 places are recognised
+-- it is certified, with 13 recognised places
 pub twin-certified : outcome twin (0 ∷ []) (sequence twin (0 ∷ [])) ≡ Certified 13
 twin-certified = ap (outcome twin (0 ∷ [])) twin-sequence ∙ twin-built
 
@@ -75,12 +75,12 @@ twin-building room l = building-clear room twinSheet (twin-clear room l) ∙ ap 
 pub twin-buffer : (buffer : List ℕ) → 12 ≤ length buffer → bufferAfter twinSheet buffer ≡ (0 ∷ 0 ∷ 0 ∷ 0 ∷ 0 ∷ 0 ∷ 1 ∷ 0 ∷ 0 ∷ 0 ∷ 1 ∷ 0 ∷ []) ++ drop 12 buffer
 twin-buffer buffer l = buffer-clear twinSheet buffer (twin-clear (length buffer) l) ∙ ap (λ (xs : List ℕ). written xs buffer) twin-built-sequence
 
--- ---- "Entry (1, 0) leading to 1: building refuses 8 at 1", whatever the room
+-- ---- where entry (1, 0) goes to 1, cause 8 is present at 1, whatever the room
 pub disconnected-building : (room : ℕ) → building room disconnectedSheet ≡ Refused 8 1
 unfolding building disconnectedSheet refusal_with_if_ _else_ firstCause first recordAt offset end kindOf cause1 cause2 causeAt onward parseFrom parse parsed ofKind _or_ find sheetCauses when needed refusalOf the part bytes content machineOf run answers cause3 cause4 commandsCause cause6 machineIn machineCauses wordCauses loadCauses cause9 guard orElse firstOf firstPath transfer following T nthState firstBlocks opening approach test stateTests tests sequence cause8 buildCauses
 disconnected-building room = refl
 
--- ---- "n=1, k=1, word 0, any answer: built 0 0 0 0"
+-- ---- the sequence of one state and one command
 pub single-sequence : (answer : ℕ) → sequence (single answer) (0 ∷ []) ≡ 0 ∷ 0 ∷ 0 ∷ 0 ∷ []
 unfolding sequence tests stateTests test approach opening firstBlocks nthState T following transfer firstPath firstOf orElse guard run single machineOf
 single-sequence answer = refl
@@ -116,7 +116,7 @@ pub single-longest : (answer : ℕ) → length (sequence (single answer) (0 ∷ 
 unfolding lengthBound single machineOf
 single-longest answer = ap length (single-sequence answer)
 
--- ---- "Built length 203 (bound 361)", of the house unit and the word 0 1
+-- ---- the length of the house unit's sequence, and what the formula allows it (§10.1)
 pub house-length : length (sequence house houseWord) ≡ 203
 unfolding sequence tests stateTests test approach opening firstBlocks nthState T following transfer firstPath firstOf orElse guard run house machineOf housePayload
 house-length = refl

@@ -1,4 +1,4 @@
--- The commands of the prescribed sequence are the machine's, and its length is within document 01's formula, so never above the limit of a
+-- The commands of the prescribed sequence are the machine's, and its length is within the length formula (§6.4), so never above the limit of a
 -- sequence. M is the machine, w the word.
 use Prim.Native.Nat.{ℕ, zero, suc, _+_, _*_, _≤_, _<_}
 use mathlib.Core.Path.{_≡_, refl}
@@ -134,7 +134,7 @@ module _ (M : Mealy) (w : List ℕ) (h : Blocks M w) where
       let pl : p < M .n = rw (opening-leads M w h) (following-below (M .n) (M .start) (h .proper .starts)) in
       rw (sequence-is M w, mul-assoc) (short-append (opening M w) (tests M w p (M .n)) opening-short (tests-part p (M .n) pl (omega arith) .short))
 
-  -- "the length is at most (n+1)c + nk(nc+1)"
+  -- the length formula bounds the length
   pub sequence-length : length (sequence M w) ≤ lengthBound M w
   sequence-length = sequence-short .few
 
@@ -158,7 +158,7 @@ module _ (M : Mealy) (w : List ℕ) (proper : Proper M) (few : length w ≤ most
       mul-le-mul {n₁ = i} {m₁ = M .n * blockBound M w + 1} {n₂ = most} {m₂ = mostStates * mostBlock + 1} l
       (omega (arith, blocks-few (M .n) mostStates (proper .few-states)))
 
-  -- "so never above 20,355"
+  -- so the sequence is within the limit of a sequence
   pub longest-below : lengthBound M w ≤ mostSequence
   unfolding lengthBound
   longest-below =

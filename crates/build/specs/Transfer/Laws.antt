@@ -1,4 +1,4 @@
--- The laws of transfers: what `transfer` computes is the transfer of document 01, and it is there wherever a string of any length leads.
+-- The laws of transfers: what `transfer` computes is the transfer of §6.1, and it is there wherever a string of any length leads.
 use Prim.Native.Nat.{ℕ, zero, suc, _≤_, _<_}
 use mathlib.Core.Path.{_≡_, refl, sym, ap, ap₂, _∙_}
 use mathlib.Core.Bool.{Bool, true, false}
@@ -153,7 +153,7 @@ leads-none M a b h = go (seen (transfer M a b))
     go (nothing e) = e
     go (string t e) = absurd (h t (path-leads M b (length t) a (transfer-path M a b e .found)))
 
--- what document 01 calls the transfer is the one computed
+-- and a transfer is the one that is computed
 pub is-transfer : (M : Mealy) → Proper M → (a b : ℕ) → a < M .n → {t : List ℕ} → IsTransfer M a b t → transfer M a b ≡ some t
 is-transfer M p a b l {t} h =
     let r = leads-some M p a b l t (h .leads) in

@@ -255,13 +255,13 @@ module _ (M : Mealy) (w xs : List ℕ) where
   pub marks-length : length (marks M w xs) ≡ length xs + 1
   marks-length = marks-exact .long
 
-  -- ---- "1 for recognised, 0 otherwise", both directions
+  -- ---- a mark is 1 exactly where the place is recognised, and else 0
   pub marked-recognised : (p : ℕ) → getD (marks M w xs) p 0 ≡ 1 → Recognised M w xs p
   marked-recognised p e = closure-recognised M w xs p (marks-exact .sound p e)
 
   pub recognised-marked : (p : ℕ) → Recognised M w xs p → getD (marks M w xs) p 0 ≡ 1
   recognised-marked p h = marks-exact .complete p (recognised-inside M w xs p h) (recognised-closure M w xs p h)
 
-  -- "hold 1 for recognised, 0 otherwise"
+  -- every mark is 0 or 1
   pub marks-bits : Bits (marks M w xs)
   marks-bits = marks-exact .bits

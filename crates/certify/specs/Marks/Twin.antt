@@ -1,4 +1,4 @@
--- The marks of the starred sequences of document 01 ("The house unit and the twin"), of the twin and of a machine of one state, computed from
+-- The marks of the starred sequences (§10.3), of the twin and of a machine of one state, computed from
 -- the definitions.
 use Prim.Native.Nat.{ℕ}
 use mathlib.Core.Path.{_≡_, refl}
@@ -6,11 +6,11 @@ use mathlib.Core.List.{[], _∷_}
 use Rattle.machine.specs.Machine.{Mealy, machineOf, stateAt, run}
 use Rattle.certify.specs.Marks.{any, tabulate, marksBy, count, stands, shown, grown, settled, closure, marks}
 
--- "The twin: n=2, k=2, word 0; state 0: 1/0, 0/5; state 1: 0/1, 1/5"
+-- the twin (§10.2)
 unfoldable pub twin : Mealy
 twin = machineOf (2 ∷ 2 ∷ 1 ∷ 0 ∷ 0 ∷ 5 ∷ 0 ∷ 1 ∷ 1 ∷ 5 ∷ [])
 
--- "n=1, k=1, word 0, any answer"
+-- one state and one command, with any answer
 unfoldable pub single : ℕ → Mealy
 single answer = machineOf (1 ∷ 1 ∷ 0 ∷ answer ∷ [])
 

@@ -59,18 +59,18 @@ agreed-is xs ys p h =
     equal : (p < agreed xs ys → ⊥) → (agreed xs ys < p → ⊥) → p ≡ agreed xs ys
     equal a b = omega arith
 
--- ---- the results, as document 01 says them
--- "all right": the answers before place p are the specified ones
+-- ---- the results, as §7 says them
+-- the answers before place p are the specified ones
 abbrev pub Right : Mealy → List ℕ → List ℕ → ℕ → Type 0
 Right M xs ys p = (i : ℕ) → i < p → getD (answers M (M .start) xs) i 0 ≡ getD ys i 0
 
 pub data Judged (M : Mealy) (xs ys : List ℕ) : Answer → Type 0 where
-  -- "pass with the end state": every answer was given, and each is the specified one
+  -- pass: every answer was given, and each is the specified one
   passed : {size end : ℕ} → ys ≡ answers M (M .start) xs → size ≡ length xs → end ≡ stateAt M xs (length xs) → Judged M xs ys (Pass size end)
-  -- "wrong with the first place whose answer differs, the specified answer and the one given"
+  -- wrong: the answers before the place are right, and the one there is not
   wrong : {place specified given : ℕ} → place < length ys → Right M xs ys place → (specified ≡ given → ⊥)
       → specified ≡ getD (answers M (M .start) xs) place 0 → given ≡ getD ys place 0 → Judged M xs ys (Wrong place specified given)
-  -- "unfinished with the number of answers, all right, fewer than N"
+  -- unfinished: some answers are missing, and those that were given are right
   unfinished : {number : ℕ} → number ≡ length ys → number < length xs → Right M xs ys number → Judged M xs ys (Unfinished number)
 
 module _ (M : Mealy) (xs ys : List ℕ) (few : length ys ≤ length xs) where

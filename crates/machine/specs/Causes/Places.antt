@@ -86,7 +86,7 @@ module _ (n : Needs) (s : List ℕ) where
   load-short e = machine-short (clear-table n s e)
 
 -- ---- answers
--- "An answer is any byte"
+-- an answer in the table is a byte
 pub answer-byte : (s : List ℕ) → Bytes s → (q c : ℕ) → machineIn s .answer q c < 256
 unfolding machineIn machineOf
 answer-byte s h q c = content-bytes 1 s h (pairAt (q * getD (content 1 s) 1 0 + c) + 1)

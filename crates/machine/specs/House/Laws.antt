@@ -1,4 +1,4 @@
--- The laws of the house unit: a table whose sixteen entries pass one test, which antt computes, has document 01's entries; so has
+-- The laws of the house unit: a table whose sixteen entries pass one test, which antt computes, has the specified entries; so has
 -- its machine.
 use Prim.Native.Nat.{ℕ, zero, suc, _+_, _*_, _/_, _%_, _≤_, _<_}
 use mathlib.Core.Path.{_≡_, refl, ap, ap₂, _∙_}
@@ -59,7 +59,7 @@ pub payload-long : length housePayload ≡ 34
 unfolding housePayload
 payload-long = refl
 
--- "sixteen entries": those of the lookup
+-- the machine's sixteen entries are those of the lookup
 pub house-entry : (s c : ℕ) → s < house .n → c < house .k → record { next = house .next s c; answer = house .answer s c } ≡ houseEntry s c
 unfolding house machineOf housePayload
 house-entry s c p q =

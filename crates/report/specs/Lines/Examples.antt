@@ -1,4 +1,4 @@
--- The lines that document 01 writes out, and those of certifying.
+-- The lines that the specification writes out (§8.1), as examples of the definitions.
 use mathlib.Core.Path.{_≡_, refl}
 use Rattle.judge.specs.declared.answer.Answer.the-variants.{Pass, Wrong, Unfinished, Refused as RefusedJudgement}
 use Rattle.certify.specs.declared.answer.Answer.the-variants.{Certified, Open, Refused as RefusedCertification}

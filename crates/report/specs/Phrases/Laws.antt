@@ -17,7 +17,7 @@ phrase-zero : phrase 0 ≡ []
 unfolding phrase phrases
 phrase-zero = refl
 
--- "Numbers above 11 .. have no phrase"
+-- above 11 there is no phrase
 pub phrase-above : (number : ℕ) → 11 < number → phrase number ≡ []
 unfolding phrase phrases
 phrase-above number h = List·getD-eq-default ([] ∷ phrases) [] h

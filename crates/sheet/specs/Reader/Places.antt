@@ -21,7 +21,7 @@ use Rattle.sheet.specs.Reader.{tooLong, isMissing, missing, sheetCauses,
 use Rattle.sheet.specs.Reader.Laws.{payload-inside, the-inside}
 
 -- ---- causes 1 and 2
--- a refusal that the capture rig's number can hold: its number is below the results' classes, which begin with "100 pass", and its place is at most
+-- a refusal that the capture rig's number can hold: its number is below the results' classes, which begin with 100, and its place is at most
 -- the longest sheet's length
 pub record Small (n p : ℕ) : Type 0 where
   pub number : n < 100
@@ -47,7 +47,7 @@ module _ (s : List ℕ) (short : length s ≤ longest) where
 not-long : (s : List ℕ) → tooLong s ≡ Clear → length s ≤ longest
 not-long s e = ltb-false longest (length s) (clear-absent 1 longest (ltb longest (length s)) e)
 
--- "40,912 if longer than that", a record's start, or the sheet's length
+-- the place is the limit, a record's start, or the sheet's length
 pub sheet-small : (needed s : List ℕ) → WhereRefused Small (firstCause (sheetCauses needed s))
 unfolding sheetCauses
 sheet-small needed s =
