@@ -4,7 +4,7 @@ use Prim.Native.Nat.{ℕ}
 use mathlib.Core.Bool.{Bool, true, false}
 use mathlib.Core.List.{List}
 use Rattle.report.specs.Output.{Output}
-use Rattle.report.specs.Services.{judged, certified, built, recordRead, houseShown, helped, mistaken}
+use Rattle.report.specs.Services.{judged, certified, built, recordRead, houseWritten, helped, mistaken}
 use Rattle.bench.specs.declared.words.Service.{Service}
 use Rattle.bench.specs.declared.words.Service.the-variants.{Wrong, OnSheet, House, Help}
 use Rattle.bench.specs.declared.words.SheetService.{SheetService}
@@ -24,7 +24,7 @@ sheetOutput (Read kind) s = recordRead kind s
 abbrev pub output : Service → List ℕ → Output
 output (Wrong mistake) s = mistaken mistake
 output (OnSheet service) s = sheetOutput service s
-output House s = houseShown
+output House s = houseWritten
 output Help s = helped
 
 -- whether a service reads standard input: the others write the same whatever stands there (unread, in Bench.Laws)

@@ -29,7 +29,7 @@ use Rattle.build.specs.Building.{buildNeeds, cause8, buildCauses, values
 use Rattle.build.specs.Building.Connection.{clear-blocks}
 use Rattle.build.specs.Building.Service.{refused-early, refused-eight, room-cause, building-refused, building-clear, buffer-refused, buffer-clear}
 use Rattle.build.specs.Table.{Filled}
-use Rattle.build.specs.Writing.{Ready, Writes}
+use Rattle.build.specs.Writing.{WriteRequires, Writes}
 
 -- a refusal, and nothing written
 refused-builds : (s before : List ℕ) {a b : ℕ} → firstCause (buildCauses (length before) s) ≡ Refused a b → {after : List ℕ} → after ≡ before → Builds s before after (RefusedAnswer a b)
@@ -72,8 +72,8 @@ module _ (s before : List ℕ) (l : Loaded) (h : LoadedFrom buildNeeds s l) wher
 
       module _ (connected : c ≡ Clear) where
         -- all that writing needs
-        pub table-ready : (rows : List ℕ) → Filled (meaning (l .machine)) w (meaning (l .machine) .n) rows → Ready (meaning (l .machine)) w rows
-        table-ready rows f = record {
+        pub write-required : (rows : List ℕ) → Filled (meaning (l .machine)) w (meaning (l .machine) .n) rows → WriteRequires (meaning (l .machine)) w rows
+        write-required rows f = record {
           blocks = clear-blocks (meaning (l .machine)) w proper commands (sym ce ∙ connected);
           few = commands .few;
           filled = f;

@@ -73,8 +73,8 @@ module _ (M : Mealy) (b d : ℕ) (few : M .n ≤ 255) (small : d < unreached) (n
       let st = path-step M b m s (rw add-one at (near .found)) in
       let e = first-command m s c f st ml lacks in
       let cl : c < M .k = omega (arith, st .low) in
-      let onward = nearest M b d (table .at (getD next (s * M .k + c) 0) (f .byte cl)) (f .found cl) (omega arith) in
-      let rest = descent-path h onward in
+      let near-next = nearest M b d (table .at (getD next (s * M .k + c) 0) (f .byte cl)) (f .found cl) (omega arith) in
+      let rest = descent-path h near-next in
       let found : firstPath M b m (getD next (s * M .k + c) 0) ≡ some (st .rest) = rw (e, ← cells s (st .command)) (st .found) in
       near .found ∙ ap some (st .string ∙ ap₂ _∷_ (sym e) (mem-unique found rest))
 

@@ -16,7 +16,7 @@ use Rattle.build.specs.Sequence.Cycle.{following-below, gap, gap-below, 
 use Rattle.build.specs.Sequence.Laws.{T-is, approach-here, approach-more, first-blocks-none, first-blocks-more, first-blocks-lead, opening-is, opening-leads, test-is, test-leads, test-stays, state-tests-stay, state-tests-none, state-tests-more, tests-none, tests-more, sequence-is}
 use Rattle.build.specs.Sequence.Length.{approach-length, test-length, state-tests-length, opening-length, block-few, blocks-few, tests-few}
 use Rattle.build.specs.Table.{row}
-use Rattle.build.specs.Writing.{mostApproach, mostTest, mostStateTests, mostTests, Ready, Writes, Moves, BlockAsked, Asked}
+use Rattle.build.specs.Writing.{mostApproach, mostTest, mostStateTests, mostTests, WriteRequires, Writes, Moves, BlockRequires, PartRequires}
 use Rattle.build.proofs.Writes.{writes-none, writes-append}
 
 -- a number that the program has by another name
@@ -45,10 +45,10 @@ pub record Approaching (M : Mealy) (w before : List ℕ) (at₀ p₀ s : ℕ) (n
   pub low : p < M .n
   pub room : at + gap (M .n) p s * mostBlock ≤ mostSequence
 
-module _ (M : Mealy) (w rows : List ℕ) (h : Ready M w rows) where
+module _ (M : Mealy) (w rows : List ℕ) (h : WriteRequires M w rows) where
   -- ---- blocks
-  block-asked : (s at : ℕ) → s < M .n → at + mostBlock ≤ mostSequence → BlockAsked w rows s at
-  block-asked s at sl room = record {
+  block-required : (s at : ℕ) → s < M .n → at + mostBlock ≤ mostSequence → BlockRequires w rows s at
+  block-required s at sl room = record {
     few = h .few;
     long = h .filled .long;
     state = omega (arith, h .blocks .proper .few-states);
@@ -64,7 +64,7 @@ module _ (M : Mealy) (w rows : List ℕ) (h : Ready M w rows) where
 
   -- ---- the approach
   module _ (before : List ℕ) (at₀ p₀ s : ℕ) where
-    pub approaching-start : Asked M w rows at₀ p₀ mostApproach → s < M .n → Approaching M w before at₀ p₀ s before at₀ p₀
+    pub approaching-start : PartRequires M w rows at₀ p₀ mostApproach → s < M .n → Approaching M w before at₀ p₀ s before at₀ p₀
     approaching-start a sl = record {
       done = [];
       writes = writes-none before at₀ refl;
@@ -74,8 +74,8 @@ module _ (M : Mealy) (w rows : List ℕ) (h : Ready M w rows) where
     }
 
     module _ {now : List ℕ} {at p : ℕ} (a : Approaching M w before at₀ p₀ s now at p) (sl : s < M .n) where
-      pub approaching-asked : (p ≡ s → ⊥) → BlockAsked w rows p at
-      approaching-asked ne = block-asked p at (a .low) (omega (arith, a .room, gap-step (M .n) p s (a .low) sl ne))
+      pub approaching-required : (p ≡ s → ⊥) → BlockRequires w rows p at
+      approaching-required ne = block-required p at (a .low) (omega (arith, a .room, gap-step (M .n) p s (a .low) sl ne))
 
       pub approaching-on : (p ≡ s → ⊥) → {N q end : ℕ} {after : List ℕ} → N ≡ M .n → Writes now at (w ++ row rows p) after end → q ≡ following N p → Approaching M w before at₀ p₀ s after end q
       approaching-on ne {N} {q} {end} {after} ne2 l qe =
@@ -99,9 +99,9 @@ module _ (M : Mealy) (w rows : List ℕ) (h : Ready M w rows) where
           rw (← a .rest, none, append-nil) (a .writes)
 
   -- ---- a test
-  module _ {at p s c : ℕ} (a : Asked M w rows at p mostTest) (sl : s < M .n) (cl : c < M .k) where
-    pub approach-asked : Asked M w rows at p mostApproach
-    approach-asked = record { ready = h; low = a .low; room = omega (arith, a .room) }
+  module _ {at p s c : ℕ} (a : PartRequires M w rows at p mostTest) (sl : s < M .n) (cl : c < M .k) where
+    pub approach-required : PartRequires M w rows at p mostApproach
+    approach-required = record { write-requires = h; low = a .low; room = omega (arith, a .room) }
 
     reached-room : {before after : List ℕ} {end : ℕ} → Writes before at (approach M w (M .n) p s) after end → end + 1 + mostBlock ≤ mostSequence
     reached-room l =
@@ -115,9 +115,9 @@ module _ (M : Mealy) (w rows : List ℕ) (h : Ready M w rows) where
     pub led-low : {t : ℕ} → t ≡ M .next s c → t < M .n
     led-low e = rw e (h .blocks .proper .stays s c sl cl)
 
-    pub led-asked : {t : ℕ} → t ≡ M .next s c → {before middle after : List ℕ} {e f : ℕ} → Writes before at (approach M w (M .n) p s) middle e → Writes middle e (c ∷ []) after f
-        → BlockAsked w rows t f
-    led-asked {t} te l one = block-asked t _ (led-low te) (omega (arith, reached-room l, one .ends))
+    pub led-required : {t : ℕ} → t ≡ M .next s c → {before middle after : List ℕ} {e f : ℕ} → Writes before at (approach M w (M .n) p s) middle e → Writes middle e (c ∷ []) after f
+        → BlockRequires w rows t f
+    led-required {t} te l one = block-required t _ (led-low te) (omega (arith, reached-room l, one .ends))
 
     pub test-moves : {N t q : ℕ} → N ≡ M .n → t ≡ M .next s c → q ≡ following N t → {b b₁ b₂ b₃ : List ℕ} {e f g : ℕ}
         → Writes b at (approach M w (M .n) p s) b₁ e → Writes b₁ e (c ∷ []) b₂ f → Writes b₂ f (w ++ row rows t) b₃ g
@@ -142,7 +142,7 @@ pub record Testing (M : Mealy) (w before : List ℕ) (p₀ : Position) (now : Li
   pub low : p .state < M .n
   pub room : p .at + (mostStates - s) * mostStateTests ≤ mostSequence
 
-module _ (M : Mealy) (w rows before : List ℕ) (p₀ : Position) (h : Ready M w rows) where
+module _ (M : Mealy) (w rows before : List ℕ) (p₀ : Position) (h : WriteRequires M w rows) where
   -- a test's length, on a machine within the limits
   test-few : (p s c : ℕ) → p < M .n → s < M .n → c < M .k → length (test M w p s c) ≤ mostTest
   test-few p s c pl sl cl = omega (arith, blocks-few M w (h .blocks .proper) (h .few) (M .n) mostStates (h .blocks .proper .few-states), test-length M w (h .blocks) p s c pl sl cl)
@@ -154,7 +154,7 @@ module _ (M : Mealy) (w rows before : List ℕ) (p₀ : Position) (h : Ready M w
 
   -- ---- one state's tests
   module _ (s : ℕ) (sl : s < M .n) where
-    pub testing-state-start : Asked M w rows (p₀ .at) (p₀ .state) mostStateTests → TestingState M w before p₀ s before p₀ 0
+    pub testing-state-start : PartRequires M w rows (p₀ .at) (p₀ .state) mostStateTests → TestingState M w before p₀ s before p₀ 0
     testing-state-start a = record {
       inside = omega arith;
       moves = moves-none M before p₀ (state-tests-none M w (p₀ .state) s);
@@ -163,8 +163,8 @@ module _ (M : Mealy) (w rows before : List ℕ) (p₀ : Position) (h : Ready M w
     }
 
     module _ {now : List ℕ} {p : Position} {c : ℕ} (a : TestingState M w before p₀ s now p c) where
-      pub testing-state-asked : c < M .k → Asked M w rows (p .at) (p .state) mostTest
-      testing-state-asked cl = record { ready = h; low = a .low; room = omega (arith, a .room, h .blocks .proper .few-commands) }
+      pub testing-state-required : c < M .k → PartRequires M w rows (p .at) (p .state) mostTest
+      testing-state-required cl = record { write-requires = h; low = a .low; room = omega (arith, a .room, h .blocks .proper .few-commands) }
 
       pub testing-state-on : c < M .k → {after : List ℕ} {q : Position} → Moves M now (p .at) (p .state) (test M w (p .state) s c) after q → TestingState M w before p₀ s after q (c + 1)
       testing-state-on cl {after} {q} m = record {
@@ -178,7 +178,7 @@ module _ (M : Mealy) (w rows before : List ℕ) (p₀ : Position) (h : Ready M w
       testing-state-end l = subst (λ (x : ℕ). Moves M before (p₀ .at) (p₀ .state) (stateTests M w (p₀ .state) s x) now p) (omega (arith, a .inside)) (a .moves)
 
   -- ---- all tests
-  pub testing-start : Asked M w rows (p₀ .at) (p₀ .state) mostTests → Testing M w before p₀ before p₀ 0
+  pub testing-start : PartRequires M w rows (p₀ .at) (p₀ .state) mostTests → Testing M w before p₀ before p₀ 0
   testing-start a = record {
     inside = omega arith;
     moves = moves-none M before p₀ (tests-none M w (p₀ .state));
@@ -187,8 +187,8 @@ module _ (M : Mealy) (w rows before : List ℕ) (p₀ : Position) (h : Ready M w
   }
 
   module _ {now : List ℕ} {p : Position} {s : ℕ} (a : Testing M w before p₀ now p s) where
-    pub testing-asked : s < M .n → Asked M w rows (p .at) (p .state) mostStateTests
-    testing-asked sl = record { ready = h; low = a .low; room = omega (arith, a .room, h .blocks .proper .few-states) }
+    pub testing-required : s < M .n → PartRequires M w rows (p .at) (p .state) mostStateTests
+    testing-required sl = record { write-requires = h; low = a .low; room = omega (arith, a .room, h .blocks .proper .few-states) }
 
     pub testing-on : s < M .n → {after : List ℕ} {q : Position} → Moves M now (p .at) (p .state) (stateTests M w (p .state) s (M .k)) after q → Testing M w before p₀ after q (s + 1)
     testing-on sl {after} {q} m = record {
@@ -208,7 +208,7 @@ pub record Opening (M : Mealy) (w before now : List ℕ) (at p i : ℕ) : Type 0
   pub state : p ≡ nthState M i
   pub room : at ≤ i * mostBlock
 
-module _ (M : Mealy) (w rows before : List ℕ) (h : Ready M w rows) where
+module _ (M : Mealy) (w rows before : List ℕ) (h : WriteRequires M w rows) where
   pub opening-start : {p : ℕ} → p ≡ M .start → Opening M w before before 0 p 0
   opening-start e = record {
     inside = omega arith;
@@ -221,8 +221,8 @@ module _ (M : Mealy) (w rows before : List ℕ) (h : Ready M w rows) where
     pub opening-low : p < M .n
     opening-low = rw (a .state) (nthState-below M (h .blocks .proper) i)
 
-    pub opening-asked : {N : ℕ} → N ≡ M .n → i ≤ N → BlockAsked w rows p at
-    opening-asked e l = block-asked M w rows h p at opening-low (omega (arith, a .room, h .blocks .proper .few-states))
+    pub opening-required : {N : ℕ} → N ≡ M .n → i ≤ N → BlockRequires w rows p at
+    opening-required e l = block-required M w rows h p at opening-low (omega (arith, a .room, h .blocks .proper .few-states))
 
     pub opening-on : {N q end : ℕ} {after : List ℕ} → N ≡ M .n → i ≤ N → Writes now at (w ++ row rows p) after end → q ≡ following N p → Opening M w before after end q (i + 1)
     opening-on {N} {q} {end} {after} e l b qe =
@@ -244,11 +244,11 @@ module _ (M : Mealy) (w rows before : List ℕ) (h : Ready M w rows) where
         }
 
   -- ---- the whole
-  pub tests-asked : {after : List ℕ} {p : Position} → Moves M before 0 (M .start) (opening M w) after p → Asked M w rows (p .at) (p .state) mostTests
-  tests-asked m =
+  pub tests-required : {after : List ℕ} {p : Position} → Moves M before 0 (M .start) (opening M w) after p → PartRequires M w rows (p .at) (p .state) mostTests
+  tests-required m =
       let few = blocks-few M w (h .blocks .proper) (h .few) (M .n + 1) (mostStates + 1) (omega (arith, h .blocks .proper .few-states)) in
       record {
-        ready = h;
+        write-requires = h;
         low = rw (m .leads, opening-leads M w (h .blocks)) (following-below (M .n) (M .start) (h .blocks .proper .starts));
         room = omega (arith, m .writes .ends, opening-length M w (h .blocks));
       }

@@ -13,7 +13,7 @@ use Rattle.sheet.specs.declared.check.Values.{Values}
 use Rattle.sheet.specs.declared.reader.Needs.{Needs}
 use Rattle.sheet.specs.Check.{refusal_with_if_, firstCause, first, refusedOr, unlessRefused}
 use Rattle.sheet.specs.Values.{refusalValues, Returns}
-use Rattle.sheet.specs.Reader.{the, content}
+use Rattle.sheet.specs.Reader.{recordOf, content}
 use Rattle.sheet.specs.Writing.{written}
 use Rattle.machine.specs.Machine.{Mealy, Separates}
 use Rattle.machine.specs.Causes.{cause5, machineIn, machineCauses, loadCauses}
@@ -75,7 +75,7 @@ StronglyConnected M = (a b : ℕ) → a < M .n → b < M .n → (u : List ℕ) �
 -- there is room. It succeeds exactly then: built-buildable and buildable-built, in Building.Service
 pub record Buildable (room : ℕ) (s : List ℕ) : Type 0 where
   pub machine : firstCause (machineCauses buildNeeds s) ≡ Clear
-  pub word : cause5 (machineIn s .k) (the 2 s) (content 2 s) ≡ Clear
+  pub word : cause5 (machineIn s .k) (recordOf 2 s) (content 2 s) ≡ Clear
   pub separates : Separates (machineIn s) (content 2 s)
   pub connected : StronglyConnected (machineIn s)
   pub fits : length (sequence (machineIn s) (content 2 s)) ≤ room

@@ -25,7 +25,7 @@ abbrev pub mostTests : ℕ
 mostTests = mostStates * mostStateTests
 
 -- what writing needs of a machine, a word and a table: every T(s) leads on, and the table has all transfers
-pub record Ready (M : Mealy) (w rows : List ℕ) : Type 0 where
+pub record WriteRequires (M : Mealy) (w rows : List ℕ) : Type 0 where
   pub blocks : Blocks M w
   pub few : length w ≤ mostWord
   pub filled : Filled M w (M .n) rows
@@ -42,7 +42,7 @@ pub record Moves (M : Mealy) (before : List ℕ) (at state : ℕ) (xs after : Li
   pub leads : p .state ≡ run M state xs
 
 -- what writing a block asks: a row of the table, and that the block still belongs to a sequence within the limit
-pub record BlockAsked (w rows : List ℕ) (s at : ℕ) : Type 0 where
+pub record BlockRequires (w rows : List ℕ) (s at : ℕ) : Type 0 where
   pub few : length w ≤ mostWord
   pub long : length rows ≡ tableSize
   pub state : s < mostStates
@@ -50,7 +50,7 @@ pub record BlockAsked (w rows : List ℕ) (s at : ℕ) : Type 0 where
   pub room : at + mostBlock ≤ mostSequence
 
 -- what writing a part of at most so many commands asks
-pub record Asked (M : Mealy) (w rows : List ℕ) (at state most : ℕ) : Type 0 where
-  pub ready : Ready M w rows
+pub record PartRequires (M : Mealy) (w rows : List ℕ) (at state most : ℕ) : Type 0 where
+  pub write-requires : WriteRequires M w rows
   pub low : state < M .n
   pub room : at + most ≤ mostSequence

@@ -13,7 +13,7 @@ ghost use Rattle.build.specs.Sequence.{stateTests};
 ghost use Rattle.build.specs.Sequence.{tests as testsOf};
 ghost use Rattle.build.specs.Sequence.{opening as openingOf};
 ghost use Rattle.build.specs.Table.{row};
-ghost use Rattle.build.specs.Writing.{mostApproach, mostTest, mostStateTests, mostTests, Ready, Writes, Moves, BlockAsked, Asked};
+ghost use Rattle.build.specs.Writing.{mostApproach, mostTest, mostStateTests, mostTests, WriteRequires, Writes, Moves, BlockRequires, PartRequires};
 use crate::table::ROW;
 use crate::table::following;
 use machine::Machine;
@@ -37,7 +37,7 @@ fn put(xs: &[u8], at: usize, buffer: &mut [u8]) -> usize
 
 // T(s): the word, then the transfer of its row.
 fn block(w: &[u8], rows: &[u8], s: u8, at: usize, buffer: &mut [u8]) -> usize
-    requires { ⌜ BlockAsked (now w) (now rows) s at ⌝ }
+    requires { ⌜ BlockRequires (now w) (now rows) s at ⌝ }
     ensures { λ r. ⌜ Writes (now (buffer .entry)) at (now (w .entry) ++ row (now (rows .entry)) s) (now (buffer .exit)) r ⌝ }
 {
     let middle = put(w, at, buffer);
@@ -49,7 +49,7 @@ fn block(w: &[u8], rows: &[u8], s: u8, at: usize, buffer: &mut [u8]) -> usize
 
 // The block of the present state, as long as the machine is not in state s.
 fn approach(m: Machine, w: &[u8], rows: &[u8], from: Position, s: u8, buffer: &mut [u8]) -> usize
-    requires { ⌜ Asked (meaning m) (now w) (now rows) (from .at) (from .state) mostApproach ⌝ }
+    requires { ⌜ PartRequires (meaning m) (now w) (now rows) (from .at) (from .state) mostApproach ⌝ }
     requires { ⌜ s < meaning m .n ⌝ }
     ensures { λ r. ⌜ Writes (now (buffer .entry)) (from .at) (approachOf (meaning m) (now (w .entry)) (meaning m .n) (from .state) s) (now (buffer .exit)) r ⌝ }
 {
@@ -72,7 +72,7 @@ fn test(
     c: u8,
     buffer: &mut [u8],
 ) -> Position
-    requires { ⌜ Asked (meaning m) (now w) (now rows) (from .at) (from .state) mostTest ⌝ }
+    requires { ⌜ PartRequires (meaning m) (now w) (now rows) (from .at) (from .state) mostTest ⌝ }
     requires { ⌜ s < meaning m .n ⌝ }
     requires { ⌜ c < meaning m .k ⌝ }
     ensures { λ r. ⌜ Moves (meaning m) (now (buffer .entry)) (from .at) (from .state) (testOf (meaning m) (now (w .entry)) (from .state) s c) (now (buffer .exit)) r ⌝ }
@@ -96,7 +96,7 @@ fn state_tests(
     s: u8,
     buffer: &mut [u8],
 ) -> Position
-    requires { ⌜ Asked (meaning m) (now w) (now rows) (from .at) (from .state) mostStateTests ⌝ }
+    requires { ⌜ PartRequires (meaning m) (now w) (now rows) (from .at) (from .state) mostStateTests ⌝ }
     requires { ⌜ s < meaning m .n ⌝ }
     ensures { λ r. ⌜ Moves (meaning m) (now (buffer .entry)) (from .at) (from .state) (stateTests (meaning m) (now (w .entry)) (from .state) s (meaning m .k)) (now (buffer .exit)) r ⌝ }
 {
@@ -111,7 +111,7 @@ fn state_tests(
 
 // The tests of all states.
 fn tests(m: Machine, w: &[u8], rows: &[u8], from: Position, buffer: &mut [u8]) -> Position
-    requires { ⌜ Asked (meaning m) (now w) (now rows) (from .at) (from .state) mostTests ⌝ }
+    requires { ⌜ PartRequires (meaning m) (now w) (now rows) (from .at) (from .state) mostTests ⌝ }
     ensures { λ r. ⌜ Moves (meaning m) (now (buffer .entry)) (from .at) (from .state) (testsOf (meaning m) (now (w .entry)) (from .state) (meaning m .n)) (now (buffer .exit)) r ⌝ }
 {
     let mut p = from;
@@ -126,7 +126,7 @@ fn tests(m: Machine, w: &[u8], rows: &[u8], from: Position, buffer: &mut [u8]) -
 // The opening walk: T of the start and of each next state, n + 1 in all, so that the last is T of
 // the start again.
 fn opening(m: Machine, w: &[u8], rows: &[u8], buffer: &mut [u8]) -> Position
-    requires { ⌜ Ready (meaning m) (now w) (now rows) ⌝ }
+    requires { ⌜ WriteRequires (meaning m) (now w) (now rows) ⌝ }
     ensures { λ r. ⌜ Moves (meaning m) (now (buffer .entry)) 0 (meaning m .start) (openingOf (meaning m) (now (w .entry))) (now (buffer .exit)) r ⌝ }
 {
     let mut at = 0;
@@ -142,7 +142,7 @@ fn opening(m: Machine, w: &[u8], rows: &[u8], buffer: &mut [u8]) -> Position
 
 // The whole sequence; gives its length.
 pub fn write_sequence(m: Machine, w: &[u8], rows: &[u8], buffer: &mut [u8]) -> usize
-    requires { ⌜ Ready (meaning m) (now w) (now rows) ⌝ }
+    requires { ⌜ WriteRequires (meaning m) (now w) (now rows) ⌝ }
     ensures { λ r. ⌜ Writes (now (buffer .entry)) 0 (sequence (meaning m) (now (w .entry))) (now (buffer .exit)) r ⌝ }
 {
     let p = opening(m, w, rows, buffer);

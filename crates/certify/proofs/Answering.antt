@@ -18,17 +18,17 @@ use Rattle.machine.specs.Causes.{machineIn}
 use Rattle.machine.specs.Numbers.{digits-one}
 use Rattle.certify.specs.declared.answer.Answer.{Answer}
 use Rattle.certify.specs.declared.answer.Answer.the-variants.{Refused as RefusedAnswer}
-use Rattle.certify.specs.Recognition.{Stands}
+use Rattle.certify.specs.Recognition.{OccursAt}
 use Rattle.certify.specs.Recognition.Laws.{closure-more}
-use Rattle.certify.specs.Marks.{marksBy, count, stands, marks}
+use Rattle.certify.specs.Marks.{marksBy, count, occursAt, marks}
 use Rattle.certify.specs.Marks.Laws.{marks-by-length, marks-by-bits, marks-by-one, marks-by-true}
-use Rattle.certify.specs.Marks.Agreement.{stands-true, true-stands, marks-unique, marks-length}
+use Rattle.certify.specs.Marks.Agreement.{occurs-true, true-occurs, marks-unique, marks-length}
 use Rattle.certify.specs.Certification.{certifyCauses, verified, openCause, answerOf, outcome, Certifies}
-use Rattle.certify.specs.Certification.Laws.{verified-shown, shown-verified, outcome-of, certification-refused, certification-clear, after-refused, after-clear, kept-is}
+use Rattle.certify.specs.Certification.Laws.{verified-by, by-verified, outcome-of, certification-refused, certification-clear, after-refused, after-clear, kept-is}
 use Rattle.certify.specs.Certification.Contract.{certifies}
 use Rattle.certify.specs.Certification.Program.{openBy, open-known}
 use Rattle.certify.specs.Folding.{MarkedIn}
-use Rattle.certify.specs.Sweep.{placeEntry, Closable, Closed}
+use Rattle.certify.specs.Sweep.{placeEntry, CloseRequires, Closed}
 
 -- the entries of the program's table
 pub entries-tabled : (m : Machine) → m .n * m .k ≡ meaning m .n * meaning m .k
@@ -38,37 +38,37 @@ pub few-tabled : (m : Machine) → Proper (meaning m) → m .n * m .k ≤ mostEn
 few-tabled m h = omega (arith, entries-tabled m, proper-entries (meaning m) h)
 
 -- ---- rule 1's places as marks
-module _ (w xs : List ℕ) {given : List ℕ} (e : given ≡ marksBy xs (stands w xs)) where
-  marked-stands : (p : ℕ) → MarkedIn given p → Stands w xs p
-  marked-stands p m = stands-true w xs p (marks-by-true xs (stands w xs) p (rw (← e) m))
+module _ (w xs : List ℕ) {given : List ℕ} (e : given ≡ marksBy xs (occursAt w xs)) where
+  marked-occurs : (p : ℕ) → MarkedIn given p → OccursAt w xs p
+  marked-occurs p m = occurs-true w xs p (marks-by-true xs (occursAt w xs) p (rw (← e) m))
 
-  stands-marked : (p : ℕ) → Stands w xs p → MarkedIn given p
-  stands-marked p h = rw e (marks-by-one xs (stands w xs) p (omega (arith, h .inside)) (true-stands w xs p h))
+  occurs-marked : (p : ℕ) → OccursAt w xs p → MarkedIn given p
+  occurs-marked p h = rw e (marks-by-one xs (occursAt w xs) p (omega (arith, h .inside)) (true-occurs w xs p h))
 
-  pub word-closable : (M : Mealy) → Proper M → Commands mostSequence (M .k) xs → Closable M xs given
-  word-closable M p c = record {
+  pub word-close-required : (M : Mealy) → Proper M → Commands mostSequence (M .k) xs → CloseRequires M xs given
+  word-close-required M p c = record {
     proper = p;
     commands = c;
-    long = ap length e ∙ marks-by-length xs (stands w xs);
-    bits = rw e (marks-by-bits xs (stands w xs));
+    long = ap length e ∙ marks-by-length xs (occursAt w xs);
+    bits = rw e (marks-by-bits xs (occursAt w xs));
   }
 
 -- ---- the outcome
 module _ (M : Mealy) (w xs : List ℕ) {given ms known : List ℕ} (proper : Proper M) (low : Commands mostSequence (M .k) xs)
-    (e : given ≡ marksBy xs (stands w xs)) (h : Closed M xs given ms known) where
+    (e : given ≡ marksBy xs (occursAt w xs)) (h : Closed M xs given ms known) where
   pub marks-are : ms ≡ marks M w xs
   marks-are = marks-unique M w xs ms (record {
     long = h .exact .long;
     bits = h .exact .bits;
-    sound = λ p m. closure-more (marked-stands w xs e) (h .exact .sound p m);
-    complete = λ p l c. h .exact .complete p l (closure-more (stands-marked w xs e) c);
+    sound = λ p m. closure-more (marked-occurs w xs e) (h .exact .sound p m);
+    complete = λ p l c. h .exact .complete p l (closure-more (occurs-marked w xs e) c);
   })
 
   known-verified : (s c : ℕ) → s < M .n → c < M .k → (getD known (s * M .k + c) 0 ≡ 0 → ⊥) → verified M xs ms s c ≡ true
   known-verified s c sl cl n =
       let v = h .knows (s * M .k + c) n in
       let one = digits-one (M .k) _ _ s c (low .low (v .place) (v .inside)) cl (v .entry) in
-      shown-verified M xs ms s c (record {
+      by-verified M xs ms s c (record {
         place = v .place;
         inside = v .inside;
         state = one .0;
@@ -79,7 +79,7 @@ module _ (M : Mealy) (w xs : List ℕ) {given ms known : List ℕ} (proper : Pro
 
   verified-known : (s c : ℕ) → s < M .n → c < M .k → verified M xs ms s c ≡ true → getD known (s * M .k + c) 0 ≡ 0 → ⊥
   verified-known s c sl cl t z =
-      let v = verified-shown M xs ms s c t in
+      let v = verified-by M xs ms s c t in
       let one : placeEntry M xs (v .place) ≡ s * M .k + c = ap₂ (λ (x y : ℕ). x * M .k + y) (v .state) (v .command) in
       h .all (v .place) (v .inside) (v .before) (v .after) (rw one z)
 

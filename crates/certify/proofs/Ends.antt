@@ -13,9 +13,9 @@ use Rattle.machine.specs.Limits.{mostSequence}
 use Rattle.machine.specs.Machine.{Mealy, stateAt}
 use Rattle.machine.specs.Machine.Laws.{state-start, state-next}
 use Rattle.certify.specs.Marks.Laws.{marked-inside}
-use Rattle.certify.specs.Marks.Agreement.{Shown}
+use Rattle.certify.specs.Marks.Agreement.{ByRule2}
 use Rattle.certify.specs.Folding.{same, byteStates}
-use Rattle.certify.specs.Sweep.{placeEntry, Merged, Sweepable, Swept}
+use Rattle.certify.specs.Sweep.{placeEntry, Merged, SweepRequires, Swept}
 use Rattle.certify.proofs.Growing.{marking-same}
 use Rattle.certify.proofs.Marking.{bit-one}
 use Rattle.certify.proofs.Represented.{begin, Walked, folded-closed}
@@ -27,7 +27,7 @@ commands-at : (xs : List ℕ) (p q m : ℕ) → take m (drop p xs) ≡ take m (d
 commands-at xs p q m e i l =
     sym (getD-take m (drop p xs) i 0 l ∙ getD-drop p xs i 0) ∙ ap (λ (m : List ℕ). getD m i 0) e ∙ getD-take m (drop q xs) i 0 l ∙ getD-drop q xs i 0
 
-module _ {M : Mealy} {apply : Bool} {xs given known₀ : List ℕ} (h : Sweepable M apply xs given known₀) where
+module _ {M : Mealy} {apply : Bool} {xs given known₀ : List ℕ} (h : SweepRequires M apply xs given known₀) where
   -- before place 0
   pub begins : {s : ℕ} → s ≡ M .start
       → Head M apply xs given known₀ given known₀ (replicate mostSequence 0) (replicate byteStates 0) 0 0 s false
@@ -35,7 +35,7 @@ module _ {M : Mealy} {apply : Bool} {xs given known₀ : List ℕ} (h : Sweepabl
     place = omega arith;
     state = se ∙ sym (state-start M xs);
     learning = record {
-      marking = marking-same (h .closable .long) (h .closable .bits);
+      marking = marking-same (h .close-requires .long) (h .close-requires .bits);
       table = h .table;
       knows = h .knows;
       keeps = λ e q. q;
@@ -82,14 +82,14 @@ module _ {M : Mealy} {apply : Bool} {xs given known₀ : List ℕ} (h : Sweepabl
           let one : placeEntry M xs a ≡ placeEntry M xs b = ap₂ (λ (x y : ℕ). x * M .k + y) e c in
           let known-a = k .learnt a (omega arith) ma m in
           ⊎-elim (λ (o : apply ≡ true).
-          bit-one (h .closable .bits (b + 1)) (k .applied b (omega arith) o mb (λ z. known-a (rw one z))))
+          bit-one (h .close-requires .bits (b + 1)) (k .applied b (omega arith) o mb (λ z. known-a (rw one z))))
           (λ (o : apply ≡ false). absurd (known-a (h .fresh o (placeEntry M xs a))))
           (true-or-false apply)
 
-      closed : (r : ℕ) → r ≤ length xs → Shown xs (stateAt M xs) given r → getD given r 0 ≡ 1
+      closed : (r : ℕ) → r ≤ length xs → ByRule2 xs (stateAt M xs) given r → getD given r 0 ≡ 1
       closed r l s =
-          let pl : s .p + s .m ≤ length xs = omega (arith, marked-inside given (s .p + s .m) (s .end-marked), h .closable .long) in
-          rw (s .at) (folded-closed xs (stateAt M xs) given alt root (h .closable .bits) walked single follows (s .p) (s .q) (s .m) (s .p-marked) (s .q-marked)
+          let pl : s .p + s .m ≤ length xs = omega (arith, marked-inside given (s .p + s .m) (s .end-marked), h .close-requires .long) in
+          rw (s .at) (folded-closed xs (stateAt M xs) given alt root (h .close-requires .bits) walked single follows (s .p) (s .q) (s .m) (s .p-marked) (s .q-marked)
           (s .states) (s .end-marked) pl (omega (arith, s .at)) (commands-at xs (s .p) (s .q) (s .m) (s .commands)))
 
     pub sweeps : Swept M xs given known₀ ms′ known changed′

@@ -13,7 +13,7 @@ use Rattle.machine.specs.Machine.{Mealy, Commands}
 use Rattle.machine.specs.Numbers.{digits-one}
 use Rattle.certify.specs.Marks.{Bits}
 use Rattle.certify.specs.Folding.{From, Marking, Risen, Paired, tops, step}
-use Rattle.certify.specs.Sweep.{placeEntry, Witness, Knows, Sweepable, Learnt}
+use Rattle.certify.specs.Sweep.{placeEntry, Witness, Knows, SweepRequires, Learnt}
 use Rattle.certify.proofs.Marking.{bit-one, set-cases, set-keeps, marking-more, was-zero}
 use Rattle.certify.proofs.Paired.{paired-carries}
 
@@ -35,7 +35,7 @@ applied {M} {xs} {given} commands t tl ft h =
     let pair : Paired M xs given (h .place + 1) (t + 1) = step (h .place) t (tops (h .before) ft (e .0)) (h .inside) tl (e .1) refl refl in
     paired-carries pair (h .after)
 
-module _ {M : Mealy} {apply : Bool} {xs given known₀ : List ℕ} (asked : Sweepable M apply xs given known₀) where
+module _ {M : Mealy} {apply : Bool} {xs given known₀ : List ℕ} (required : SweepRequires M apply xs given known₀) where
   module _ {ms known : List ℕ} {e t : ℕ} {changed : Bool} (tl : t < length xs) (el : e < mostEntries) (at : placeEntry M xs t ≡ e)
       (h : Learning M xs given known₀ ms known changed) where
     -- a new entry
@@ -61,7 +61,7 @@ module _ {M : Mealy} {apply : Bool} {xs given known₀ : List ℕ} (asked : Swee
               ⊎-elim (λ (q : (x ≡ e) × (getD (set known e 1) x 0 ≡ 1)). omega (arith, q .1))
               (λ (q : (x ≡ e → ⊥) × (getD (set known e 1) x 0 ≡ getD known x 0)). omega (arith, q .1, h .known-bits x))
               (set-cases known e 1 x inside);
-          risen = λ q. inr (record { place = e; was = was-zero known₀ known (asked .known-bits) (h .keeps) e z; is = getD-set-same known e 1 0 inside });
+          risen = λ q. inr (record { place = e; was = was-zero known₀ known (required .known-bits) (h .keeps) e z; is = getD-set-same known e 1 0 inside });
         }
 
     -- a known entry applied
@@ -70,7 +70,7 @@ module _ {M : Mealy} {apply : Bool} {xs given known₀ : List ℕ} (asked : Swee
         let g = h .marking in
         let ft = g .sound t (bit-one (g .bits t) n) in
         let known-at : Witness M xs given (placeEntry M xs t) = rw at (h .knows e y) in
-        let fn = applied (asked .closable .commands) t tl ft known-at in
+        let fn = applied (required .close-requires .commands) t tl ft known-at in
         record {
           marking = marking-more (omega arith) fn g;
           table = h .table;
@@ -79,7 +79,7 @@ module _ {M : Mealy} {apply : Bool} {xs given known₀ : List ℕ} (asked : Swee
           known-bits = h .known-bits;
           risen = λ q. inl (record {
             place = t + 1;
-            was = was-zero given ms (asked .closable .bits) (g .above) (t + 1) z;
+            was = was-zero given ms (required .close-requires .bits) (g .above) (t + 1) z;
             is = getD-set-same ms (t + 1) 1 0 (omega (arith, g .long));
           });
         }

@@ -12,7 +12,7 @@ use Rattle.certify.specs.declared.propagation.Step.{Step}
 use Rattle.certify.specs.declared.propagation.Step.the-variants.{Stop, On}
 use Rattle.certify.specs.Recognition.{rule1}
 use Rattle.certify.specs.Folding.{From, Marking, Paired, tops, step}
-use Rattle.certify.specs.Propagation.{Restarted, Equalised, Followed, Propagable}
+use Rattle.certify.specs.Propagation.{Restarted, Equalised, Followed, PropagateRequires}
 use Rattle.certify.proofs.Paired.{paired-sym, paired-trans, paired-state, paired-past}
 use Rattle.certify.proofs.Growing.{marking-same}
 use Rattle.certify.proofs.Marking.{marking-more, both-in}
@@ -40,16 +40,16 @@ module _ {M : Mealy} {xs g : List ℕ} where
   goes-on {a} {r} {i} {s} h e r′ i′ s′ d =
       let er : r′ ≡ r = cc in let ei : i′ ≡ i = cc in let es : s′ ≡ s = cc in rw (er, ei, es) h
 
-  module _ {next alt root : List ℕ} {k p s₀ : ℕ} (asked : Propagable M xs g next alt root k p s₀) where
+  module _ {next alt root : List ℕ} {k p s₀ : ℕ} (required : PropagateRequires M xs g next alt root k p s₀) where
     -- from a place in the closure
     restarts : {i s : ℕ} {a : Step} → From M xs g i → s ≡ stateAt M xs i → Restarted root i s a → Continues M xs g a
     restarts f e (Restarted.none z) = stopped z
     restarts {i} {s} f e (Restarted.from r h d) =
-        let w = asked .folds .roots s r h in goes-on (record { pair = tops (w .1) f (w .2 ∙ e); state = e }) d
+        let w = required .folds .roots s r h in goes-on (record { pair = tops (w .1) f (w .2 ∙ e); state = e }) d
 
     -- before the first command
     pub propagation-starts : {a : Step} → length g ≡ length xs + 1 → Restarted root p s₀ a → Propagating M xs g g a
-    propagation-starts l h = record { marking = marking-same l (asked .bits); continues = restarts (rule1 (asked .marked)) (asked .state) h }
+    propagation-starts l h = record { marking = marking-same l (required .bits); continues = restarts (rule1 (required .marked)) (required .state) h }
 
     -- two paired places get equal marks
     equalises : {ms ms′ : List ℕ} {r i s : ℕ} {a : Step} → r ≤ length xs → i ≤ length xs → Marking M xs g ms → Representative M xs g r i s
@@ -70,10 +70,10 @@ module _ {M : Mealy} {xs g : List ℕ} where
     propagation-on {r = r} {i = i} {s = s} h d (Followed.steps v s′ il vl path same e q) =
         let t = h .continues r i s d in
         let pair : Paired M xs g v i =
-        paired-trans (paired-sym (paired-past (asked .folds .links) path)) (t .pair) in
+        paired-trans (paired-sym (paired-past (required .folds .links) path)) (t .pair) in
         equalises (omega arith) (omega arith) (h .marking)
         (record {
           pair = step v i pair vl il same refl refl;
-          state = e ∙ sym (asked .next-table .states s _) ∙ ap (λ (x : ℕ). M .next x (getD xs i 0)) (t .state) ∙ sym (state-next M xs i il);
+          state = e ∙ sym (required .next-table .states s _) ∙ ap (λ (x : ℕ). M .next x (getD xs i 0)) (t .state) ∙ sym (state-next M xs i il);
         })
         q

@@ -22,16 +22,16 @@ module _ {M : Mealy} {xs given ms known : List ℕ} {apply changed : Bool} {entr
   -- the entry of every place is known
   place-known : (i : ℕ) → i < length xs → getD known (placeEntry M xs i) 0 ≡ 0 → ⊥
   place-known i l =
-      let low = h .asked .commands .low in
-      full (placeEntry M xs i) (omega (arith, count, digits-lt {q = stateAt M xs i} {m = M .n} {r = getD xs i 0} {c = M .k} (state-stays M (h .asked .proper) xs low i) (low i l)))
+      let low = h .required .commands .low in
+      full (placeEntry M xs i) (omega (arith, count, digits-lt {q = stateAt M xs i} {m = M .n} {r = getD xs i 0} {c = M .k} (state-stays M (h .required .proper) xs low i) (low i l)))
 
   -- from a place of the closure on, every place is in it
-  onwards : (q d : ℕ) → q + d ≤ length xs → From M xs given q → From M xs given (q + d)
-  onwards q zero l f = rw add-zero f
-  onwards q (suc d) l f =
+  closure-behind : (q d : ℕ) → q + d ≤ length xs → From M xs given q → From M xs given (q + d)
+  closure-behind q zero l f = rw add-zero f
+  closure-behind q (suc d) l f =
       let next : q + suc d ≡ q + d + 1 = omega arith in
       let inside : q + d < length xs = omega arith in
-      rw next (applied (h .asked .commands) (q + d) inside (onwards q d (omega arith) f) (h .knows _ (place-known (q + d) inside)))
+      rw next (applied (h .required .commands) (q + d) inside (closure-behind q d (omega arith) f) (h .knows _ (place-known (q + d) inside)))
 
   pub known-closed : {ms′ : List ℕ} → Behind ms ms′ → Closed M xs given ms′ known
   known-closed {ms′} b = record {
@@ -42,7 +42,7 @@ module _ {M : Mealy} {xs given ms known : List ℕ} {apply changed : Bool} {entr
           let f = b .from p e in
           let inside : p ≤ length xs = omega (arith, marked-inside ms′ p e, b .long, h .marking .long) in
           let at : f .0 + (p - f .0) ≡ p = omega (arith, f .1) in
-          rw (← at) (onwards (f .0) (p - f .0) (omega arith) (h .marking .sound (f .0) (f .2)));
+          rw (← at) (closure-behind (f .0) (p - f .0) (omega arith) (h .marking .sound (f .0) (f .2)));
       complete = λ p l c.
           let f = closure-first c in
           b .behind p (f .0) (f .1) (omega (arith, h .marking .long)) (h .marking .above (f .0) (f .2));

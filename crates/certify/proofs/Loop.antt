@@ -11,7 +11,7 @@ use Rattle.machine.specs.declared.machine.Machine.{Machine}
 use Rattle.machine.specs.Machine.{Mealy, meaning}
 use Rattle.machine.specs.Machine.Laws.{meaning-commands, tabled-next, state-next, state-stays, proper-entry}
 use Rattle.certify.specs.Folding.{NextTable, Rising, byteStates}
-use Rattle.certify.specs.Sweep.{placeEntry, Mergeable, Merged, Learnt, Onward, Sweepable, Swept}
+use Rattle.certify.specs.Sweep.{placeEntry, MergeRequires, Merged, Learnt, NextRepresented, SweepRequires, Swept}
 use Rattle.certify.proofs.Ends.{begins, sweeps}
 use Rattle.certify.proofs.Entries.{learning}
 use Rattle.certify.proofs.Growing.{paired-more, folds-more}
@@ -26,12 +26,12 @@ next-tabled m = record {
 }
 
 pub record Running (M : Mealy) (apply : Bool) (xs given known₀ ms known alt root : List ℕ) (cur t s : ℕ) (changed : Bool) : Type 0 where
-  pub asked : Sweepable M apply xs given known₀
+  pub required : SweepRequires M apply xs given known₀
   pub head : Head M apply xs given known₀ ms known alt root cur t s changed
 
-pub starts : {M : Mealy} {apply : Bool} {xs given known₀ : List ℕ} {s : ℕ} → Sweepable M apply xs given known₀ → s ≡ M .start
+pub starts : {M : Mealy} {apply : Bool} {xs given known₀ : List ℕ} {s : ℕ} → SweepRequires M apply xs given known₀ → s ≡ M .start
     → Running M apply xs given known₀ given known₀ (replicate mostSequence 0) (replicate byteStates 0) 0 0 s false
-starts h se = record { asked = h; head = begins h se }
+starts h se = record { required = h; head = begins h se }
 
 module _ {M : Mealy} {apply : Bool} {xs given known₀ ms known alt root : List ℕ} {cur t s : ℕ} {changed : Bool}
     (h : Running M apply xs given known₀ ms known alt root cur t s changed) where
@@ -42,8 +42,8 @@ module _ {M : Mealy} {apply : Bool} {xs given known₀ ms known alt root : List 
   pub running-rising : Rising xs alt
   running-rising = rising M xs given (h .head .place) (h .head .linked)
 
-  pub running-mergeable : {k : ℕ} {next : List ℕ} → NextTable M k next → Mergeable M xs ms next alt root k s cur t
-  running-mergeable f =
+  pub running-merge-required : {k : ℕ} {next : List ℕ} → NextTable M k next → MergeRequires M xs ms next alt root k s cur t
+  running-merge-required f =
       let above = h .head .learning .marking .above in
       record {
         next-table = f;
@@ -57,38 +57,38 @@ module _ {M : Mealy} {apply : Bool} {xs given known₀ ms known alt root : List 
   running-roots x r e = omega (arith, h .head .topped .tops x r e .0, h .head .place)
 
   pub running-ends : {ms′ : List ℕ} {changed′ : Bool} → length xs ≤ t → Merged M xs ms cur t changed ms′ changed′ → Swept M xs given known₀ ms′ known changed′
-  running-ends l merged = sweeps (h .asked) (h .head) l merged
+  running-ends l merged = sweeps (h .required) (h .head) l merged
 
   module _ (tl : t < length xs) where
     -- the state of a place is one of the machine's, and its entry one of the table's
     pub running-state : s < M .n
-    running-state = rw (h .head .state) (state-stays M (h .asked .closable .proper) xs (h .asked .closable .commands .low) t)
+    running-state = rw (h .head .state) (state-stays M (h .required .close-requires .proper) xs (h .required .close-requires .commands .low) t)
 
     pub running-entry : {k e : ℕ} → M .k ≡ k → e ≡ s * k + getD xs t 0 → e < mostEntries
     running-entry {k} {e} ke ee =
         let q : e ≡ s * M .k + getD xs t 0 = rw ke ee in
-        omega (arith, proper-entry M (h .asked .closable .proper) s (getD xs t 0) running-state (h .asked .closable .commands .low t tl))
+        omega (arith, proper-entry M (h .required .close-requires .proper) s (getD xs t 0) running-state (h .required .close-requires .commands .low t tl))
 
     entry-here : {k e : ℕ} → M .k ≡ k → e ≡ s * k + getD xs t 0 → placeEntry M xs t ≡ e
     entry-here ke ee = rw (← h .head .state, ke) (sym ee)
 
     pub merged-long : {ms₁ : List ℕ} {changed₁ : Bool} → Merged M xs ms cur t changed ms₁ changed₁ → length ms₁ ≡ length xs + 1
-    merged-long merged = merged-learning (h .asked) (h .head .learning) merged .marking .long
+    merged-long merged = merged-learning (h .required) (h .head .learning) merged .marking .long
 
     module _ {k e : ℕ} {next : List ℕ} (f : NextTable M k next) (ee : e ≡ s * k + getD xs t 0) {ms₁ ms₂ known₂ : List ℕ} {changed₁ changed₂ : Bool}
         (merged : Merged M xs ms cur t changed ms₁ changed₁) (learnt : Learnt apply ms₁ known e t changed₁ ms₂ known₂ changed₂) where
       pub learnt-long : length ms₂ ≡ length xs + 1
       learnt-long =
-          learning (h .asked) tl (running-entry (f .commands) ee) (entry-here (f .commands) ee)
-          (merged-learning (h .asked) (h .head .learning) merged) learnt .marking .long
+          learning (h .required) tl (running-entry (f .commands) ee) (entry-here (f .commands) ee)
+          (merged-learning (h .required) (h .head .learning) merged) learnt .marking .long
 
-      pub turns : {alt′ root′ : List ℕ} {cur′ s′ : ℕ} → Onward xs ms₂ alt root s t cur alt′ root′ cur′ → s′ ≡ getD next e 0
+      pub turns : {alt′ root′ : List ℕ} {cur′ s′ : ℕ} → NextRepresented xs ms₂ alt root s t cur alt′ root′ cur′ → s′ ≡ getD next e 0
           → Running M apply xs given known₀ ms₂ known₂ alt′ root′ cur′ (t + 1) s′ changed₂
       turns on se =
-          let low : s < byteStates = omega (arith, running-state, h .asked .closable .proper .few-states) in
+          let low : s < byteStates = omega (arith, running-state, h .required .close-requires .proper .few-states) in
           let there = se ∙ ap (λ (x : ℕ). getD next x 0) ee ∙ sym (f .states s (getD xs t 0)) ∙ ap (λ (x : ℕ). M .next x (getD xs t 0)) (h .head .state) ∙ sym (state-next M xs t tl) in
           record {
-            asked = h .asked;
-            head = turn (h .asked) (h .head) tl low
+            required = h .required;
+            head = turn (h .required) (h .head) tl low
                 (entry-here (f .commands) ee) merged learnt on (running-entry (f .commands) ee) there;
           }

@@ -14,9 +14,9 @@ use Rattle.machine.specs.Machine.{Mealy, stateAt}
 use Rattle.certify.specs.Recognition.Laws.{closure-in, closure-more}
 use Rattle.certify.specs.Marks.{mark, Bits, count}
 use Rattle.certify.specs.Marks.Laws.{count-most, count-below, count-same}
-use Rattle.certify.specs.Marks.Agreement.{Shown, closed-complete}
+use Rattle.certify.specs.Marks.Agreement.{ByRule2, closed-complete}
 use Rattle.certify.specs.Folding.{MarkedIn, Marking, Risen}
-use Rattle.certify.specs.Sweep.{placeEntry, Knows, Closable, Sweepable, Swept, Closed}
+use Rattle.certify.specs.Sweep.{placeEntry, Knows, CloseRequires, SweepRequires, Swept, Closed}
 use Rattle.certify.proofs.Growing.{marking-flat, marking-same}
 use Rattle.certify.proofs.Tables.{zeros}
 
@@ -29,18 +29,18 @@ count-rises a b l h r =
 
 -- what holds between two sweeps
 pub record Settling (M : Mealy) (xs given ms known : List ℕ) (apply changed : Bool) : Type 0 where
-  pub asked : Closable M xs given
+  pub required : CloseRequires M xs given
   pub marking : Marking M xs given ms
   pub table : length known ≡ mostEntries
   pub known-bits : Bits known
   pub knows : Knows M xs given known
   pub fresh : apply ≡ false → (e : ℕ) → getD known e 0 ≡ 0
-  pub closed : changed ≡ false → (r : ℕ) → r ≤ length xs → Shown xs (stateAt M xs) ms r → getD ms r 0 ≡ 1
+  pub closed : changed ≡ false → (r : ℕ) → r ≤ length xs → ByRule2 xs (stateAt M xs) ms r → getD ms r 0 ≡ 1
   pub all : changed ≡ false → (i : ℕ) → i < length xs → getD ms i 0 ≡ 1 → getD ms (i + 1) 0 ≡ 1 → getD known (placeEntry M xs i) 0 ≡ 0 → ⊥
 
-pub settling-starts : {M : Mealy} {xs given : List ℕ} → Closable M xs given → Settling M xs given given (replicate mostEntries 0) false true
+pub settling-starts : {M : Mealy} {xs given : List ℕ} → CloseRequires M xs given → Settling M xs given given (replicate mostEntries 0) false true
 settling-starts h = record {
-  asked = h;
+  required = h;
   marking = marking-same (h .long) (h .bits);
   table = length-replicate mostEntries zero;
   known-bits = λ e. omega (arith, zeros mostEntries e);
@@ -62,9 +62,9 @@ module _ {M : Mealy} {xs given ms known : List ℕ} {apply changed : Bool} (h : 
         after = closure-more (h .marking .above) (w .after);
       }
 
-  pub settling-sweepable : Sweepable M apply xs ms known
-  settling-sweepable = record {
-    closable = record { proper = h .asked .proper; commands = h .asked .commands; long = h .marking .long; bits = h .marking .bits };
+  pub settling-sweep-required : SweepRequires M apply xs ms known
+  settling-sweep-required = record {
+    close-requires = record { proper = h .required .proper; commands = h .required .commands; long = h .marking .long; bits = h .marking .bits };
     table = h .table;
     knows = knows-more;
     known-bits = h .known-bits;
@@ -85,7 +85,7 @@ module _ {M : Mealy} {xs given ms known : List ℕ} {apply changed : Bool} (h : 
 
     pub settling-on : Settling M xs given ms′ known′ true changed′
     settling-on = record {
-      asked = h .asked;
+      required = h .required;
       marking = marking-flat (h .marking) (s .marking);
       table = s .table;
       known-bits = s .known-bits;

@@ -11,7 +11,7 @@ use lib.Seq.{getD-set-other}
 use Rattle.machine.specs.Limits.{mostSequence}
 use Rattle.machine.specs.Machine.{Mealy, stateAt}
 use Rattle.certify.specs.Folding.{From, Marking, Paired, same, tops, step, Past, here, past, Rising, byteStates, Rooted, Advanced, found, added, Folds}
-use Rattle.certify.specs.Sweep.{Onward}
+use Rattle.certify.specs.Sweep.{NextRepresented}
 use Rattle.certify.proofs.Marking.{bit-one, set-cases}
 use Rattle.certify.proofs.Paired.{paired-sym, paired-trans, paired-past}
 
@@ -133,11 +133,11 @@ module _ (M : Mealy) (xs given : List ℕ) where
 
   pub gone : {ms alt root alt′ root′ : List ℕ} {s t cur cur′ : ℕ} → t < length xs → length xs ≤ mostSequence → Marking M xs given ms
       → Linked alt t → Topped root t → s < byteStates → s ≡ stateAt M xs t → cur ≤ t → Paired M xs given cur t
-      → Onward xs ms alt root s t cur alt′ root′ cur′ → Gone alt′ root′ t cur′
-  gone tl few g h k sl se cl pc (Onward.unmarked z re a) = rw re (advanced tl few h (topped-more k) cl pc a)
-  gone tl few g h k sl se cl pc (Onward.between n n′ ae re ce) =
+      → NextRepresented xs ms alt root s t cur alt′ root′ cur′ → Gone alt′ root′ t cur′
+  gone tl few g h k sl se cl pc (NextRepresented.unmarked z re a) = rw re (advanced tl few h (topped-more k) cl pc a)
+  gone tl few g h k sl se cl pc (NextRepresented.between n n′ ae re ce) =
       rw (ae, re) (record { linked = linked-more h; topped = topped-more k; low = omega arith; pair = same ce })
-  gone {ms} {alt} {root} {alt′} {root′} {s} {t} tl few g h k sl se cl pc (Onward.marked n z r o a) =
+  gone {ms} {alt} {root} {alt′} {root′} {s} {t} tl few g h k sl se cl pc (NextRepresented.marked n z r o a) =
       let ft = g .sound t (bit-one (g .bits t) n) in
       let q = rooted k sl se ft o in
       advanced tl few h (q .topped) (q .low) (q .pair) a

@@ -12,7 +12,7 @@ use lib.Seq.{getD-set-same}
 use Rattle.machine.specs.Limits.{mostEntries, mostSequence}
 use Rattle.machine.specs.Machine.{Mealy, stateAt}
 use Rattle.certify.specs.Folding.{Paired, Past, byteStates, Rooted, Advanced, found, added}
-use Rattle.certify.specs.Sweep.{placeEntry, Merged, Learnt, Onward, Sweepable}
+use Rattle.certify.specs.Sweep.{placeEntry, Merged, Learnt, NextRepresented, SweepRequires}
 use Rattle.certify.proofs.Alternatives.{past-on}
 use Rattle.certify.proofs.Entries.{Learning, learning, learnt-still}
 use Rattle.certify.proofs.Growing.{marking-flat}
@@ -46,7 +46,7 @@ pub record Head (M : Mealy) (apply : Bool) (xs given known₀ ms known alt root 
   pub pair : Paired M xs given cur t
   pub still : changed ≡ false → Still M apply xs given known₀ ms known alt root cur t
 
-module _ {M : Mealy} {apply : Bool} {xs given known₀ : List ℕ} (asked : Sweepable M apply xs given known₀) where
+module _ {M : Mealy} {apply : Bool} {xs given known₀ : List ℕ} (required : SweepRequires M apply xs given known₀) where
   pub merged-learning : {ms ms′ known : List ℕ} {cur t : ℕ} {changed changed′ : Bool} → Learning M xs given known₀ ms known changed
       → Merged M xs ms cur t changed ms′ changed′ → Learning M xs given known₀ ms′ known changed′
   merged-learning h (Merged.equal e me ce) = rw (me, ce) h
@@ -56,7 +56,7 @@ module _ {M : Mealy} {apply : Bool} {xs given known₀ : List ℕ} (asked : Swee
     knows = h .knows;
     keeps = h .keeps;
     known-bits = h .known-bits;
-    risen = λ q. inl (record { place = r .place; was = was-zero given ms (asked .closable .bits) (h .marking .above) (r .place) (r .was); is = r .is });
+    risen = λ q. inl (record { place = r .place; was = was-zero given ms (required .close-requires .bits) (h .marking .above) (r .place) (r .was); is = r .is });
   }
 
   -- ---- going on where nothing changed
@@ -75,16 +75,16 @@ module _ {M : Mealy} {apply : Bool} {xs given known₀ : List ℕ} (asked : Swee
 
   still-comes : {ms alt root alt′ root′ : List ℕ} {s t cur cur′ : ℕ} → ms ≡ given → t < length xs → s < byteStates → s ≡ stateAt M xs t
       → Linked M xs given alt t → Topped M xs given root t → cur ≤ t → Comes xs (stateAt M xs) given alt root t cur
-      → Onward xs ms alt root s t cur alt′ root′ cur′ → Comes xs (stateAt M xs) given alt′ root′ (t + 1) cur′
-  still-comes {ms} {alt} {root} {alt′} {root′} {s} {t} me tl sl se h k cl c (Onward.unmarked z re a) =
+      → NextRepresented xs ms alt root s t cur alt′ root′ cur′ → Comes xs (stateAt M xs) given alt′ root′ (t + 1) cur′
+  still-comes {ms} {alt} {root} {alt′} {root′} {s} {t} me tl sl se h k cl c (NextRepresented.unmarked z re a) =
       let g = comes-rep xs (stateAt M xs) given alt root (ap (λ (m : List ℕ). getD m t 0) (sym me) ∙ z) c in
-      comes-next h cl (rw re (rep-grows xs (stateAt M xs) given alt root alt′ root (links-grow a) (λ x n. refl) g)) (omega (arith, asked .closable .commands .few)) a
-  still-comes {ms} {alt} {root} {alt′} {root′} {s} {t} me tl sl se h k cl c (Onward.between n n′ ae re ce) =
-      between t (bit-one (asked .closable .bits t) (λ y. n (ap (λ (m : List ℕ). getD m t 0) me ∙ y)))
-      (bit-one (asked .closable .bits (t + 1)) (λ y. n′ (ap (λ (m : List ℕ). getD m (t + 1) 0) me ∙ y))) refl
-  still-comes {ms} {alt} {root} {alt′} {root′} {s} {t} me tl sl se h k cl c (Onward.marked n z r o a) =
-      let mt = bit-one (asked .closable .bits t) (λ y. n (ap (λ (m : List ℕ). getD m t 0) me ∙ y)) in
-      comes-next h (rooted-low o) (top mt (rooted-cell o)) (omega (arith, asked .closable .commands .few)) a
+      comes-next h cl (rw re (rep-grows xs (stateAt M xs) given alt root alt′ root (links-grow a) (λ x n. refl) g)) (omega (arith, required .close-requires .commands .few)) a
+  still-comes {ms} {alt} {root} {alt′} {root′} {s} {t} me tl sl se h k cl c (NextRepresented.between n n′ ae re ce) =
+      between t (bit-one (required .close-requires .bits t) (λ y. n (ap (λ (m : List ℕ). getD m t 0) me ∙ y)))
+      (bit-one (required .close-requires .bits (t + 1)) (λ y. n′ (ap (λ (m : List ℕ). getD m (t + 1) 0) me ∙ y))) refl
+  still-comes {ms} {alt} {root} {alt′} {root′} {s} {t} me tl sl se h k cl c (NextRepresented.marked n z r o a) =
+      let mt = bit-one (required .close-requires .bits t) (λ y. n (ap (λ (m : List ℕ). getD m t 0) me ∙ y)) in
+      comes-next h (rooted-low o) (top mt (rooted-cell o)) (omega (arith, required .close-requires .commands .few)) a
     where
       rooted-low : {r : ℕ} → Rooted root s t root′ r → r ≤ t
       rooted-low (Rooted.first y re e) = omega arith
@@ -96,17 +96,17 @@ module _ {M : Mealy} {apply : Bool} {xs given known₀ : List ℕ} (asked : Swee
       rooted-cell (Rooted.again e re) = ap₂ (λ (m : List ℕ) (x : ℕ). getD m x 0) re (sym se) ∙ e
 
   -- the tables grow as the sweep goes on
-  onward-roots : {ms alt root alt′ root′ : List ℕ} {s t cur cur′ : ℕ} → Onward xs ms alt root s t cur alt′ root′ cur′
+  represented-roots : {ms alt root alt′ root′ : List ℕ} {s t cur cur′ : ℕ} → NextRepresented xs ms alt root s t cur alt′ root′ cur′
       → (x : ℕ) → (getD root x 0 ≡ 0 → ⊥) → getD root′ x 0 ≡ getD root x 0
-  onward-roots (Onward.unmarked z re a) x n = ap (λ (m : List ℕ). getD m x 0) re
-  onward-roots (Onward.between m m′ ae re ce) x n = ap (λ (m : List ℕ). getD m x 0) re
-  onward-roots (Onward.marked m z r o a) x n = roots-grow o x n
+  represented-roots (NextRepresented.unmarked z re a) x n = ap (λ (m : List ℕ). getD m x 0) re
+  represented-roots (NextRepresented.between m m′ ae re ce) x n = ap (λ (m : List ℕ). getD m x 0) re
+  represented-roots (NextRepresented.marked m z r o a) x n = roots-grow o x n
 
-  onward-links : {ms alt root alt′ root′ : List ℕ} {s t cur cur′ : ℕ} → Onward xs ms alt root s t cur alt′ root′ cur′
+  represented-links : {ms alt root alt′ root′ : List ℕ} {s t cur cur′ : ℕ} → NextRepresented xs ms alt root s t cur alt′ root′ cur′
       → (x : ℕ) → (getD alt x 0 ≡ 0 → ⊥) → getD alt′ x 0 ≡ getD alt x 0
-  onward-links (Onward.unmarked z re a) x n = links-grow a x n
-  onward-links (Onward.between m m′ ae re ce) x n = ap (λ (m : List ℕ). getD m x 0) ae
-  onward-links (Onward.marked m z r o a) x n = links-grow a x n
+  represented-links (NextRepresented.unmarked z re a) x n = links-grow a x n
+  represented-links (NextRepresented.between m m′ ae re ce) x n = ap (λ (m : List ℕ). getD m x 0) ae
+  represented-links (NextRepresented.marked m z r o a) x n = links-grow a x n
 
   -- every place up to t that is not between two marked ones has been walked to
   pub walked-here : {ms known alt root : List ℕ} {cur t : ℕ} → Still M apply xs given known₀ ms known alt root cur t → getD given cur 0 ≡ getD given t 0
@@ -119,7 +119,7 @@ module _ {M : Mealy} {apply : Bool} {xs given known₀ : List ℕ} (asked : Swee
   module _ {ms known alt root ms₁ ms₂ known₂ alt′ root′ : List ℕ} {cur t s e cur′ : ℕ} {changed changed₁ changed₂ : Bool}
       (h : Head M apply xs given known₀ ms known alt root cur t s changed) (tl : t < length xs) (sl : s < byteStates)
       (at : placeEntry M xs t ≡ e) (merged : Merged M xs ms cur t changed ms₁ changed₁)
-      (learn : Learnt apply ms₁ known e t changed₁ ms₂ known₂ changed₂) (on : Onward xs ms₂ alt root s t cur alt′ root′ cur′) where
+      (learn : Learnt apply ms₁ known e t changed₁ ms₂ known₂ changed₂) (on : NextRepresented xs ms₂ alt root s t cur alt′ root′ cur′) where
     turn-still : changed₂ ≡ false → Still M apply xs given known₀ ms₂ known₂ alt′ root′ cur′ (t + 1)
     turn-still f =
         let u = learnt-still learn f in
@@ -132,7 +132,7 @@ module _ {M : Mealy} {apply : Bool} {xs given known₀ : List ℕ} (asked : Swee
           same-marks = all;
           same-known = u .same-known ∙ g .same-known;
           comes = still-comes all tl sl (h .state) (h .linked) (h .topped) (h .low-cur) (g .comes) on;
-          walked = λ i il n. walked-grows xs (stateAt M xs) given alt root alt′ root′ (onward-links on) (onward-roots on) (walked-here g agree i il n);
+          walked = λ i il n. walked-grows xs (stateAt M xs) given alt root alt′ root′ (represented-links on) (represented-roots on) (walked-here g agree i il n);
           learnt = λ i il a b z.
               ⊎-elim (λ (q : i ≡ t). u .learnt (rw (one, ← q) a) (rw (one, ← q) b) (rw (g .same-known, ← at, ← q) z))
               (λ (k : i < t). g .learnt i k a b z)
@@ -145,8 +145,8 @@ module _ {M : Mealy} {apply : Bool} {xs given known₀ : List ℕ} (asked : Swee
 
     pub turn : (el : e < mostEntries) {s′ : ℕ} → s′ ≡ stateAt M xs (t + 1) → Head M apply xs given known₀ ms₂ known₂ alt′ root′ cur′ (t + 1) s′ changed₂
     turn el se =
-        let g = learning asked tl el at (merged-learning (h .learning) merged) learn in
-        let q = gone M xs given tl (asked .closable .commands .few) (g .marking) (h .linked) (h .topped) sl (h .state) (h .low-cur) (h .pair) on in
+        let g = learning required tl el at (merged-learning (h .learning) merged) learn in
+        let q = gone M xs given tl (required .close-requires .commands .few) (g .marking) (h .linked) (h .topped) sl (h .state) (h .low-cur) (h .pair) on in
         record {
           place = omega arith;
           state = se;

@@ -13,10 +13,10 @@ use lib.Dec.{ltb, eqb}
 use lib.ListN.{length, getD, set, take, drop, length-set, length-take, length-drop}
 use lib.Seq.{ext-getD, getD-take, getD-drop}
 use Rattle.machine.specs.Numbers.{equal-or-not, less-or-not}
-use Rattle.certify.specs.Recognition.{Stands}
-use Rattle.certify.specs.Marks.{mark, marksBy, stands}
+use Rattle.certify.specs.Recognition.{OccursAt}
+use Rattle.certify.specs.Marks.{mark, marksBy, occursAt}
 use Rattle.certify.specs.Marks.Laws.{marks-by-length, marks-by-at}
-use Rattle.certify.specs.Marks.Agreement.{true-stands, stands-fails}
+use Rattle.certify.specs.Marks.Agreement.{true-occurs, occurs-fails}
 use Rattle.certify.specs.Word.{Begun, Passed}
 use Rattle.certify.proofs.Marking.{set-cases}
 
@@ -122,29 +122,29 @@ module _ (w xs : List ℕ) where
   }
 
   -- the whole word: what is written is where it stands
-  whole-stands : (p : ℕ) → Begins w xs (length w) p → Stands w xs p
-  whole-stands p b = record {
+  whole-occurs : (p : ℕ) → Begins w xs (length w) p → OccursAt w xs p
+  whole-occurs p b = record {
     inside = b .inside;
-    stands = ext-getD 0 (take (length w) (drop p xs)) w (simp (length-take, length-drop) (omega (arith, b .inside)))
+    commands = ext-getD 0 (take (length w) (drop p xs)) w (simp (length-take, length-drop) (omega (arith, b .inside)))
         (λ i k. let il : i < length w = omega (arith, simp length-take at k) in getD-take (length w) (drop p xs) i 0 il ∙ getD-drop p xs i 0 ∙ b .agree i il);
   }
 
-  stands-whole : (p : ℕ) → Stands w xs p → Begins w xs (length w) p
-  stands-whole p h = record {
+  occurs-whole : (p : ℕ) → OccursAt w xs p → Begins w xs (length w) p
+  occurs-whole p h = record {
     inside = h .inside;
-    agree = λ i l. sym (getD-take (length w) (drop p xs) i 0 l ∙ getD-drop p xs i 0) ∙ ap (λ (m : List ℕ). getD m i 0) (h .stands);
+    agree = λ i l. sym (getD-take (length w) (drop p xs) i 0 l ∙ getD-drop p xs i 0) ∙ ap (λ (m : List ℕ). getD m i 0) (h .commands);
   }
 
-  told : (p v : ℕ) → Tells w xs (length w) p v → v ≡ mark (stands w xs p)
+  told : (p v : ℕ) → Tells w xs (length w) p v → v ≡ mark (occursAt w xs p)
   told p v h =
-      ⊎-elim (λ (k : (v ≡ 1) × Begins w xs (length w) p). k .0 ∙ sym (ap mark (true-stands w xs p (whole-stands p (k .1)))))
-      (λ (k : (v ≡ 0) × (Begins w xs (length w) p → ⊥)). k .0 ∙ ap mark (stands-fails w xs p (λ s. k .1 (stands-whole p s))))
+      ⊎-elim (λ (k : (v ≡ 1) × Begins w xs (length w) p). k .0 ∙ sym (ap mark (true-occurs w xs p (whole-occurs p (k .1)))))
+      (λ (k : (v ≡ 0) × (Begins w xs (length w) p → ⊥)). k .0 ∙ ap mark (occurs-fails w xs p (λ s. k .1 (occurs-whole p s))))
       h
 
-  pub written-all : {marks : List ℕ} {j : ℕ} → Written w xs marks j → length w ≤ j → marks ≡ marksBy xs (stands w xs)
+  pub written-all : {marks : List ℕ} {j : ℕ} → Written w xs marks j → length w ≤ j → marks ≡ marksBy xs (occursAt w xs)
   written-all {marks} {j} h l =
       let whole : j ≡ length w = omega (arith, h .upto) in
-      ext-getD 0 marks (marksBy xs (stands w xs)) (h .long ∙ sym (marks-by-length xs (stands w xs)))
+      ext-getD 0 marks (marksBy xs (occursAt w xs)) (h .long ∙ sym (marks-by-length xs (occursAt w xs)))
       (λ q ql.
       let k : q ≤ length xs = omega (arith, h .long) in
-      told q _ (rw (← whole) (h .cells q k)) ∙ sym (marks-by-at xs (stands w xs) q k))
+      told q _ (rw (← whole) (h .cells q k)) ∙ sym (marks-by-at xs (occursAt w xs) q k))

@@ -16,7 +16,7 @@ use Rattle.sheet.specs.declared.record.Record.{Record}
 use Rattle.sheet.specs.declared.reader.Needs.{Needs}
 use Rattle.sheet.specs.Check.{refusal_with_if_, _else_, firstCause, first, refusedOr, unlessRefused}
 use Rattle.sheet.specs.Values.{refusalValues, Returns}
-use Rattle.sheet.specs.Reader.{the, content}
+use Rattle.sheet.specs.Reader.{recordOf, content}
 use Rattle.sheet.specs.Writing.{written}
 use Rattle.machine.specs.Limits.{mostSequence}
 use Rattle.machine.specs.Machine.{Mealy, stateAt}
@@ -27,7 +27,7 @@ use Rattle.certify.specs.Recognition.{Certified, OpenNumber, MarksOf, Re
 use Rattle.certify.specs.Marks.{any, marked, count, marks}
 pub mod Laws
 pub mod Contract
-pub mod Places
+pub mod Bounds
 pub mod Program
 pub mod Twin
 
@@ -51,7 +51,7 @@ markBytes xs = length xs + 1
 -- causes 1 to 7, then 9, of a service that certifies, by whether it needs the answers, and of a room for marks
 unfoldable pub sequenceCauses : Bool → ℕ → List ℕ → List Check
 sequenceCauses answers room s =
-    loadCauses (sequenceNeeds answers) s ++ (cause7 (machineIn s .k) (the 3 s) (content 3 s) ∷ cause9 room (markBytes (content 3 s)) ∷ [])
+    loadCauses (sequenceNeeds answers) s ++ (cause7 (machineIn s .k) (recordOf 3 s) (content 3 s) ∷ cause9 room (markBytes (content 3 s)) ∷ [])
 
 -- those of certifying itself
 abbrev pub certifyCauses : ℕ → List ℕ → List Check

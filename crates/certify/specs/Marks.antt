@@ -1,6 +1,6 @@
 -- The recognised places as marks, computed: one byte for each of the places 0 to N, 1 for recognised and 0 otherwise. Marks.Agreement shows
 -- that they are exactly those of Recognition, so only `count` has to be read besides. A small name is what is computed, the same name with a
--- capital is the statement (`stands` and Stands, `closure` and Closure). Shut are `stands`, `shown`, `grown`, `settled`, `closure` and `marks`.
+-- capital is the statement (`occursAt` and OccursAt, `closure` and Closure). Shut are `occursAt`, `byRule2`, `grown`, `settled`, `closure` and `marks`.
 use Prim.Native.Nat.{ℕ, zero, suc, _+_, _-_, _≤_}
 use mathlib.Core.Bool.{Bool, true, false, _&&_, _||_}
 use mathlib.Core.List.{List, [], _∷_}
@@ -45,8 +45,8 @@ count [] = 0
 count (m ∷ ms) = mark (eqb m 1) + count ms
 
 -- rule 1: whether the word stands at p
-pub stands : List ℕ → List ℕ → ℕ → Bool
-stands w xs p = leb (p + length w) (length xs) && same (take (length w) (drop p xs)) w
+pub occursAt : List ℕ → List ℕ → ℕ → Bool
+occursAt w xs p = leb (p + length w) (length xs) && same (take (length w) (drop p xs)) w
 
 -- rule 2: whether p, q and p + m are marked, p and q have the same state, and the m commands from both are equal
 abbrev pub follows : List ℕ → (ℕ → ℕ) → List ℕ → ℕ → ℕ → ℕ → Bool
@@ -58,12 +58,12 @@ follows xs state ms p q m =
     && same (take m (drop p xs)) (take m (drop q xs)))))
 
 -- whether r = q + m is recognised by rule 2 for some p, q and m
-pub shown : List ℕ → (ℕ → ℕ) → List ℕ → ℕ → Bool
-shown xs state ms r = any (length xs) (λ p. any r (λ q. follows xs state ms p q (r - q)))
+pub byRule2 : List ℕ → (ℕ → ℕ) → List ℕ → ℕ → Bool
+byRule2 xs state ms r = any (length xs) (λ p. any r (λ q. follows xs state ms p q (r - q)))
 
 -- these marks, and those that one use of rule 2 adds
 pub grown : List ℕ → (ℕ → ℕ) → List ℕ → List ℕ
-grown xs state ms = marksBy xs (λ r. marked ms r || shown xs state ms r)
+grown xs state ms = marksBy xs (λ r. marked ms r || byRule2 xs state ms r)
 
 -- growing until no more marks are 1, at most f times
 pub settled : ℕ → List ℕ → (ℕ → ℕ) → List ℕ → List ℕ
@@ -78,4 +78,4 @@ closure xs state base = settled (length xs + 1) xs state (marksBy xs base)
 
 -- the marks of a sequence (§5.4), computed
 pub marks : Mealy → List ℕ → List ℕ → List ℕ
-marks M w xs = closure xs (stateAt M xs) (stands w xs)
+marks M w xs = closure xs (stateAt M xs) (occursAt w xs)

@@ -30,7 +30,7 @@ pub data Followed (xs next : List ℕ) (k : ℕ) (ms alt root : List ℕ) (r i s
       → Followed xs next k ms alt root r i s ms′ step
 
 -- what is asked: tables that fold places, and a marked place p of state s
-pub record Propagable (M : Mealy) (xs ms next alt root : List ℕ) (k p s : ℕ) : Type 0 where
+pub record PropagateRequires (M : Mealy) (xs ms next alt root : List ℕ) (k p s : ℕ) : Type 0 where
   pub next-table : NextTable M k next
   pub folds : Folds M xs ms alt root
   pub bits : Bits ms

@@ -11,9 +11,9 @@ use Rattle.certify.specs.Marks.{count}
 pub mod Laws
 
 -- the word begins at place p and ends inside the sequence (§5.1, rule 1)
-pub record Stands (w xs : List ℕ) (p : ℕ) : Type 0 where
+pub record OccursAt (w xs : List ℕ) (p : ℕ) : Type 0 where
   pub inside : p + length w ≤ length xs
-  pub stands : take (length w) (drop p xs) ≡ w
+  pub commands : take (length w) (drop p xs) ≡ w
 
 -- the smallest set that satisfies both rules (§5.1), of a sequence, the states of its places, and the places that rule 1
 -- gives: a place is in it only by a finite use of the rules, so no two places are in it by each other alone (§5.2)
@@ -29,7 +29,7 @@ pub data Closure (xs : List ℕ) (state : ℕ → ℕ) (Base : ℕ → Type 0) :
 
 -- place p is recognised; in the field by rule 1 d-recognised, by rule 2 t-recognised
 pub Recognised : Mealy → List ℕ → List ℕ → ℕ → Type 0
-Recognised M w xs = Closure xs (stateAt M xs) (Stands w xs)
+Recognised M w xs = Closure xs (stateAt M xs) (OccursAt w xs)
 
 -- entry (s, c) is verified (§5.3): command c comes at a recognised place of state s, and the place behind it is
 -- recognised too. It is the field's edge verification

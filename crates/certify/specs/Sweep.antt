@@ -9,12 +9,12 @@ use lib.ListN.{length, getD, set}
 use Rattle.machine.specs.Limits.{mostSequence, mostEntries}
 use Rattle.machine.specs.Machine.{Mealy, stateAt, Proper, Commands}
 use Rattle.certify.specs.Marks.{Bits}
-use Rattle.certify.specs.Marks.Agreement.{Shown, Exact}
+use Rattle.certify.specs.Marks.Agreement.{ByRule2, Exact}
 use Rattle.certify.specs.Folding.{MarkedIn, From, Marking, Risen, Paired, Folds, Rooted, Advanced, NextTable}
 
 -- ---- the steps at a place t
 -- what is asked where the sweep comes to t from cur: both are paired, and the tables fold places
-pub record Mergeable (M : Mealy) (xs ms next alt root : List ℕ) (k s cur t : ℕ) : Type 0 where
+pub record MergeRequires (M : Mealy) (xs ms next alt root : List ℕ) (k s cur t : ℕ) : Type 0 where
   pub next-table : NextTable M k next
   pub folds : Folds M xs ms alt root
   pub bits : Bits ms
@@ -42,12 +42,12 @@ pub data Learnt (apply : Bool) (ms known : List ℕ) (e t : ℕ) (changed : Bool
 
 -- where the sweep comes to t + 1 from: an unmarked t is represented by cur, a marked one by its state's place; between two marked places
 -- there is nothing to fold
-pub data Onward (xs ms alt root : List ℕ) (s t cur : ℕ) (alt′ root′ : List ℕ) (cur′ : ℕ) : Type 0 where
-  unmarked : getD ms t 0 ≡ 0 → root′ ≡ root → Advanced xs alt cur t alt′ cur′ → Onward xs ms alt root s t cur alt′ root′ cur′
+pub data NextRepresented (xs ms alt root : List ℕ) (s t cur : ℕ) (alt′ root′ : List ℕ) (cur′ : ℕ) : Type 0 where
+  unmarked : getD ms t 0 ≡ 0 → root′ ≡ root → Advanced xs alt cur t alt′ cur′ → NextRepresented xs ms alt root s t cur alt′ root′ cur′
   between : (getD ms t 0 ≡ 0 → ⊥) → (getD ms (t + 1) 0 ≡ 0 → ⊥) → alt′ ≡ alt → root′ ≡ root → cur′ ≡ t + 1
-      → Onward xs ms alt root s t cur alt′ root′ cur′
+      → NextRepresented xs ms alt root s t cur alt′ root′ cur′
   marked : (getD ms t 0 ≡ 0 → ⊥) → getD ms (t + 1) 0 ≡ 0 → (r : ℕ) → Rooted root s t root′ r → Advanced xs alt r t alt′ cur′
-      → Onward xs ms alt root s t cur alt′ root′ cur′
+      → NextRepresented xs ms alt root s t cur alt′ root′ cur′
 
 -- ---- a whole sweep
 -- where the entry of place i stands in the table of the entries that are known to be verified
@@ -67,15 +67,15 @@ abbrev pub Knows : Mealy → List ℕ → List ℕ → List ℕ → Type 0
 Knows M xs given known = (e : ℕ) → (getD known e 0 ≡ 0 → ⊥) → Witness M xs given e
 
 -- what is asked: a machine, a sequence, and a mark of 0 or 1 for each place
-pub record Closable (M : Mealy) (xs ms : List ℕ) : Type 0 where
+pub record CloseRequires (M : Mealy) (xs ms : List ℕ) : Type 0 where
   pub proper : Proper M
   pub commands : Commands mostSequence (M .k) xs
   pub long : length ms ≡ length xs + 1
   pub bits : Bits ms
 
 -- and by a sweep known entries besides, none where they are not applied
-pub record Sweepable (M : Mealy) (apply : Bool) (xs ms known : List ℕ) : Type 0 where
-  pub closable : Closable M xs ms
+pub record SweepRequires (M : Mealy) (apply : Bool) (xs ms known : List ℕ) : Type 0 where
+  pub close-requires : CloseRequires M xs ms
   pub table : length known ≡ mostEntries
   pub knows : Knows M xs ms known
   pub known-bits : Bits known
@@ -91,7 +91,7 @@ pub record Swept (M : Mealy) (xs given known ms known′ : List ℕ) (changed : 
   pub keeps : (e : ℕ) → getD known e 0 ≡ 1 → getD known′ e 0 ≡ 1
   pub rises : changed ≡ true → (Risen given ms) ⊎ (Risen known known′)
   pub stays : changed ≡ false → (ms ≡ given) × (known′ ≡ known)
-  pub closed : changed ≡ false → (r : ℕ) → r ≤ length xs → Shown xs (stateAt M xs) given r → getD given r 0 ≡ 1
+  pub closed : changed ≡ false → (r : ℕ) → r ≤ length xs → ByRule2 xs (stateAt M xs) given r → getD given r 0 ≡ 1
   pub all : changed ≡ false → (i : ℕ) → i < length xs → getD given i 0 ≡ 1 → getD given (i + 1) 0 ≡ 1 → getD known′ (placeEntry M xs i) 0 ≡ 0 → ⊥
 
 -- ---- sweeping until nothing changes, or until every entry is known

@@ -5,7 +5,7 @@ ghost use mathlib.Core.Bool.{true};
 ghost use Prim.Native.Nat.{_≤_};
 ghost use Rattle.machine.specs.Limits.{mostEntries};
 ghost use Rattle.machine.specs.Machine.{meaning};
-ghost use Rattle.certify.specs.Sweep.{AllKnown, Behind, Closable, Closed};
+ghost use Rattle.certify.specs.Sweep.{AllKnown, Behind, CloseRequires, Closed};
 use crate::sweep::sweep;
 use machine::Machine;
 
@@ -43,7 +43,7 @@ fn mark_behind(marks: &mut [u8])
 // known entry: that plays no part in the result, but saves sweeps on built sequences. Once every
 // entry is known, each place behind a marked one is recognised, and no further sweep is needed.
 pub fn close(m: Machine, xs: &[u8], marks: &mut [u8]) -> [u8; Machine::ENTRIES]
-    requires { ⌜ Closable (meaning m) (now xs) (now marks) ⌝ }
+    requires { ⌜ CloseRequires (meaning m) (now xs) (now marks) ⌝ }
     ensures { λ known. ⌜ Closed (meaning m) (now (xs .entry)) (now (marks .entry)) (now (marks .exit)) known ⌝ }
 {
     let entries = m.n as usize * m.k as usize;

@@ -6,7 +6,7 @@ ghost use lib.ListN.{length};
 ghost use Rattle.machine.specs.Limits.{mostSequence};
 ghost use Rattle.machine.specs.Machine.{Mealy};
 ghost use Rattle.certify.specs.Folding.{Rising, Marking};
-ghost use Rattle.certify.specs.Propagation.{Restarted, Equalised, Followed, Propagable};
+ghost use Rattle.certify.specs.Propagation.{Restarted, Equalised, Followed, PropagateRequires};
 use crate::chains::BYTE_STATES;
 use crate::chains::alternative;
 use crate::chains::wide;
@@ -100,7 +100,7 @@ pub fn propagate(
     requires { ⌜ length (now marks) ≡ length (now xs) + 1 ⌝ }
     requires { ⌜ length (now xs) ≤ mostSequence ⌝ }
     requires { ⌜ Rising (now xs) (now alt) ⌝ }
-    ensures { λ r. ⌜ ((M : Mealy) → Propagable M (now (xs .entry)) (now (marks .entry)) (now (next .entry)) (now (alt .entry)) (now (root .entry)) k p s → Marking M (now (xs .entry)) (now (marks .entry)) (now (marks .exit))) ⌝ }
+    ensures { λ r. ⌜ ((M : Mealy) → PropagateRequires M (now (xs .entry)) (now (marks .entry)) (now (next .entry)) (now (alt .entry)) (now (root .entry)) k p s → Marking M (now (xs .entry)) (now (marks .entry)) (now (marks .exit))) ⌝ }
 {
     let mut left = steps;
     let mut at = restart(root, p, s);

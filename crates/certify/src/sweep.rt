@@ -7,7 +7,7 @@ ghost use lib.ListN.{length, getD};
 ghost use Rattle.machine.specs.Limits.{mostEntries, mostSequence};
 ghost use Rattle.machine.specs.Machine.{Mealy, meaning};
 ghost use Rattle.certify.specs.Folding.{Rising};
-ghost use Rattle.certify.specs.Sweep.{Mergeable, Merged, Learnt, Onward, Sweepable, Swept};
+ghost use Rattle.certify.specs.Sweep.{MergeRequires, Merged, Learnt, NextRepresented, SweepRequires, Swept};
 use crate::chains::BYTE_STATES;
 use crate::chains::advance;
 use crate::chains::represent;
@@ -40,7 +40,7 @@ fn merge(
     requires { ⌜ length (now marks) ≡ length (now xs) + 1 ⌝ }
     requires { ⌜ length (now xs) ≤ mostSequence ⌝ }
     requires { ⌜ Rising (now xs) (now alt) ⌝ }
-    ensures { λ r. ⌜ ((M : Mealy) → Mergeable M (now (xs .entry)) (now (marks .entry)) (now (next .entry)) (now (alt .entry)) (now (root .entry)) k s cur t → Merged M (now (xs .entry)) (now (marks .entry)) cur t (p .changed) (now (marks .exit)) (r .changed)) ⌝ }
+    ensures { λ r. ⌜ ((M : Mealy) → MergeRequires M (now (xs .entry)) (now (marks .entry)) (now (next .entry)) (now (alt .entry)) (now (root .entry)) k s cur t → Merged M (now (xs .entry)) (now (marks .entry)) cur t (p .changed) (now (marks .exit)) (r .changed)) ⌝ }
 {
     if marks[cur] == marks[t] {
         return p;
@@ -97,7 +97,7 @@ fn learn(
 
 // The place that represents t + 1. An unmarked t is represented by cur, a marked one by its state's
 // place; between two marked places nothing is folded.
-fn onward(
+fn represent_next(
     xs: &[u8],
     marks: &[u8],
     alt: &mut [u16; Machine::SEQUENCE],
@@ -112,7 +112,7 @@ fn onward(
     requires { ⌜ length (now xs) ≤ mostSequence ⌝ }
     requires { ⌜ Rising (now xs) (now alt) ⌝ }
     requires { ⌜ ((x r : ℕ) → getD (now root) x 0 ≡ r + 1 → r < length (now xs)) ⌝ }
-    ensures { λ r. ⌜ Onward (now (xs .entry)) (now (marks .entry)) (now (alt .entry)) (now (root .entry)) s t cur (now (alt .exit)) (now (root .exit)) r ⌝ }
+    ensures { λ r. ⌜ NextRepresented (now (xs .entry)) (now (marks .entry)) (now (alt .entry)) (now (root .entry)) s t cur (now (alt .exit)) (now (root .exit)) r ⌝ }
 {
     if marks[t] == 0 {
         return advance(xs, alt, cur, t);
@@ -134,7 +134,7 @@ pub fn sweep(
     known: &mut [u8; Machine::ENTRIES],
     apply: bool,
 ) -> bool
-    requires { ⌜ Sweepable (meaning m) apply (now xs) (now marks) (now known) ⌝ }
+    requires { ⌜ SweepRequires (meaning m) apply (now xs) (now marks) (now known) ⌝ }
     ensures { λ r. ⌜ Swept (meaning m) (now (xs .entry)) (now (marks .entry)) (now (known .entry)) (now (marks .exit)) (now (known .exit)) r ⌝ }
 {
     let next = m.next;
@@ -151,7 +151,7 @@ pub fn sweep(
         let q = merge(xs, &next, m.k, marks, &alt, &root, s, cur, t, p);
         let e = entry_at(m.k, s, xs[t]);
         let changed = learn(marks, known, e, t, apply, q.changed);
-        cur = onward(xs, marks, &mut alt, &mut root, s, t, cur);
+        cur = represent_next(xs, marks, &mut alt, &mut root, s, t, cur);
         p = Progress {
             changed,
             steps: q.steps,

@@ -5,8 +5,7 @@ ghost use mathlib.Core.Path.{_≡_};
 ghost use mathlib.Core.Bool.{cond};
 ghost use Prim.Native.Nat.{ℕ, _+_, _-_, _≤_, _<_};
 ghost use lib.ListN.{length};
-ghost use Rattle.certify.specs.Marks.{mark, marksBy};
-ghost use Rattle.certify.specs.Marks.{stands as standsOf};
+ghost use Rattle.certify.specs.Marks.{mark, marksBy, occursAt};
 ghost use Rattle.certify.specs.Word.{Begun, Passed};
 
 // A mark as a byte.
@@ -68,7 +67,7 @@ fn pass(xs: &[u8], further: usize, c: u8, count: usize, marks: &mut [u8])
 // Writes a mark for each place: 1 where the word stands, else 0.
 pub fn mark_words(w: &[u8], xs: &[u8], marks: &mut [u8])
     requires { ⌜ length (now marks) ≡ length (now xs) + 1 ⌝ }
-    ensures { λ _. ⌜ now (marks .exit) ≡ marksBy (now (xs .entry)) (standsOf (now (w .entry)) (now (xs .entry))) ⌝ }
+    ensures { λ _. ⌜ now (marks .exit) ≡ marksBy (now (xs .entry)) (occursAt (now (w .entry)) (now (xs .entry))) ⌝ }
 {
     let count = places(w, xs);
     begin(count, marks);

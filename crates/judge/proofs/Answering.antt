@@ -12,7 +12,7 @@ use Rattle.sheet.specs.declared.record.Record.{Record}
 use Rattle.sheet.specs.Check.{refusal_with_if_, _else_, firstCause, refusedOr}
 use Rattle.sheet.specs.Values.{refusalValues}
 use Rattle.sheet.specs.Values.Laws.{returns-specified}
-use Rattle.sheet.specs.Reader.{the, content}
+use Rattle.sheet.specs.Reader.{recordOf, content}
 use Rattle.machine.specs.Machine.{Mealy}
 use Rattle.machine.specs.Causes.{machineIn}
 use Rattle.certify.specs.declared.answer.Answer.{Answer as Certification}
@@ -24,11 +24,11 @@ use Rattle.judge.specs.Judging.{cause10, judgeCauses, cause11, verdict, 
 use Rattle.judge.specs.Judging.Laws.{cause10-is, judge-causes-are, few-answers, judgement-refused, judgement-by, judged-refused, judged-clear, pass-identity}
 
 -- ---- the checks
-module _ (room : ℕ) (s : List ℕ) {r : Record} {xs ys : List ℕ} (re : r ≡ the 4 s) (xe : xs ≡ content 3 s) (ye : ys ≡ content 4 s) where
+module _ (room : ℕ) (s : List ℕ) {r : Record} {xs ys : List ℕ} (re : r ≡ recordOf 4 s) (xe : xs ≡ content 3 s) (ye : ys ≡ content 4 s) where
   pub checks-are : {earlier ten c : Check} → earlier ≡ firstCause (sequenceCauses true room s)
       → ten ≡ (refusal 10 with r .start if ltb (length xs) (length ys)) → c ≡ (earlier else ten) → c ≡ firstCause (judgeCauses room s)
   checks-are ee te ce =
-      let ten-is : (refusal 10 with r .start if ltb (length xs) (length ys)) ≡ cause10 (the 4 s) (content 3 s) (content 4 s) = rw (re, xe, ye) (cause10-is (the 4 s) (content 3 s) (content 4 s)) in
+      let ten-is : (refusal 10 with r .start if ltb (length xs) (length ys)) ≡ cause10 (recordOf 4 s) (content 3 s) (content 4 s) = rw (re, xe, ye) (cause10-is (recordOf 4 s) (content 3 s) (content 4 s)) in
       ce ∙ ap₂ _else_ ee (te ∙ ten-is) ∙ sym (judge-causes-are room s)
 
   pub few-here : {c : Check} → c ≡ firstCause (judgeCauses room s) → c ≡ Clear → length ys ≤ length xs

@@ -13,7 +13,7 @@ use Rattle.machine.specs.Machine.{Mealy, meaning, answers, stateAt}
 use Rattle.machine.specs.Machine.Laws.{meaning-commands, meaning-start, tabled-next, tabled-answer, answers-length, answer-at, state-start, state-next, state-stays, proper-entry}
 use Rattle.judge.specs.declared.answer.Answer.the-variants.{Pass, Wrong, Unfinished}
 use Rattle.judge.specs.Judging.{verdict}
-use Rattle.judge.specs.Comparison.{Comparable}
+use Rattle.judge.specs.Comparison.{CompareRequires}
 use Rattle.judge.specs.Judging.Verdict.{Right, passed, wrong, unfinished, judged-verdict}
 
 -- the answers before i are right, and s is the state there
@@ -33,7 +33,7 @@ module _ (m : Machine) (xs ys : List ℕ) where
     right = λ i l. absurd (omega arith);
   }
 
-  module _ (h : Comparable M xs ys) {i s : ℕ} (c : Compared M xs ys i s) where
+  module _ (h : CompareRequires M xs ys) {i s : ℕ} (c : Compared M xs ys i s) where
     module _ (l : i < length ys) {e : ℕ} (at : e ≡ s * m .k + getD xs i 0) where
       inside-sequence : i < length xs
       inside-sequence = omega (arith, h .few)

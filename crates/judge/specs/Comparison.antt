@@ -6,7 +6,7 @@ use Rattle.machine.specs.Limits.{mostSequence}
 use Rattle.machine.specs.Machine.{Mealy, Proper, Commands}
 
 -- a machine within its limits, a sequence of its commands, and no more answers than commands
-pub record Comparable (M : Mealy) (xs ys : List ℕ) : Type 0 where
+pub record CompareRequires (M : Mealy) (xs ys : List ℕ) : Type 0 where
   pub proper : Proper M
   pub commands : Commands mostSequence (M .k) xs
   pub few : length ys ≤ length xs

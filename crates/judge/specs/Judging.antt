@@ -1,6 +1,6 @@
 -- Judging: causes 1 to 7, 9, 10 and 11 (§4.2), the results and what is written (§7), and the identity claim (§9.3).
 -- Certification is known by its contract: `certification` and `marksAfter`, its answer and its buffer, are shut, and what they say is the contract's. The laws of
--- the verdict stand in Judging.Verdict, those of a sheet in Judging.Laws, bounds on places in Judging.Places.
+-- the verdict stand in Judging.Verdict, those of a sheet in Judging.Laws, bounds on places in Judging.Bounds.
 use Prim.Native.Nat.{ℕ, suc}
 use mathlib.Core.Path.{_≡_}
 use mathlib.Core.Bool.{true, false, cond}
@@ -13,7 +13,7 @@ use Rattle.sheet.specs.declared.check.Values.{Values}
 use Rattle.sheet.specs.declared.record.Record.{Record}
 use Rattle.sheet.specs.Check.{refusal_with_if_, firstCause, refusedOr, unlessRefused}
 use Rattle.sheet.specs.Values.{refusalValues, Returns}
-use Rattle.sheet.specs.Reader.{the, content}
+use Rattle.sheet.specs.Reader.{recordOf, content}
 use Rattle.machine.specs.Machine.{Mealy, answers, stateAt}
 use Rattle.machine.specs.Causes.{machineIn}
 use Rattle.certify.specs.declared.answer.Answer.{Answer as Certification}
@@ -24,7 +24,7 @@ use Rattle.judge.specs.declared.answer.Answer.the-variants.{Pass, Wrong,
 use Rattle.judge.specs.Unit.{Unit, ownAnswers, Renaming}
 pub mod Verdict
 pub mod Laws
-pub mod Places
+pub mod Bounds
 
 -- ---- causes
 -- answers (§4.2), at the start of the record: there are more than commands
@@ -33,7 +33,7 @@ cause10 r xs ys = refusal 10 with r .start if ltb (length xs) (length ys)
 
 -- causes 1 to 7 and 9, all four kinds being needed, and 10: those that write nothing (§4.3)
 unfoldable pub judgeCauses : ℕ → List ℕ → List Check
-judgeCauses room s = sequenceCauses true room s ++ (cause10 (the 4 s) (content 3 s) (content 4 s) ∷ [])
+judgeCauses room s = sequenceCauses true room s ++ (cause10 (recordOf 4 s) (content 3 s) (content 4 s) ∷ [])
 
 -- not certified (§4.2), by what certifying answers: an open sequence is refused with its open number. Where certifying
 -- itself refuses, its refusal stays one; that does not happen here, since judging has refused such a sheet before

@@ -16,7 +16,7 @@ pub record Unit (n k : ℕ) : Type 0 where
   pub m : ℕ
   pub few : m ≤ n
   pub u : ℕ
-  pub stands : u < m
+  pub u-low : u < m
   pub next : ℕ → ℕ → ℕ
   pub answer : ℕ → ℕ → ℕ
   pub stays : (x c : ℕ) → x < m → c < k → next x c < m
@@ -31,8 +31,8 @@ module _ (n k : ℕ) (U : Unit n k) where
   ownAnswers xs = answers tableOf (U .u) xs
 
   -- the state in which the last command leaves it (§9.1)
-  abbrev pub standsNow : List ℕ → ℕ
-  standsNow xs = run tableOf (U .u) xs
+  abbrev pub presentState : List ℕ → ℕ
+  presentState xs = run tableOf (U .u) xs
 
 -- a renaming (§9.2): it assigns a state of the unit to each state of the machine. The field's isomorphism of machines,
 -- with the start and with the end state of a sequence
@@ -51,4 +51,4 @@ pub record Renaming (M : Mealy) (U : Unit (M .n) (M .k)) (xs : List ℕ) (end : 
   pub start-given : given (M .start) ≡ U .u
   -- the end state is that of place N, and the unit's present state is assigned to it
   pub end-is : end ≡ stateAt M xs (length xs)
-  pub end-given : given end ≡ standsNow (M .n) (M .k) U xs
+  pub end-given : given end ≡ presentState (M .n) (M .k) U xs

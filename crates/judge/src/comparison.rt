@@ -2,7 +2,7 @@
 ghost use mathlib.Core.Path.{_≡_};
 ghost use Rattle.machine.specs.Machine.{meaning};
 ghost use Rattle.judge.specs.Judging.{verdict};
-ghost use Rattle.judge.specs.Comparison.{Comparable};
+ghost use Rattle.judge.specs.Comparison.{CompareRequires};
 use crate::answer::Answer;
 use machine::Machine;
 use machine::entry_at;
@@ -10,7 +10,7 @@ use machine::entry_at;
 // Runs the machine along the sequence as far as there are answers, and stops at the first that
 // differs.
 pub fn compare(m: Machine, xs: &[u8], ys: &[u8]) -> Answer
-    requires { ⌜ Comparable (meaning m) (now xs) (now ys) ⌝ }
+    requires { ⌜ CompareRequires (meaning m) (now xs) (now ys) ⌝ }
     ensures { λ r. ⌜ r ≡ verdict (meaning m) (now (xs .entry)) (now (ys .entry)) ⌝ }
 {
     let next = m.next;

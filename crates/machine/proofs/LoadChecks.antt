@@ -12,8 +12,8 @@ use Rattle.sheet.specs.declared.reader.Needs.{Needs}
 use Rattle.sheet.specs.Check.{refusal_with_if_, _else_, firstCause, first}
 use Rattle.sheet.specs.Check.Laws.{else-clear, else-refused}
 use Rattle.sheet.specs.Format.{header}
-use Rattle.sheet.specs.Reader.{sheetCauses, needed, the, content}
-use Rattle.sheet.specs.Reader.Laws.{the-inside}
+use Rattle.sheet.specs.Reader.{sheetCauses, needed, recordOf, content}
+use Rattle.sheet.specs.Reader.Laws.{record-inside}
 use Rattle.machine.specs.declared.machine.Machine.{Machine}
 use Rattle.machine.specs.Limits.{mostWord}
 use Rattle.machine.specs.Machine.{Mealy, meaning}
@@ -25,13 +25,13 @@ use Rattle.machine.specs.declared.loading.Loaded.{Loaded}
 use Rattle.machine.specs.Loading.{LoadedFrom}
 
 -- a record that is read, and what reading hands back, lie inside the sheet
-pub record-inside : (k : ℕ) (s : List ℕ) {r : Record} {w : List ℕ} → r ≡ the k s → w ≡ content k s → r .start + length w ≤ length s
-record-inside k s re we = rw (re, we) (the-inside k s)
+pub read-inside : (k : ℕ) (s : List ℕ) {r : Record} {w : List ℕ} → r ≡ recordOf k s → w ≡ content k s → r .start + length w ≤ length s
+read-inside k s re we = rw (re, we) (record-inside k s)
 
 -- causes 5 and 7
-pub commands-are : (number most k kind : ℕ) (s : List ℕ) {r : Record} {w : List ℕ} {o : Bool} {a b c : Check} → r ≡ the kind s → w ≡ content kind s
+pub commands-are : (number most k kind : ℕ) (s : List ℕ) {r : Record} {w : List ℕ} {o : Bool} {a b c : Check} → r ≡ recordOf kind s → w ≡ content kind s
     → o ≡ outside 1 most (length w) → a ≡ (refusal number with r .start if o) → b ≡ first (length w) (byteCause number (r .start + header) w 0 1 k)
-    → c ≡ (a else b) → c ≡ commandsCause number most k (the kind s) (content kind s)
+    → c ≡ (a else b) → c ≡ commandsCause number most k (recordOf kind s) (content kind s)
 commands-are number most k kind s {r} {w} re we oe ae be ce =
     ce
     ∙ ap₂ _else_ (ae ∙ ap (λ (x : Bool). refusal number with r .start if x) oe) be
@@ -40,7 +40,7 @@ commands-are number most k kind s {r} {w} re we oe ae be ce =
 
 -- causes 1 to 4
 pub table-are : (n : Needs) (s : List ℕ) {r : Record} {p : List ℕ} {kinds three four inner c : Check} → kinds ≡ firstCause (sheetCauses (needed n) s)
-    → r ≡ the 1 s → p ≡ content 1 s → three ≡ cause3 r p → four ≡ cause4 r p → inner ≡ (three else four) → c ≡ (kinds else inner)
+    → r ≡ recordOf 1 s → p ≡ content 1 s → three ≡ cause3 r p → four ≡ cause4 r p → inner ≡ (three else four) → c ≡ (kinds else inner)
     → c ≡ firstCause (machineCauses n s)
 table-are n s ke re pe te fe ie ce =
     ce ∙ ap₂ _else_ ke (ie ∙ ap₂ _else_ (te ∙ ap₂ cause3 re pe) (fe ∙ ap₂ cause4 re pe)) ∙ sym (machine-causes-are n s)
@@ -50,10 +50,10 @@ module _ (s : List ℕ) (m : Machine) (h : meaning m ≡ machineIn s) where
   commands-same : m .k ≡ machineIn s .k
   commands-same = sym (meaning-commands m) ∙ ap (λ (x : Mealy). x .k) h
 
-  five-is : {c : Check} → c ≡ commandsCause 5 mostWord (m .k) (the 2 s) (content 2 s) → c ≡ cause5 (machineIn s .k) (the 2 s) (content 2 s)
-  five-is ce = ce ∙ ap (λ (x : ℕ). commandsCause 5 mostWord x (the 2 s) (content 2 s)) commands-same
+  five-is : {c : Check} → c ≡ commandsCause 5 mostWord (m .k) (recordOf 2 s) (content 2 s) → c ≡ cause5 (machineIn s .k) (recordOf 2 s) (content 2 s)
+  five-is ce = ce ∙ ap (λ (x : ℕ). commandsCause 5 mostWord x (recordOf 2 s) (content 2 s)) commands-same
 
-  pub word-stops : {c : Check} → c ≡ commandsCause 5 mostWord (m .k) (the 2 s) (content 2 s) → {a b : ℕ} → c ≡ Refused a b
+  pub word-stops : {c : Check} → c ≡ commandsCause 5 mostWord (m .k) (recordOf 2 s) (content 2 s) → {a b : ℕ} → c ≡ Refused a b
       → c ≡ firstCause (wordCauses true s)
   word-stops ce {a} {b} e =
       e
@@ -61,7 +61,7 @@ module _ (s : List ℕ) (m : Machine) (h : meaning m ≡ machineIn s) where
       ∙ ap (λ (x : Check). x else cause6 (machineIn s) (content 2 s)) (sym e ∙ five-is ce)
       ∙ sym (word-causes-are s)
 
-  pub word-goes-on : {c : Check} → c ≡ commandsCause 5 mostWord (m .k) (the 2 s) (content 2 s) → c ≡ Clear
+  pub word-goes-on : {c : Check} → c ≡ commandsCause 5 mostWord (m .k) (recordOf 2 s) (content 2 s) → c ≡ Clear
       → {w : List ℕ} → w ≡ content 2 s → {d : Check} → d ≡ cause6 (meaning m) w → d ≡ firstCause (wordCauses true s)
   word-goes-on ce e we de =
       de

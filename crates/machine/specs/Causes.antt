@@ -1,4 +1,4 @@
--- Causes 3 to 6, and causes 1 to 6 in order (§4.1, §4.2). The laws stand in Causes.Laws (3, 4, 5 and 7), Causes.Separation (6), Causes.Lists (the lists) and Causes.Places (how large a place is).
+-- Causes 3 to 6, and causes 1 to 6 in order (§4.1, §4.2). The laws stand in Causes.Laws (3, 4, 5 and 7), Causes.Separation (6), Causes.Lists (the lists) and Causes.Bounds (how large a place is).
 use Prim.Native.Nat.{ℕ, _+_, _*_}
 use mathlib.Core.Bool.{Bool, true, false, not, _&&_, _||_}
 use mathlib.Core.List.{List, [], _∷_, _++_}
@@ -9,12 +9,12 @@ use Rattle.sheet.specs.declared.record.Record.{Record}
 use Rattle.sheet.specs.declared.reader.Needs.{Needs}
 use Rattle.sheet.specs.Check.{refusal_with_if_, _else_, first}
 use Rattle.sheet.specs.Format.{offset}
-use Rattle.sheet.specs.Reader.{sheetCauses, needed, the, content}
+use Rattle.sheet.specs.Reader.{sheetCauses, needed, recordOf, content}
 use Rattle.machine.specs.Limits.{mostStates, mostCommands, mostMachine, mostWord}
 use Rattle.machine.specs.Machine.{Mealy, pairAt, machineOf, tabled, answers}
 pub mod Laws
 pub mod Lists
-pub mod Places
+pub mod Bounds
 pub mod Separation
 
 -- below the least or above the most
@@ -81,11 +81,11 @@ held s = machineOf (take mostMachine (content 1 s))
 
 -- causes 1 to 4, for a service on a machine and the kinds that it needs besides
 unfoldable pub machineCauses : Needs → List ℕ → List Check
-machineCauses n s = sheetCauses (needed n) s ++ (cause3 (the 1 s) (content 1 s) ∷ cause4 (the 1 s) (content 1 s) ∷ [])
+machineCauses n s = sheetCauses (needed n) s ++ (cause3 (recordOf 1 s) (content 1 s) ∷ cause4 (recordOf 1 s) (content 1 s) ∷ [])
 
 -- causes 5 and 6, where the word is needed
 unfoldable pub wordCauses : Bool → List ℕ → List Check
-wordCauses true s = cause5 (machineIn s .k) (the 2 s) (content 2 s) ∷ cause6 (machineIn s) (content 2 s) ∷ []
+wordCauses true s = cause5 (machineIn s .k) (recordOf 2 s) (content 2 s) ∷ cause6 (machineIn s) (content 2 s) ∷ []
 wordCauses false s = []
 
 -- causes 1 to 6 by their numbers, 5 and 6 where the word is needed (§4.1)

@@ -2,7 +2,7 @@
 ghost use mathlib.Core.Path.{_≡_};
 ghost use Prim.Native.Nat.{_+_, _*_, _<_, _^_};
 ghost use Rattle.sheet.specs.Check.{first};
-ghost use Rattle.sheet.specs.Reader.{the, content};
+ghost use Rattle.sheet.specs.Reader.{recordOf, content};
 ghost use Rattle.machine.specs.Causes.{cause3, cause4, byteCause, commandsCause};
 ghost use Rattle.machine.specs.Causes.{outside as outsideOf};
 use crate::machine::Machine;
@@ -74,7 +74,7 @@ pub fn next_states(r: Record, p: &[u8]) -> Check
 // Causes 5 and 7: the commands of a record of a sheet, for a machine of k commands. The answer
 // counts where checks 1 and 2 are clear.
 pub fn commands(sheet: &[u8], kind: u16, number: u8, most: usize, k: u8) -> Check
-    ensures { λ c. ⌜ c ≡ commandsCause number most k (the kind (now (sheet .entry))) (content kind (now (sheet .entry))) ⌝ }
+    ensures { λ c. ⌜ c ≡ commandsCause number most k (recordOf kind (now (sheet .entry))) (content kind (now (sheet .entry))) ⌝ }
 {
     let r = record_of(sheet, kind);
     let w = read(sheet, kind);

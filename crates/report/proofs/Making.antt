@@ -9,18 +9,18 @@ use lib.Seq.{length-take-le}
 use Rattle.sheet.specs.declared.record.Record.{Record}
 use Rattle.sheet.specs.Format.{longest, header, end}
 use Rattle.sheet.specs.Format.Laws.{end-size}
-use Rattle.sheet.specs.Reader.{the, content}
+use Rattle.sheet.specs.Reader.{recordOf, content}
 use Rattle.sheet.specs.Reader.Laws.{clear-reads}
 use Rattle.sheet.specs.Writing.{recordBytes, written}
 use Rattle.machine.specs.Limits.{mostSequence}
 use Rattle.machine.specs.Causes.{machineIn}
 use Rattle.machine.specs.Causes.Lists.{load-word}
-use Rattle.machine.specs.Causes.Places.{load-short}
+use Rattle.machine.specs.Causes.Bounds.{load-short}
 use Rattle.build.specs.declared.service.Answer.{Answer}
 use Rattle.build.specs.declared.service.Answer.the-variants.{Built}
 use Rattle.build.specs.Sequence.{sequence}
 use Rattle.build.specs.Building.{buildNeeds, building, Builds}
-use Rattle.build.specs.Building.Service.{load-clear, answer-built, built-shows, built-buffer}
+use Rattle.build.specs.Building.Service.{load-clear, answer-built, built-sequence, built-buffer}
 use Rattle.report.specs.Printing.{Prints}
 use Rattle.report.specs.Sheets.{withSequence}
 use Rattle.report.specs.Output.{Output, onOutput, onError, Writes}
@@ -30,17 +30,17 @@ pub end-of : {r w : Record} → w ≡ r → w .start + header + w .size ≡ end 
 end-of {r} {w} e = sym (end-size w) ∙ ap end e
 
 -- the two records lie within the sheet
-pub front-fits : (s : List ℕ) {w : Record} → w ≡ the 2 s → end (the 2 s) ≤ length s
+pub front-fits : (s : List ℕ) {w : Record} → w ≡ recordOf 2 s → end (recordOf 2 s) ≤ length s
     → (length (take (w .start + header + w .size) s) ≡ w .start + header + w .size) × (w .start + header + w .size ≤ length s)
 front-fits s {w} e l = let inside : w .start + header + w .size ≤ length s = omega (arith, end-of e) in (length-take-le (w .start + header + w .size) s inside, inside)
 
-pub parts-are : (s xs : List ℕ) {n : ℕ} → n ≡ end (the 2 s) → take n s ++ recordBytes 3 xs ≡ withSequence s xs
+pub parts-are : (s xs : List ℕ) {n : ℕ} → n ≡ end (recordOf 2 s) → take n s ++ recordBytes 3 xs ≡ withSequence s xs
 unfolding withSequence
 parts-are s xs e = ap (λ (m : ℕ). take m s ++ recordBytes 3 xs) e
 
 -- ---- a built answer
-pub record Ready (s buffer : List ℕ) (n : ℕ) : Type 0 where
-  pub behind : end (the 2 s) ≤ length s
+pub record HoldsBuilt (s buffer : List ℕ) (n : ℕ) : Type 0 where
+  pub behind : end (recordOf 2 s) ≤ length s
   pub short : length s ≤ longest
   pub few : n ≤ mostSequence
   pub inside : n ≤ length buffer
@@ -50,17 +50,17 @@ pub record Ready (s buffer : List ℕ) (n : ℕ) : Type 0 where
 pub answer-is : {s before after : List ℕ} {a b : Answer} → length before ≡ mostSequence → Builds s before after a → a ≡ b → building mostSequence s ≡ b
 answer-is {s} {before} l h e = ap (λ (room : ℕ). building room s) (sym l) ∙ sym (h .answer .is) ∙ e
 
-pub built-ready : (s before after : List ℕ) {a : Answer} {n : ℕ} → length before ≡ mostSequence → Builds s before after a → a ≡ Built n → Ready s after n
-built-ready s before after {a} {n} l h e =
+pub built-holds : (s before after : List ℕ) {a : Answer} {n : ℕ} → length before ≡ mostSequence → Builds s before after a → a ≡ Built n → HoldsBuilt s after n
+built-holds s before after {a} {n} l h e =
     let here : building (length before) s ≡ Built n = sym (h .answer .is) ∙ e in
     let load = load-clear (length before) s (answer-built (length before) s here .0) in
-    let shows = built-shows (length before) s here in
+    let sequence-facts = built-sequence (length before) s here in
     let xs : take n after ≡ sequence (machineIn s) (content 2 s) = ap (take n) (h .buffer) ∙ built-buffer s before here .0 in
-    let sized : n ≡ length (take n after) = shows .long ∙ sym (ap length xs) in
+    let sized : n ≡ length (take n after) = sequence-facts .long ∙ sym (ap length xs) in
     record {
       behind = clear-reads 2 s (load-word buildNeeds s refl load) .inside;
       short = load-short buildNeeds s load;
-      few = omega (arith, shows .long, shows .commands .few);
+      few = omega (arith, sequence-facts .long, sequence-facts .commands .few);
       inside = omega (arith, sized, length-take n after);
       sized = sized;
       built = xs;

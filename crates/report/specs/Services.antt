@@ -31,8 +31,8 @@ unfoldable pub recordRead : ℕ → List ℕ → Output
 recordRead kind s = bytesUnless (refusalOf kind s) (content kind s)
 
 -- the house unit's sheet
-unfoldable pub houseShown : Output
-houseShown = onOutput houseSheet
+unfoldable pub houseWritten : Output
+houseWritten = onOutput houseSheet
 
 -- ---- the words themselves
 unfoldable pub helped : Output

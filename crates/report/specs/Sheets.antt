@@ -4,7 +4,7 @@ use Prim.Native.Nat.{ℕ}
 use mathlib.Core.List.{List, _++_}
 use lib.ListN.{take}
 use Rattle.sheet.specs.Format.{end}
-use Rattle.sheet.specs.Reader.{the, content}
+use Rattle.sheet.specs.Reader.{recordOf, content}
 use Rattle.sheet.specs.Writing.{recordBytes}
 use Rattle.machine.specs.Causes.{machineIn}
 use Rattle.machine.specs.House.{housePayload, houseWord}
@@ -14,7 +14,7 @@ pub mod House
 
 -- a sheet's bytes to the end of record 2, which are records 1 and 2 as they stand, and a sequence as record 3
 unfoldable pub withSequence : List ℕ → List ℕ → List ℕ
-withSequence s xs = take (end (the 2 s)) s ++ recordBytes 3 xs
+withSequence s xs = take (end (recordOf 2 s)) s ++ recordBytes 3 xs
 
 -- the same with the built sequence
 abbrev pub builtSheet : List ℕ → List ℕ

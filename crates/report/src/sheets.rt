@@ -4,11 +4,11 @@ ghost use Prim.Native.Nat.{_≤_};
 ghost use lib.ListN.{length};
 ghost use Rattle.machine.specs.Limits.{mostSequence};
 ghost use Rattle.sheet.specs.Format.{longest, end};
-ghost use Rattle.sheet.specs.Reader.{the};
+ghost use Rattle.sheet.specs.Reader.{recordOf};
 ghost use Rattle.report.specs.Printing.{Prints};
 ghost use Rattle.report.specs.Sheets.{withSequence};
 ghost use Rattle.report.specs.Output.{Writes};
-ghost use Rattle.report.specs.Services.{built, houseShown};
+ghost use Rattle.report.specs.Services.{built, houseWritten};
 use crate::lines::refused;
 use crate::output::OUTPUT;
 use crate::output::Written;
@@ -27,7 +27,7 @@ use sheet::record_of;
 
 // Puts records 1 and 2 and a sequence into a buffer; gives the length of it all.
 fn compose(sheet: &[u8], xs: &[u8], out: &mut [u8; OUTPUT]) -> usize
-    requires { ⌜ end (the 2 (now sheet)) ≤ length (now sheet) ⌝ }
+    requires { ⌜ end (recordOf 2 (now sheet)) ≤ length (now sheet) ⌝ }
     requires { ⌜ length (now sheet) ≤ longest ⌝ }
     requires { ⌜ length (now xs) ≤ mostSequence ⌝ }
     ensures { λ r. ⌜ Prints (withSequence (now (sheet .entry)) (now (xs .entry))) (now (out .entry)) (now (out .exit)) r ⌝ }
@@ -58,7 +58,7 @@ pub fn build_sheet(sheet: &[u8], out: &mut [u8; OUTPUT]) -> Written
 
 // The house unit's sheet: its machine and its word.
 pub fn house_sheet(out: &mut [u8; OUTPUT]) -> Written
-    ensures { λ r. ⌜ Writes houseShown (now (out .entry)) (now (out .exit)) r ⌝ }
+    ensures { λ r. ⌜ Writes houseWritten (now (out .entry)) (now (out .exit)) r ⌝ }
 {
     let payload = house_payload();
     let next = put_record(MACHINE_KIND, &payload, 0, out);

@@ -1,12 +1,12 @@
 -- Checks, the order in which their causes count (§4.1), and what a refusal leaves (§4.3).
--- A check is Clear, or Refused with the refusal's number and its place. The laws stand in Check.Laws, bounds on places in Check.Places.
+-- A check is Clear, or Refused with the refusal's number and its place. The laws stand in Check.Laws, bounds on places in Check.Bounds.
 use Prim.Native.Nat.{ℕ, zero, suc}
 use mathlib.Core.Bool.{Bool, true, false}
 use mathlib.Core.List.{List, [], _∷_}
 use Rattle.sheet.specs.declared.check.Check.{Check}
 use Rattle.sheet.specs.declared.check.Check.the-variants.{Clear, Refused}
 pub mod Laws
-pub mod Places
+pub mod Bounds
 
 infix 20 refusal_with_if_
 infixr 15 _else_

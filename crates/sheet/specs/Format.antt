@@ -84,10 +84,10 @@ abbrev pub _before_ : Record → Parsed → Parsed
 r before w = record { records = r ∷ w .records; stop = w .stop }
 
 -- one step of the parsing: at the sheet's end it ends, at a cause it stops, else a record and what follows it
-unfoldable pub onward : Bool → Check → Record → Parsed → Parsed
-onward false c r w = ended Clear
-onward true (Refused n p) r w = ended (Refused n p)
-onward true Clear r w = r before w
+unfoldable pub parseStep : Bool → Check → Record → Parsed → Parsed
+parseStep false c r w = ended Clear
+parseStep true (Refused n p) r w = ended (Refused n p)
+parseStep true Clear r w = r before w
 
 -- the parsing from a place on, last being the rank of the record before. The first number bounds the steps, for the recursion; parse-end
 -- and parse-on, in Format.Laws, are the equations of parse without it
@@ -95,7 +95,7 @@ unfoldable pub parseFrom : ℕ → List ℕ → ℕ → ℕ → Parsed
 parseFrom zero s at last = ended Clear
 parseFrom (suc f) s at last =
     let w : Parsed = parseFrom f s (end (recordAt s at)) (rankAt s at) in
-    onward (ltb at (length s)) (causeAt s at last) (recordAt s at) w
+    parseStep (ltb at (length s)) (causeAt s at last) (recordAt s at) w
 
 -- a record takes at least its header, so as many steps as there are bytes left are enough
 unfoldable pub parse : List ℕ → ℕ → ℕ → Parsed

@@ -1,5 +1,5 @@
 -- Checks 1 and 2 of a whole sheet (§4.1, §4.2), and what reading it gives (§2.4).
--- The laws stand in Reader.Laws, bounds on places in Reader.Places.
+-- The laws stand in Reader.Laws, bounds on places in Reader.Bounds.
 use Prim.Native.Nat.{ℕ, _+_, _≤_}
 use mathlib.Core.Path.{_≡_}
 use mathlib.Core.Bool.{Bool, true, false}
@@ -17,7 +17,7 @@ use Rattle.sheet.specs.declared.reader.Needs.{Needs}
 use Rattle.sheet.specs.Check.{refusal_with_if_, firstCause}
 use Rattle.sheet.specs.Format.{longest, header, end, parsed, find}
 pub mod Laws
-pub mod Places
+pub mod Bounds
 
 -- cause 1 of a sheet that is too long, which comes before every other (§4.1)
 abbrev pub tooLong : List ℕ → Check
@@ -59,8 +59,8 @@ recordOr (At r) = r
 recordOr Missing = record { start = 0; size = 0; kind = 0 }
 
 -- the record that places are counted from
-unfoldable pub the : ℕ → List ℕ → Record
-the k s = recordOr (find k (parsed s .records))
+unfoldable pub recordOf : ℕ → List ℕ → Record
+recordOf k s = recordOr (find k (parsed s .records))
 
 -- where a record's payload lies, behind the header; the empty part at the sheet's start where there is none
 abbrev pub payloadPart : Found → Part
@@ -94,7 +94,7 @@ handed s p = ((s .ptr .0, s .ptr .1 + p .from), bytes p (now s))
 
 -- reading a kind that is not refused: the record is of that kind and lies inside the sheet, and the part is its payload
 pub record Reads (k : ℕ) (s : List ℕ) : Type 0 where
-  pub kind : the k s .kind ≡ k
-  pub from : part k s .from ≡ the k s .start + header
-  pub size : part k s .size ≡ the k s .size
-  pub inside : end (the k s) ≤ length s
+  pub kind : recordOf k s .kind ≡ k
+  pub from : part k s .from ≡ recordOf k s .start + header
+  pub size : part k s .size ≡ recordOf k s .size
+  pub inside : end (recordOf k s) ≤ length s

@@ -5,7 +5,7 @@ ghost use lib.ListN.{length};
 ghost use Rattle.sheet.specs.Check.{firstCause};
 ghost use Rattle.sheet.specs.Format.{parsed, find};
 ghost use Rattle.sheet.specs.Reader.{tooLong, isMissing, whenMissing, sheetCauses, needed, refusalOf, seen, handed};
-ghost use Rattle.sheet.specs.Reader.{part as partOf, the as theOf};
+ghost use Rattle.sheet.specs.Reader.{part as partOf, recordOf};
 ghost use Rattle.sheet.specs.Values.{Returns, valuesOf};
 use crate::check::Check;
 use crate::check::first_of;
@@ -93,7 +93,7 @@ pub fn checks(sheet: &[u8], needs: Needs) -> Check
 
 // The record of a kind, an empty one where there is none: it counts where checks 1 and 2 are clear.
 pub fn record_of(sheet: &[u8], kind: u16) -> Record
-    ensures { λ r. ⌜ r ≡ theOf kind (now (sheet .entry)) ⌝ }
+    ensures { λ r. ⌜ r ≡ recordOf kind (now (sheet .entry)) ⌝ }
 {
     let w = parse(sheet, kind);
     let found = w.found;

@@ -1,11 +1,11 @@
 -- The cases with a star (§10.3): one collection, in their order, of the bytes of their sheets and the definitions of
--- building, certifying, judging and the bench's line. That all of them hold is shown once, as a whole, in Starred.Shown.
+-- building, certifying, judging and the bench's line. That all of them hold is shown once, as a whole, in Starred.Proofs.
 -- Where a room is lent, the case holds for every room that is large enough.
 use Prim.Native.Nat.{ℕ, _≤_}
 use mathlib.Core.Path.{_≡_}
 use mathlib.Core.List.{List, [], _∷_, _++_}
 use lib.ListN.{length, drop}
-use Rattle.sheet.specs.Writing.{headerOf}
+use Rattle.sheet.specs.Writing.{recordBytes}
 use Rattle.certify.specs.declared.answer.Answer.the-variants.{Certified, Open, Refused as NotCertified}
 use Rattle.certify.specs.Certification.{certification}
 use Rattle.build.specs.declared.service.Answer.the-variants.{Built, Refused as NotBuilt}
@@ -15,22 +15,18 @@ use Rattle.judge.specs.declared.answer.Answer.the-variants.{Pass, Wrong, Unfini
 use Rattle.judge.specs.Judging.{judgement}
 use Rattle.report.specs.Text.{bytes}
 use Rattle.report.specs.Lines.{judgeLine}
-pub mod Shown
+pub mod Proofs
 
 -- ---- the sheets
--- a record of a kind and a payload
-abbrev pub recordOf : ℕ → List ℕ → List ℕ
-recordOf kind payload = headerOf kind (length payload) ++ payload
-
 -- a table and a word, with a sequence, and with answers besides
 abbrev pub unitSheet : List ℕ → List ℕ → List ℕ
-unitSheet table word = recordOf 1 table ++ recordOf 2 word
+unitSheet table word = recordBytes 1 table ++ recordBytes 2 word
 
 abbrev pub sequenceSheet : List ℕ → List ℕ → List ℕ → List ℕ
-sequenceSheet table word xs = unitSheet table word ++ recordOf 3 xs
+sequenceSheet table word xs = unitSheet table word ++ recordBytes 3 xs
 
 abbrev pub answersSheet : List ℕ → List ℕ → List ℕ → List ℕ → List ℕ
-answersSheet table word xs ys = sequenceSheet table word xs ++ recordOf 4 ys
+answersSheet table word xs ys = sequenceSheet table word xs ++ recordBytes 4 ys
 
 -- the payload of the twin's record 1 (§10.2)
 abbrev pub twinTable : List ℕ

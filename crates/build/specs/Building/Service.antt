@@ -11,7 +11,7 @@ use Rattle.sheet.specs.declared.check.Check.{Check}
 use Rattle.sheet.specs.declared.check.Check.the-variants.{Clear, Refused}
 use Rattle.sheet.specs.Check.{_else_, firstCause, refusedOr}
 use Rattle.sheet.specs.Check.Laws.{both-clear, else-clear, else-refused, cause-two, cause-append}
-use Rattle.sheet.specs.Reader.{the, content}
+use Rattle.sheet.specs.Reader.{recordOf, content}
 use Rattle.sheet.specs.Writing.{written}
 use Rattle.machine.specs.Limits.{mostWord, mostSequence}
 use Rattle.machine.specs.Machine.{Mealy, run, Proper, Commands}
@@ -126,7 +126,7 @@ module _ (room : ℕ) (s : List ℕ) where
       let six : cause6 (machineIn s) (content 2 s) ≡ Clear = separates-clear (machineIn s) (content 2 s) (h .separates) in
       let word : firstCause (wordCauses true s) ≡ Clear = word-causes-are s ∙ (rw (h .word, six) (else-clear Clear)) in
       let load : firstCause (loadCauses buildNeeds s) ≡ Clear = load-causes-are buildNeeds s ∙ (rw (h .machine, word) (else-clear Clear)) in
-      let commands : Commands mostWord (machineIn s .k) (content 2 s) = clear-commands 5 mostWord (machineIn s .k) (the 2 s) (content 2 s) (h .word) in
+      let commands : Commands mostWord (machineIn s .k) (content 2 s) = clear-commands 5 mostWord (machineIn s .k) (recordOf 2 s) (content 2 s) (h .word) in
       let eight = connected-clear (machineIn s) (content 2 s) (machine-proper buildNeeds s (h .machine)) commands (h .connected) in
       room-cause room s load eight ∙ room-clear _ _ (h .fits)
 
@@ -169,8 +169,8 @@ module _ (room : ℕ) (s : List ℕ) where
       unconnected (r .0) (r .1)
   why (three l c e) = narrow-by e
 
-  pub refused-shows : {a b : ℕ} → building room s ≡ RefusedAnswer a b → RefusedFor room s a b
-  refused-shows e = why (which _ _ _ (sym (build-causes-are room s) ∙ answer-refused room s e))
+  pub refused-for : {a b : ℕ} → building room s ≡ RefusedAnswer a b → RefusedFor room s a b
+  refused-for e = why (which _ _ _ (sym (build-causes-are room s) ∙ answer-refused room s e))
 
 -- it writes nothing
 pub refused-buffer : (s buffer : List ℕ) {a b : ℕ} → building (length buffer) s ≡ RefusedAnswer a b → bufferAfter s buffer ≡ buffer
@@ -210,8 +210,8 @@ always-fits room s l load eight =
     room-cause room s load eight ∙ room-clear _ _ (omega (arith, xs .commands .few))
 
 -- an answer of built shows all that of the sequence
-pub built-shows : (room : ℕ) (s : List ℕ) {n : ℕ} → building room s ≡ Built n → BuiltSequence (machineIn s) (content 2 s) (sequence (machineIn s) (content 2 s)) n
-built-shows room s e =
+pub built-sequence : (room : ℕ) (s : List ℕ) {n : ℕ} → building room s ≡ Built n → BuiltSequence (machineIn s) (content 2 s) (sequence (machineIn s) (content 2 s)) n
+built-sequence room s e =
     let a = answer-built room s e in
     let load = load-clear room s (a .0) in
     let d = word-distinguishes buildNeeds s refl load in
@@ -232,5 +232,5 @@ pub built-certification : (room : ℕ) (s : List ℕ) {n : ℕ} → building roo
     → firstCause (certifyCauses marksRoom with-sequence) ≡ Clear
     → certification marksRoom with-sequence ≡ CertifiedAnswer (count (marks (machineIn s) (content 2 s) (sequence (machineIn s) (content 2 s))))
 built-certification room s e marksRoom with-sequence me we xe clear =
-    let shows = built-shows room s e in
-    certification-clear marksRoom with-sequence clear ∙ (rw (me, we, xe) (shows .outcome))
+    let sequence-facts = built-sequence room s e in
+    certification-clear marksRoom with-sequence clear ∙ (rw (me, we, xe) (sequence-facts .outcome))

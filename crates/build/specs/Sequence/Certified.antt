@@ -15,7 +15,7 @@ use lib.Seq.{take-append-seam, drop-append-seam, getD-append-seam}
 use borrow.Author.Count.{below-more}
 use Rattle.machine.specs.Machine.{Mealy, run, stateAt}
 use Rattle.machine.specs.Machine.Laws.{run-none, run-append, run-cons, state-split}
-use Rattle.certify.specs.Recognition.{Stands, Recognised, Verified, Certified}
+use Rattle.certify.specs.Recognition.{OccursAt, Recognised, Verified, Certified}
 use Rattle.certify.specs.Recognition.Laws.{by-rule1, by-rule2}
 use Rattle.build.specs.Sequence.{following, T, nthState, firstBlocks, opening, approach, test, stateTests, tests, sequence}
 use Rattle.build.specs.Sequence.Cycle.{following-below, gap, gap-below, nthState-next, nthState-at, nthState-below, nthState-start}
@@ -251,18 +251,18 @@ module _ (M : Mealy) (w : List ℕ) (h : Blocks M w) where
   -- ---- recognised places
   module _ (xs : List ℕ) where
     -- a block begins with the word
-    block-stands : (before : List ℕ) (s : ℕ) (after : List ℕ) → s < M .n → xs ≡ before ++ (T M w s ++ after) → Stands w xs (length before)
-    block-stands before s after sl e =
+    block-occurs : (before : List ℕ) (s : ℕ) (after : List ℕ) → s < M .n → xs ≡ before ++ (T M w s ++ after) → OccursAt w xs (length before)
+    block-occurs before s after sl e =
         let b = h .begins s sl in
         let whole : xs ≡ before ++ (w ++ (b .0 ++ after)) = e ∙ ap (λ (l : List ℕ). before ++ l) (ap (λ (l : List ℕ). l ++ after) (b .1) ∙ append-assoc w (b .0) after) in
         let long : length xs ≡ length before + (length w + length (b .0 ++ after)) = ap length whole ∙ length-append before _ ∙ ap (λ (x : ℕ). length before + x) (length-append w _) in
         record {
           inside = omega arith;
-          stands = rw (whole, drop-append-seam before (w ++ (b .0 ++ after))) (take-append-seam w (b .0 ++ after));
+          commands = rw (whole, drop-append-seam before (w ++ (b .0 ++ after))) (take-append-seam w (b .0 ++ after));
         }
 
     block-start : (before : List ℕ) (s : ℕ) (after : List ℕ) → s < M .n → xs ≡ before ++ (T M w s ++ after) → Recognised M w xs (length before)
-    block-start before s after sl e = by-rule1 M w xs (length before) (block-stands before s after sl e)
+    block-start before s after sl e = by-rule1 M w xs (length before) (block-occurs before s after sl e)
 
     state-behind : (before after : List ℕ) → xs ≡ before ++ after → stateAt M xs (length before) ≡ run M (M .start) before
     state-behind before after e = ap (λ (l : List ℕ). stateAt M l (length before)) e ∙ state-split M before after

@@ -17,7 +17,7 @@ use Rattle.machine.specs.Machine.{Mealy, stateAt}
 use Rattle.machine.specs.Causes.{machineIn}
 use Rattle.certify.specs.declared.answer.Answer.{Answer}
 use Rattle.certify.specs.declared.answer.Answer.the-variants.{Certified as CertifiedAnswer, Open, Refused as RefusedAnswer}
-use Rattle.certify.specs.Recognition.{Stands, MarksOf, RecognisedNumber}
+use Rattle.certify.specs.Recognition.{OccursAt, MarksOf, RecognisedNumber}
 use Rattle.certify.specs.Recognition.Laws.{closure-recognised, recognised-closure}
 use Rattle.certify.specs.Marks.{count, marks}
 use Rattle.certify.specs.Marks.Agreement.{Exact, marks-unique, marks-length, marks-bits, marked-recognised, recognised-marked}
@@ -42,7 +42,7 @@ module _ (M : Mealy) (w xs : List ℕ) where
   marks-number e = record { marks = marks M w xs; are = marks-of; number = e }
 
   -- no other list has such marks, and no other number is theirs
-  of-exact : (ms : List ℕ) → MarksOf M w xs ms → Exact xs (stateAt M xs) (Stands w xs) ms
+  of-exact : (ms : List ℕ) → MarksOf M w xs ms → Exact xs (stateAt M xs) (OccursAt w xs) ms
   of-exact ms h = record {
     long = h .long;
     bits = λ p. bit p (eqb (getD (marks M w xs) p 0) 1) refl;

@@ -11,7 +11,7 @@ use Rattle.sheet.specs.declared.check.Check.{Check}
 use Rattle.sheet.specs.declared.check.Check.the-variants.{Clear, Refused}
 use Rattle.sheet.specs.Check.{refusal_with_if_, _else_, firstCause, first}
 use Rattle.sheet.specs.Check.Laws.{cause-two, cause-append, absent, present, clear-absent, both-clear, else-clear, else-refused, first-clear, first-clear-at, first-found, Present, first-present, present-test}
-use Rattle.sheet.specs.Reader.{the, content}
+use Rattle.sheet.specs.Reader.{recordOf, content}
 use Rattle.sheet.specs.Writing.{written}
 use Rattle.machine.specs.Limits.{mostSequence}
 use Rattle.machine.specs.Machine.{Mealy, stateAt, Commands}
@@ -35,9 +35,9 @@ pub record VerifiedBy (M : Mealy) (xs ms : List ℕ) (s c : ℕ) : Type 0 where
   pub before : getD ms place 0 ≡ 1
   pub after : getD ms (place + 1) 0 ≡ 1
 
-pub verified-shown : (M : Mealy) (xs ms : List ℕ) (s c : ℕ) → verified M xs ms s c ≡ true → VerifiedBy M xs ms s c
+pub verified-by : (M : Mealy) (xs ms : List ℕ) (s c : ℕ) → verified M xs ms s c ≡ true → VerifiedBy M xs ms s c
 unfolding verified
-verified-shown M xs ms s c e =
+verified-by M xs ms s c e =
     let f = any-found _ _ e in
     let a = both-true _ _ (f .2) in
     let b = both-true _ _ (a .1) in
@@ -51,9 +51,9 @@ verified-shown M xs ms s c e =
       after = marked-true ms _ (d .1);
     }
 
-pub shown-verified : (M : Mealy) (xs ms : List ℕ) (s c : ℕ) → VerifiedBy M xs ms s c → verified M xs ms s c ≡ true
+pub by-verified : (M : Mealy) (xs ms : List ℕ) (s c : ℕ) → VerifiedBy M xs ms s c → verified M xs ms s c ≡ true
 unfolding verified
-shown-verified M xs ms s c v =
+by-verified M xs ms s c v =
     any-holds _ _ (v .place) (v .inside)
     (rw (eq-eqb _ _ (v .state), eq-eqb _ _ (v .command), true-marked ms _ (v .before), true-marked ms _ (v .after)))
 
@@ -61,7 +61,7 @@ module _ (M : Mealy) (w xs : List ℕ) where
   -- ---- verified, both directions
   pub verified-true : (s c : ℕ) → verified M xs (marks M w xs) s c ≡ true → Verified M w xs s c
   verified-true s c e =
-      let v = verified-shown M xs (marks M w xs) s c e in
+      let v = verified-by M xs (marks M w xs) s c e in
       record {
         place = v .place;
         inside = v .inside;
@@ -72,7 +72,7 @@ module _ (M : Mealy) (w xs : List ℕ) where
       }
 
   pub true-verified : (s c : ℕ) → Verified M w xs s c → verified M xs (marks M w xs) s c ≡ true
-  true-verified s c v = shown-verified M xs (marks M w xs) s c (record {
+  true-verified s c v = by-verified M xs (marks M w xs) s c (record {
     place = v .place;
     inside = v .inside;
     state = v .state;
@@ -220,24 +220,24 @@ unfolding cause9
 room-refused room bytes e = let t = present-test 9 bytes (ltb room bytes) e in (t .1 .0, (t .1 .1, ltb-true room bytes (t .0)))
 
 pub sequence-causes-are : (answers : Bool) (room : ℕ) (s : List ℕ) → firstCause (sequenceCauses answers room s)
-    ≡ (firstCause (loadCauses (sequenceNeeds answers) s) else (cause7 (machineIn s .k) (the 3 s) (content 3 s) else cause9 room (markBytes (content 3 s))))
+    ≡ (firstCause (loadCauses (sequenceNeeds answers) s) else (cause7 (machineIn s .k) (recordOf 3 s) (content 3 s) else cause9 room (markBytes (content 3 s))))
 unfolding sequenceCauses
 sequence-causes-are answers room s =
-    let seven = cause7 (machineIn s .k) (the 3 s) (content 3 s) in
+    let seven = cause7 (machineIn s .k) (recordOf 3 s) (content 3 s) in
     let nine = cause9 room (markBytes (content 3 s)) in
     cause-append (loadCauses (sequenceNeeds answers) s) (seven ∷ nine ∷ [])
     ∙ ap (λ (c : Check). firstCause (loadCauses (sequenceNeeds answers) s) else c) (cause-two seven nine)
 
 module _ (answers : Bool) (room : ℕ) (s : List ℕ) (e : firstCause (sequenceCauses answers room s) ≡ Clear) where
   both-parts : (firstCause (loadCauses (sequenceNeeds answers) s) ≡ Clear)
-      × ((cause7 (machineIn s .k) (the 3 s) (content 3 s) else cause9 room (markBytes (content 3 s))) ≡ Clear)
+      × ((cause7 (machineIn s .k) (recordOf 3 s) (content 3 s) else cause9 room (markBytes (content 3 s))) ≡ Clear)
   both-parts = both-clear _ _ (sym (sequence-causes-are answers room s) ∙ e)
 
   pub load-clear : firstCause (loadCauses (sequenceNeeds answers) s) ≡ Clear
   load-clear = both-parts .0
 
   pub sequence-commands : Commands mostSequence (machineIn s .k) (content 3 s)
-  sequence-commands = clear-commands 7 mostSequence (machineIn s .k) (the 3 s) (content 3 s) (both-clear _ _ (both-parts .1) .0)
+  sequence-commands = clear-commands 7 mostSequence (machineIn s .k) (recordOf 3 s) (content 3 s) (both-clear _ _ (both-parts .1) .0)
 
   pub room-enough : markBytes (content 3 s) ≤ room
   room-enough = clear-room _ _ (both-clear _ _ (both-parts .1) .1)

@@ -13,30 +13,30 @@ use Rattle.sheet.specs.Tests.{both-true, either-true, or-left, or-right, true-o
 use Rattle.machine.specs.Machine.{Mealy, stateAt}
 use Rattle.machine.specs.Causes.{same}
 use Rattle.machine.specs.Causes.Separation.{same-refl, same-equal}
-use Rattle.certify.specs.Recognition.{Stands, Closure, rule1, rule2, Recognised}
+use Rattle.certify.specs.Recognition.{OccursAt, Closure, rule1, rule2, Recognised}
 use Rattle.certify.specs.Recognition.Laws.{closure-recognised, recognised-closure, recognised-inside}
-use Rattle.certify.specs.Marks.{marksBy, Bits, marked, count, stands, shown, grown, settled, closure, marks}
+use Rattle.certify.specs.Marks.{marksBy, Bits, marked, count, occursAt, byRule2, grown, settled, closure, marks}
 use Rattle.certify.specs.Marks.Laws.{any-found, any-holds, marked-true, true-marked, marked-inside, marks-by-length, marks-by-bits, marks-by-one, marks-by-true, count-most, count-below, count-same}
 
 -- ---- rule 1
-pub stands-true : (w xs : List ℕ) (p : ℕ) → stands w xs p ≡ true → Stands w xs p
-unfolding stands
-stands-true w xs p e =
+pub occurs-true : (w xs : List ℕ) (p : ℕ) → occursAt w xs p ≡ true → OccursAt w xs p
+unfolding occursAt
+occurs-true w xs p e =
     let h = both-true (leb (p + length w) (length xs)) (same (take (length w) (drop p xs)) w) e in
-    record { inside = leb-true _ _ (h .0); stands = same-equal _ _ (h .1) }
+    record { inside = leb-true _ _ (h .0); commands = same-equal _ _ (h .1) }
 
-pub true-stands : (w xs : List ℕ) (p : ℕ) → Stands w xs p → stands w xs p ≡ true
-unfolding stands
-true-stands w xs p h = rw (le-leb _ _ (h .inside), h .stands) (same-refl w)
+pub true-occurs : (w xs : List ℕ) (p : ℕ) → OccursAt w xs p → occursAt w xs p ≡ true
+unfolding occursAt
+true-occurs w xs p h = rw (le-leb _ _ (h .inside), h .commands) (same-refl w)
 
-pub stands-fails : (w xs : List ℕ) (p : ℕ) → (Stands w xs p → ⊥) → false ≡ stands w xs p
-stands-fails w xs p n =
-    ⊎-elim (λ (e : stands w xs p ≡ true). absurd (n (stands-true w xs p e))) (λ (e : stands w xs p ≡ false). sym e) (true-or-false (stands w xs p))
+pub occurs-fails : (w xs : List ℕ) (p : ℕ) → (OccursAt w xs p → ⊥) → false ≡ occursAt w xs p
+occurs-fails w xs p n =
+    ⊎-elim (λ (e : occursAt w xs p ≡ true). absurd (n (occurs-true w xs p e))) (λ (e : occursAt w xs p ≡ false). sym e) (true-or-false (occursAt w xs p))
 
 -- ---- rule 2
 module _ (xs : List ℕ) (state : ℕ → ℕ) (ms : List ℕ) where
   -- rule 2 on marked places
-  pub record Shown (r : ℕ) : Type 0 where
+  pub record ByRule2 (r : ℕ) : Type 0 where
     pub p : ℕ
     pub q : ℕ
     pub m : ℕ
@@ -48,9 +48,9 @@ module _ (xs : List ℕ) (state : ℕ → ℕ) (ms : List ℕ) where
     pub commands : take m (drop p xs) ≡ take m (drop q xs)
     pub at : r ≡ q + m
 
-  shown-true : (r : ℕ) → shown xs state ms r ≡ true → Shown r
-  unfolding shown
-  shown-true r e =
+  by-rule2-true : (r : ℕ) → byRule2 xs state ms r ≡ true → ByRule2 r
+  unfolding byRule2
+  by-rule2-true r e =
       let a = any-found _ _ e in
       let b = any-found _ _ (a .2) in
       let l : 1 ≤ r - b .0 = omega (arith, b .1) in
@@ -72,9 +72,9 @@ module _ (xs : List ℕ) (state : ℕ → ℕ) (ms : List ℕ) where
         at = at-r;
       }
 
-  true-shown : (r : ℕ) → length ms ≡ length xs + 1 → Shown r → shown xs state ms r ≡ true
-  unfolding shown
-  true-shown r long h =
+  true-by-rule2 : (r : ℕ) → length ms ≡ length xs + 1 → ByRule2 r → byRule2 xs state ms r ≡ true
+  unfolding byRule2
+  true-by-rule2 r long h =
       let e : r - h .q ≡ h .m = omega arith in
       let inside = marked-inside ms (h .p + h .m) (h .end-marked) in
       any-holds _ _ (h .p) (omega (arith, inside)) (any-holds _ _ (h .q) (omega arith) (rw e
@@ -92,16 +92,16 @@ module _ (xs : List ℕ) (state : ℕ → ℕ) (ms : List ℕ) where
   unfolding grown
   grown-keeps p l e = marks-by-one xs _ p l (or-left _ (true-marked ms p e))
 
-  grown-adds : (r : ℕ) → r ≤ length xs → length ms ≡ length xs + 1 → Shown r → getD (grown xs state ms) r 0 ≡ 1
+  grown-adds : (r : ℕ) → r ≤ length xs → length ms ≡ length xs + 1 → ByRule2 r → getD (grown xs state ms) r 0 ≡ 1
   unfolding grown
-  grown-adds r l long h = marks-by-one xs _ r l (or-right (marked ms r) (true-shown r long h))
+  grown-adds r l long h = marks-by-one xs _ r l (or-right (marked ms r) (true-by-rule2 r long h))
 
-  grown-from : (r : ℕ) → getD (grown xs state ms) r 0 ≡ 1 → (getD ms r 0 ≡ 1) ⊎ (Shown r)
+  grown-from : (r : ℕ) → getD (grown xs state ms) r 0 ≡ 1 → (getD ms r 0 ≡ 1) ⊎ (ByRule2 r)
   unfolding grown
   grown-from r e =
       ⊎-elim (λ (h : marked ms r ≡ true). inl (marked-true ms r h))
-      (λ (h : shown xs state ms r ≡ true). inr (shown-true r h))
-      (either-true (marked ms r) (shown xs state ms r) (marks-by-true xs _ r e))
+      (λ (h : byRule2 xs state ms r ≡ true). inr (by-rule2-true r h))
+      (either-true (marked ms r) (byRule2 xs state ms r) (marks-by-true xs _ r e))
 
 -- ---- growing until nothing is added
 -- a list of marks of all places that rule 2 adds nothing to
@@ -164,7 +164,7 @@ equal-inside xs p q m l i e =
 module _ (xs : List ℕ) (state : ℕ → ℕ) (Base : ℕ → Type 0) where
   -- what has both rules contains the smallest set
   pub closed-complete : (ms : List ℕ) → length ms ≡ length xs + 1 → ((p : ℕ) → p ≤ length xs → Base p → getD ms p 0 ≡ 1)
-      → ((r : ℕ) → r ≤ length xs → Shown xs state ms r → getD ms r 0 ≡ 1)
+      → ((r : ℕ) → r ≤ length xs → ByRule2 xs state ms r → getD ms r 0 ≡ 1)
       → (p : ℕ) → p ≤ length xs → Closure xs state Base p → getD ms p 0 ≡ 1
   closed-complete ms long one two p l (rule1 h) = one p l h
   closed-complete ms long one two r l (rule2 p q m ml hp hq e hm i same at) =
@@ -208,8 +208,8 @@ module _ (xs : List ℕ) (state : ℕ → ℕ) (Base : ℕ → Type 0) where
       sound : (p : ℕ) → getD ms p 0 ≡ 1 → Closure xs state Base p
       holds : (p : ℕ) → p ≤ length xs → Base p → getD ms p 0 ≡ 1
 
-    shown-sound : (ms : List ℕ) (r : ℕ) → r ≤ length xs → ((p : ℕ) → getD ms p 0 ≡ 1 → Closure xs state Base p) → Shown xs state ms r → Closure xs state Base r
-    shown-sound ms r l h s =
+    by-rule2-sound : (ms : List ℕ) (r : ℕ) → r ≤ length xs → ((p : ℕ) → getD ms p 0 ≡ 1 → Closure xs state Base p) → ByRule2 xs state ms r → Closure xs state Base r
+    by-rule2-sound ms r l h s =
         rule2 (s .p) (s .q) (s .m) (s .some) (h _ (s .p-marked)) (h _ (s .q-marked)) (s .states) (h _ (s .end-marked)) (omega arith) (s .commands) (s .at)
 
     grows : (ms : List ℕ) → Growing ms → Growing (grown xs state ms)
@@ -218,7 +218,7 @@ module _ (xs : List ℕ) (state : ℕ → ℕ) (Base : ℕ → Type 0) where
       bits = grown-bits xs state ms;
       sound = λ p e.
           ⊎-elim (h .sound p)
-          (shown-sound ms p (omega (arith, marked-inside (grown xs state ms) p e, grown-length xs state ms)) (h .sound))
+          (by-rule2-sound ms p (omega (arith, marked-inside (grown xs state ms) p e, grown-length xs state ms)) (h .sound))
           (grown-from xs state ms p e);
       holds = λ p l b. grown-keeps xs state ms p l (h .holds p l b);
     }
@@ -245,12 +245,12 @@ module _ (xs : List ℕ) (state : ℕ → ℕ) (Base : ℕ → Type 0) where
 
 -- ---- the marks of a sequence
 module _ (M : Mealy) (w xs : List ℕ) where
-  pub marks-exact : Exact xs (stateAt M xs) (Stands w xs) (marks M w xs)
+  pub marks-exact : Exact xs (stateAt M xs) (OccursAt w xs) (marks M w xs)
   unfolding marks
-  marks-exact = closure-exact xs (stateAt M xs) (Stands w xs) (stands w xs) (stands-true w xs) (true-stands w xs)
+  marks-exact = closure-exact xs (stateAt M xs) (OccursAt w xs) (occursAt w xs) (occurs-true w xs) (true-occurs w xs)
 
-  pub marks-unique : (ms : List ℕ) → Exact xs (stateAt M xs) (Stands w xs) ms → ms ≡ marks M w xs
-  marks-unique ms h = exact-unique xs (stateAt M xs) (Stands w xs) ms (marks M w xs) h marks-exact
+  pub marks-unique : (ms : List ℕ) → Exact xs (stateAt M xs) (OccursAt w xs) ms → ms ≡ marks M w xs
+  marks-unique ms h = exact-unique xs (stateAt M xs) (OccursAt w xs) ms (marks M w xs) h marks-exact
 
   pub marks-length : length (marks M w xs) ≡ length xs + 1
   marks-length = marks-exact .long

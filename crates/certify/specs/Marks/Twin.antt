@@ -4,7 +4,7 @@ use Prim.Native.Nat.{ℕ}
 use mathlib.Core.Path.{_≡_, refl}
 use mathlib.Core.List.{[], _∷_}
 use Rattle.machine.specs.Machine.{Mealy, machineOf, stateAt, run}
-use Rattle.certify.specs.Marks.{any, tabulate, marksBy, count, stands, shown, grown, settled, closure, marks}
+use Rattle.certify.specs.Marks.{any, tabulate, marksBy, count, occursAt, byRule2, grown, settled, closure, marks}
 
 -- the twin (§10.2)
 unfoldable pub twin : Mealy
@@ -15,37 +15,37 @@ unfoldable pub single : ℕ → Mealy
 single answer = machineOf (1 ∷ 1 ∷ 0 ∷ answer ∷ [])
 
 pub marks-built : marks twin (0 ∷ []) (0 ∷ 0 ∷ 0 ∷ 0 ∷ 0 ∷ 0 ∷ 1 ∷ 0 ∷ 0 ∷ 0 ∷ 1 ∷ 0 ∷ []) ≡ 1 ∷ 1 ∷ 1 ∷ 1 ∷ 1 ∷ 1 ∷ 1 ∷ 1 ∷ 1 ∷ 1 ∷ 1 ∷ 1 ∷ 1 ∷ []
-unfolding marks closure settled grown shown stands any tabulate marksBy count twin machineOf stateAt run
+unfolding marks closure settled grown byRule2 occursAt any tabulate marksBy count twin machineOf stateAt run
 marks-built = refl
 
 pub marks-mutual : marks twin (0 ∷ []) (0 ∷ 0 ∷ 1 ∷ 0 ∷ 1 ∷ 0 ∷ []) ≡ 1 ∷ 1 ∷ 0 ∷ 1 ∷ 1 ∷ 1 ∷ 0 ∷ []
-unfolding marks closure settled grown shown stands any tabulate marksBy count twin machineOf stateAt run
+unfolding marks closure settled grown byRule2 occursAt any tabulate marksBy count twin machineOf stateAt run
 marks-mutual = refl
 
 pub marks-longer : marks twin (0 ∷ []) (0 ∷ 0 ∷ 1 ∷ 0 ∷ 1 ∷ 0 ∷ 0 ∷ []) ≡ 1 ∷ 1 ∷ 1 ∷ 1 ∷ 1 ∷ 1 ∷ 1 ∷ 1 ∷ []
-unfolding marks closure settled grown shown stands any tabulate marksBy count twin machineOf stateAt run
+unfolding marks closure settled grown byRule2 occursAt any tabulate marksBy count twin machineOf stateAt run
 marks-longer = refl
 
 pub marks-one : marks twin (0 ∷ []) (0 ∷ []) ≡ 1 ∷ 0 ∷ []
-unfolding marks closure settled grown shown stands any tabulate marksBy count twin machineOf stateAt run
+unfolding marks closure settled grown byRule2 occursAt any tabulate marksBy count twin machineOf stateAt run
 marks-one = refl
 
 pub marks-late : marks twin (0 ∷ []) (1 ∷ 0 ∷ 0 ∷ []) ≡ 0 ∷ 1 ∷ 1 ∷ 0 ∷ []
-unfolding marks closure settled grown shown stands any tabulate marksBy count twin machineOf stateAt run
+unfolding marks closure settled grown byRule2 occursAt any tabulate marksBy count twin machineOf stateAt run
 marks-late = refl
 
 pub marks-three : marks twin (0 ∷ []) (0 ∷ 0 ∷ 0 ∷ []) ≡ 1 ∷ 1 ∷ 1 ∷ 1 ∷ []
-unfolding marks closure settled grown shown stands any tabulate marksBy count twin machineOf stateAt run
+unfolding marks closure settled grown byRule2 occursAt any tabulate marksBy count twin machineOf stateAt run
 marks-three = refl
 
 pub marks-single-pair : (answer : ℕ) → marks (single answer) (0 ∷ []) (0 ∷ 0 ∷ []) ≡ 1 ∷ 1 ∷ 1 ∷ []
-unfolding marks closure settled grown shown stands any tabulate marksBy count single machineOf stateAt run
+unfolding marks closure settled grown byRule2 occursAt any tabulate marksBy count single machineOf stateAt run
 marks-single-pair answer = refl
 
 pub marks-single-short : (answer : ℕ) → marks (single answer) (0 ∷ []) (0 ∷ []) ≡ 1 ∷ 0 ∷ []
-unfolding marks closure settled grown shown stands any tabulate marksBy count single machineOf stateAt run
+unfolding marks closure settled grown byRule2 occursAt any tabulate marksBy count single machineOf stateAt run
 marks-single-short answer = refl
 
 pub marks-single-built : (answer : ℕ) → marks (single answer) (0 ∷ []) (0 ∷ 0 ∷ 0 ∷ 0 ∷ []) ≡ 1 ∷ 1 ∷ 1 ∷ 1 ∷ 1 ∷ []
-unfolding marks closure settled grown shown stands any tabulate marksBy count single machineOf stateAt run
+unfolding marks closure settled grown byRule2 occursAt any tabulate marksBy count single machineOf stateAt run
 marks-single-built answer = refl

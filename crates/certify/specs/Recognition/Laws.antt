@@ -6,7 +6,7 @@ use native.Mathlib.Omega.{arith}
 use lib.Arith.{digits-lt}
 use lib.ListN.{length, take, drop}
 use Rattle.machine.specs.Machine.{Mealy, stateAt}
-use Rattle.certify.specs.Recognition.{Stands, Closure, rule1, rule2, Recognised, OpenNumber, start-open, entry-open}
+use Rattle.certify.specs.Recognition.{OccursAt, Closure, rule1, rule2, Recognised, OpenNumber, start-open, entry-open}
 
 -- the smallest set is in any other that has its first places
 pub closure-in : {xs : List ℕ} {state : ℕ → ℕ} {A B : ℕ → Type 0} → ((p : ℕ) → A p → Closure xs state B p) → {p : ℕ} → Closure xs state A p → Closure xs state B p
@@ -23,16 +23,16 @@ closure-first (rule2 p q m l hp hq e hm i same at) = let f = closure-first hq in
 
 module _ (M : Mealy) (w xs : List ℕ) where
   -- recognised is in the smallest set
-  pub closure-recognised : (p : ℕ) → Closure xs (stateAt M xs) (Stands w xs) p → Recognised M w xs p
+  pub closure-recognised : (p : ℕ) → Closure xs (stateAt M xs) (OccursAt w xs) p → Recognised M w xs p
   unfolding Recognised
   closure-recognised p h = h
 
-  pub recognised-closure : (p : ℕ) → Recognised M w xs p → Closure xs (stateAt M xs) (Stands w xs) p
+  pub recognised-closure : (p : ℕ) → Recognised M w xs p → Closure xs (stateAt M xs) (OccursAt w xs) p
   unfolding Recognised
   recognised-closure p h = h
 
   -- ---- the rules
-  pub by-rule1 : (p : ℕ) → Stands w xs p → Recognised M w xs p
+  pub by-rule1 : (p : ℕ) → OccursAt w xs p → Recognised M w xs p
   unfolding Recognised
   by-rule1 p h = rule1 h
 
@@ -42,7 +42,7 @@ module _ (M : Mealy) (w xs : List ℕ) where
   by-rule2 p q m l hp hq e hm i same = rule2 p q m l hp hq e hm i same refl
 
   -- the smallest set: whatever has both rules holds of every recognised place
-  pub smallest : (P : ℕ → Type 0) → ((p : ℕ) → Stands w xs p → P p)
+  pub smallest : (P : ℕ → Type 0) → ((p : ℕ) → OccursAt w xs p → P p)
       → ((p q m : ℕ) → 1 ≤ m → Recognised M w xs p → P p → Recognised M w xs q → P q → stateAt M xs p ≡ stateAt M xs q
       → Recognised M w xs (p + m) → P (p + m) → q + m ≤ length xs → take m (drop p xs) ≡ take m (drop q xs) → P (q + m))
       → (p : ℕ) → Recognised M w xs p → P p

@@ -14,7 +14,7 @@ use Rattle.sheet.specs.declared.check.Check.the-variants.{Clear, Refused}
 use Rattle.sheet.specs.declared.record.Record.{Record}
 use Rattle.sheet.specs.Check.{refusal_with_if_, _else_, firstCause, refusedOr, unlessRefused}
 use Rattle.sheet.specs.Check.Laws.{clear-refused, clear-absent, both-clear, cause-one, cause-append}
-use Rattle.sheet.specs.Reader.{the, content}
+use Rattle.sheet.specs.Reader.{recordOf, content}
 use Rattle.machine.specs.Limits.{mostSequence}
 use Rattle.machine.specs.Machine.{Mealy, answers, stateAt, Separates, Proper, Below, Commands}
 use Rattle.machine.specs.Causes.{machineIn, loadCauses}
@@ -27,7 +27,7 @@ use Rattle.certify.specs.Certification.Laws.{load-clear, sequence-commands, cer
 use Rattle.certify.specs.Certification.Contract.{certification-says, certifies}
 use Rattle.judge.specs.declared.answer.Answer.{Answer}
 use Rattle.judge.specs.declared.answer.Answer.the-variants.{Pass, Refused as RefusedAnswer}
-use Rattle.judge.specs.Unit.{Unit, tableOf, ownAnswers, standsNow}
+use Rattle.judge.specs.Unit.{Unit, tableOf, ownAnswers, presentState}
 use Rattle.judge.specs.Unit.Identity.{identity}
 use Rattle.judge.specs.Unit.Behaviour.{end-alike}
 use Rattle.judge.specs.Judging.{cause10, judgeCauses, cause11, verdict, judgement, judgedMarks, Identity}
@@ -38,14 +38,14 @@ pub cause10-is : (r : Record) (xs ys : List ℕ) → (refusal 10 with r .start i
 unfolding cause10
 cause10-is r xs ys = refl
 
-pub judge-causes-are : (room : ℕ) (s : List ℕ) → firstCause (judgeCauses room s) ≡ (firstCause (sequenceCauses true room s) else cause10 (the 4 s) (content 3 s) (content 4 s))
+pub judge-causes-are : (room : ℕ) (s : List ℕ) → firstCause (judgeCauses room s) ≡ (firstCause (sequenceCauses true room s) else cause10 (recordOf 4 s) (content 3 s) (content 4 s))
 unfolding judgeCauses
 judge-causes-are room s =
-    let ten = cause10 (the 4 s) (content 3 s) (content 4 s) in
+    let ten = cause10 (recordOf 4 s) (content 3 s) (content 4 s) in
     cause-append (sequenceCauses true room s) (ten ∷ []) ∙ ap (λ (c : Check). firstCause (sequenceCauses true room s) else c) (cause-one ten)
 
 module _ (room : ℕ) (s : List ℕ) (e : firstCause (judgeCauses room s) ≡ Clear) where
-  both-parts : (firstCause (sequenceCauses true room s) ≡ Clear) × (cause10 (the 4 s) (content 3 s) (content 4 s) ≡ Clear)
+  both-parts : (firstCause (sequenceCauses true room s) ≡ Clear) × (cause10 (recordOf 4 s) (content 3 s) (content 4 s) ≡ Clear)
   both-parts = both-clear _ _ (sym (judge-causes-are room s) ∙ e)
 
   pub marking-clear : firstCause (sequenceCauses true room s) ≡ Clear
@@ -56,7 +56,7 @@ module _ (room : ℕ) (s : List ℕ) (e : firstCause (judgeCauses room s) ≡ Cl
   certifying-clear = certify-without-answers room s marking-clear
 
   pub few-answers : length (content 4 s) ≤ length (content 3 s)
-  few-answers = ltb-false _ _ (clear-absent 10 _ _ (cause10-is (the 4 s) (content 3 s) (content 4 s) ∙ both-parts .1))
+  few-answers = ltb-false _ _ (clear-absent 10 _ _ (cause10-is (recordOf 4 s) (content 3 s) (content 4 s) ∙ both-parts .1))
 
 -- ---- the answer and the buffer, by the first cause
 module _ (room : ℕ) (s : List ℕ) where
@@ -177,11 +177,11 @@ result-passes room s {size = size} {end = end} (judged e c h) q = go h q
     go (wrong l r d x y) p = let z : _≡_ {A = ℕ} 0 1 = cc in absurd (omega arith)
     go (unfinished y l r) p = let z : _≡_ {A = ℕ} 0 1 = cc in absurd (omega arith)
 
-pub pass-shows : (room : ℕ) (s : List ℕ) {size end : ℕ} → judgement room s ≡ Pass size end → Passes room s size end
-pass-shows room s e = result-passes room s (judgement-result room s) e
+pub pass-passes : (room : ℕ) (s : List ℕ) {size end : ℕ} → judgement room s ≡ Pass size end → Passes room s size end
+pass-passes room s e = result-passes room s (judgement-result room s) e
 
-pub shown-passes : (room : ℕ) (s : List ℕ) {size end : ℕ} → Passes room s size end → judgement room s ≡ Pass size end
-shown-passes room s h = sym (result-judgement room s (judged (h .clear) (h .certified) (passed (h .complete) (h .long) (h .ends))))
+pub passes-pass : (room : ℕ) (s : List ℕ) {size end : ℕ} → Passes room s size end → judgement room s ≡ Pass size end
+passes-pass room s h = sym (result-judgement room s (judged (h .clear) (h .certified) (passed (h .complete) (h .long) (h .ends))))
 
 -- ---- the identity claim
 module _ (room : ℕ) (s : List ℕ) (e : firstCause (judgeCauses room s) ≡ Clear) where
@@ -199,7 +199,7 @@ module _ (room : ℕ) (s : List ℕ) (e : firstCause (judgeCauses room s) ≡ Cl
 
 pub pass-identity : (room : ℕ) (s : List ℕ) {a : Answer} → a ≡ judgement room s → Identity s a
 pass-identity room s ae U size end pass own =
-    let h = pass-shows room s (sym ae ∙ pass) in
+    let h = pass-passes room s (sym ae ∙ pass) in
     rw (h .ends)
     (identity (machineIn s) (content 2 s) (content 3 s) (judged-proper room s (h .clear)) (judged-commands room s (h .clear)) (word-separates room s (h .clear))
     (h .certified) U (sym (h .complete) ∙ own))
@@ -207,17 +207,17 @@ pass-identity room s ae U size end pass own =
 -- after a pass, whatever further commands of the sheet go in, the unit answers each as the machine does from the end state on
 pub pass-after : (room : ℕ) (s : List ℕ) (U : Unit (machineIn s .n) (machineIn s .k)) (size end : ℕ) → judgement room s ≡ Pass size end
     → content 4 s ≡ ownAnswers (machineIn s .n) (machineIn s .k) U (content 3 s) → (ys : List ℕ) → Below (machineIn s .k) ys
-    → answers (tableOf (machineIn s .n) (machineIn s .k) U) (standsNow (machineIn s .n) (machineIn s .k) U (content 3 s)) ys ≡ answers (machineIn s) end ys
+    → answers (tableOf (machineIn s .n) (machineIn s .k) U) (presentState (machineIn s .n) (machineIn s .k) U (content 3 s)) ys ≡ answers (machineIn s) end ys
 pass-after room s U size end pass own ys below =
-    let clear = pass-shows room s pass .clear in
+    let clear = pass-passes room s pass .clear in
     end-alike (machineIn s) (judged-proper room s clear) U (content 3 s) end (pass-identity room s (sym pass) U size end refl own)
     (judged-commands room s clear) ys below
 
 -- the claim speaks of something: the specified machine itself is a unit, and where judging passes the answers are its own
 pub itself : (M : Mealy) → Proper M → Unit (M .n) (M .k)
-itself M h = record { m = M .n; few = le-refl (M .n); u = M .start; stands = h .starts; next = M .next; answer = M .answer; stays = h .stays }
+itself M h = record { m = M .n; few = le-refl (M .n); u = M .start; u-low = h .starts; next = M .next; answer = M .answer; stays = h .stays }
 
 pub pass-own : (room : ℕ) (s : List ℕ) {size end : ℕ} → judgement room s ≡ Pass size end → (h : Proper (machineIn s))
     → content 4 s ≡ ownAnswers (machineIn s .n) (machineIn s .k) (itself (machineIn s) h) (content 3 s)
 unfolding itself
-pass-own room s e h = pass-shows room s e .complete
+pass-own room s e h = pass-passes room s e .complete

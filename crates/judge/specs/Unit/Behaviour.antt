@@ -8,7 +8,7 @@ use lib.ListN.{length}
 use Rattle.machine.specs.Limits.{mostSequence}
 use Rattle.machine.specs.Machine.{Mealy, answers, Proper, Below, Commands}
 use Rattle.machine.specs.Machine.Laws.{answers-none, answers-cons, state-stays}
-use Rattle.judge.specs.Unit.{Unit, tableOf, standsNow, Renaming}
+use Rattle.judge.specs.Unit.{Unit, tableOf, presentState, Renaming}
 
 below-head : (k c : ℕ) (ys : List ℕ) → Below k (c ∷ ys) → c < k
 below-head k c ys h = h 0 (omega arith)
@@ -36,7 +36,7 @@ module _ (M : Mealy) (proper : Proper M) (U : Unit (M .n) (M .k)) (xs : List ℕ
   start-alike ys b = ap (λ (x : ℕ). answers unit x ys) (sym (r .start-given)) ∙ given-alike ys (M .start) (proper .starts) b
 
   -- in the state in which it stands now, as from the end state on
-  pub end-alike : Commands mostSequence (M .k) xs → (ys : List ℕ) → Below (M .k) ys → answers unit (standsNow (M .n) (M .k) U xs) ys ≡ answers M end ys
+  pub end-alike : Commands mostSequence (M .k) xs → (ys : List ℕ) → Below (M .k) ys → answers unit (presentState (M .n) (M .k) U xs) ys ≡ answers M end ys
   end-alike h ys b =
       let low : end < M .n = rw (r .end-is) (state-stays M proper xs (h .low) (length xs)) in
       ap (λ (x : ℕ). answers unit x ys) (sym (r .end-given)) ∙ given-alike ys end low b

@@ -12,9 +12,9 @@ use Rattle.machine.specs.Machine.{Mealy, answers, stateAt, Separates, Proper, C
 use Rattle.machine.specs.Machine.Laws.{answers-part, answer-at, state-start, state-next, state-end, states-agree, state-closed, state-stays}
 use Rattle.machine.specs.Numbers.{choice}
 use Rattle.machine.specs.Pigeonhole.{onto}
-use Rattle.certify.specs.Recognition.{Stands, Recognised, Certified}
+use Rattle.certify.specs.Recognition.{OccursAt, Recognised, Certified}
 use Rattle.certify.specs.Recognition.Laws.{smallest}
-use Rattle.judge.specs.Unit.{Unit, tableOf, ownAnswers, standsNow, Renaming}
+use Rattle.judge.specs.Unit.{Unit, tableOf, ownAnswers, presentState, Renaming}
 
 module _ (M : Mealy) (w xs : List ℕ) (proper : Proper M) (commands : Commands mostSequence (M .k) xs) (separates : Separates M w)
     (certified : Certified M w xs) (U : Unit (M .n) (M .k)) (same : answers M (M .start) xs ≡ ownAnswers (M .n) (M .k) U xs) where
@@ -23,58 +23,58 @@ module _ (M : Mealy) (w xs : List ℕ) (proper : Proper M) (commands : Commands 
   unit = tableOf (M .n) (M .k) U
 
   -- ---- the word shows the state
-  word-answers : (p : ℕ) → Stands w xs p → answers M (stateAt M xs p) w ≡ answers unit (stateAt unit xs p) w
+  word-answers : (p : ℕ) → OccursAt w xs p → answers M (stateAt M xs p) w ≡ answers unit (stateAt unit xs p) w
   word-answers p h =
-      ap (answers M (stateAt M xs p)) (sym (h .stands))
+      ap (answers M (stateAt M xs p)) (sym (h .commands))
       ∙ sym (answers-part M xs p (length w))
       ∙ ap (λ (l : List ℕ). take (length w) (drop p l)) same
       ∙ answers-part unit xs p (length w)
-      ∙ ap (answers unit (stateAt unit xs p)) (h .stands)
+      ∙ ap (answers unit (stateAt unit xs p)) (h .commands)
 
   state-low : (p : ℕ) → stateAt M xs p < M .n
   state-low p = state-stays M proper xs (commands .low) p
 
-  alike : (p q : ℕ) → Stands w xs p → Stands w xs q → stateAt unit xs p ≡ stateAt unit xs q → stateAt M xs p ≡ stateAt M xs q
+  alike : (p q : ℕ) → OccursAt w xs p → OccursAt w xs q → stateAt unit xs p ≡ stateAt unit xs q → stateAt M xs p ≡ stateAt M xs q
   alike p q hp hq e =
       separates (stateAt M xs p) (stateAt M xs q) (state-low p) (state-low q)
       (word-answers p hp ∙ ap (λ (x : ℕ). answers unit x w) e ∙ sym (word-answers q hq))
 
   -- the state of a recognised place has a place where the word stands
-  recognised-word : (p : ℕ) → Recognised M w xs p → (i : ℕ) × (Stands w xs i) × (stateAt M xs i ≡ stateAt M xs p)
+  recognised-word : (p : ℕ) → Recognised M w xs p → (i : ℕ) × (OccursAt w xs i) × (stateAt M xs i ≡ stateAt M xs p)
   recognised-word =
-      smallest M w xs (λ p. (i : ℕ) × (Stands w xs i) × (stateAt M xs i ≡ stateAt M xs p)) (λ p h. (p, h, refl))
+      smallest M w xs (λ p. (i : ℕ) × (OccursAt w xs i) × (stateAt M xs i ≡ stateAt M xs p)) (λ p h. (p, h, refl))
       (λ p q m ml rp hp rq hq e rm hm i equal. (hm .0, hm .1, hm .2 ∙ states-agree M xs p q m e equal))
 
   -- ---- the state given to each state: that of the unit at a place where the word stands
-  Shows : ℕ → ℕ → Type 0
-  Shows s x = (p : ℕ) × (Stands w xs p) × (stateAt M xs p ≡ s) × (stateAt unit xs p ≡ x)
+  MetAtWord : ℕ → ℕ → Type 0
+  MetAtWord s x = (p : ℕ) × (OccursAt w xs p) × (stateAt M xs p ≡ s) × (stateAt unit xs p ≡ x)
 
-  shows : (s : ℕ) → s < M .n → (x : ℕ) × Shows s x
-  unfolding Shows
-  shows s l =
+  met-at-word : (s : ℕ) → s < M .n → (x : ℕ) × MetAtWord s x
+  unfolding MetAtWord
+  met-at-word s l =
       let v = certified .entries s 0 l (proper .some-commands) in
       let h = recognised-word (v .place) (v .before) in
       (stateAt unit xs (h .0), (h .0, h .1, h .2 ∙ v .state, refl))
 
   given : ℕ → ℕ
-  given = choice (M .n) Shows shows .0
+  given = choice (M .n) MetAtWord met-at-word .0
 
-  given-shown : (s : ℕ) → s < M .n → Shows s (given s)
+  given-met : (s : ℕ) → s < M .n → MetAtWord s (given s)
   unfolding given
-  given-shown = choice (M .n) Shows shows .1
+  given-met = choice (M .n) MetAtWord met-at-word .1
 
   unit-low : (p : ℕ) → stateAt unit xs p < U .m
-  unit-low p = state-closed unit (U .stays) (U .stands) xs (commands .low) p
+  unit-low p = state-closed unit (U .stays) (U .u-low) xs (commands .low) p
 
   given-low : (s : ℕ) → s < M .n → given s < U .m
-  unfolding Shows
-  given-low s l = let h = given-shown s l in omega (arith, unit-low (h .0), h .3)
+  unfolding MetAtWord
+  given-low s l = let h = given-met s l in omega (arith, unit-low (h .0), h .3)
 
   given-one : (s t : ℕ) → s < M .n → t < M .n → given s ≡ given t → s ≡ t
-  unfolding Shows
+  unfolding MetAtWord
   given-one s t sl tl e =
-      let a = given-shown s sl in
-      let b = given-shown t tl in
+      let a = given-met s sl in
+      let b = given-met t tl in
       sym (a .2) ∙ alike (a .0) (b .0) (a .1) (b .1) (a .3 ∙ e ∙ sym (b .3)) ∙ b .2
 
   given-onto : (x : ℕ) → x < U .m → (s : ℕ) × (s < M .n) × (given s ≡ x)
@@ -84,11 +84,11 @@ module _ (M : Mealy) (w xs : List ℕ) (proper : Proper M) (commands : Commands 
   Met : ℕ → Type 0
   Met p = stateAt unit xs p ≡ given (stateAt M xs p)
 
-  word-met : (p : ℕ) → Stands w xs p → Met p
-  unfolding Met Shows
+  word-met : (p : ℕ) → OccursAt w xs p → Met p
+  unfolding Met MetAtWord
   word-met p h =
       let o = given-onto (stateAt unit xs p) (unit-low p) in
-      let a = given-shown (o .0) (o .1) in
+      let a = given-met (o .0) (o .1) in
       sym (o .2) ∙ ap given (sym (a .2) ∙ alike (a .0) p (a .1) h (a .3 ∙ o .2))
 
   recognised-met : (p : ℕ) → Recognised M w xs p → Met p
@@ -137,7 +137,7 @@ module _ (M : Mealy) (w xs : List ℕ) (proper : Proper M) (commands : Commands 
   unfolding Met
   from-start = ap given (sym (state-start M xs)) ∙ sym (recognised-met 0 (certified .start)) ∙ state-start unit xs
 
-  at-end : given (stateAt M xs (length xs)) ≡ standsNow (M .n) (M .k) U xs
+  at-end : given (stateAt M xs (length xs)) ≡ presentState (M .n) (M .k) U xs
   unfolding Met
   at-end = sym (all-met (length xs) (omega arith)) ∙ state-end unit xs
 

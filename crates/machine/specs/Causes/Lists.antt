@@ -11,7 +11,7 @@ use Rattle.sheet.specs.declared.check.Check.the-variants.{Clear}
 use Rattle.sheet.specs.declared.reader.Needs.{Needs}
 use Rattle.sheet.specs.Check.{_else_, firstCause}
 use Rattle.sheet.specs.Check.Laws.{else-clear, both-clear, cause-none, cause-two, cause-append}
-use Rattle.sheet.specs.Reader.{sheetCauses, needed, refusalOf, the, content, Reads}
+use Rattle.sheet.specs.Reader.{sheetCauses, needed, refusalOf, recordOf, content, Reads}
 use Rattle.sheet.specs.Reader.Laws.{needed-without-answers, needed-machine, needed-word, needed-clear, clear-reads}
 use Rattle.machine.specs.Limits.{mostMachine, mostWord}
 use Rattle.machine.specs.Machine.{Mealy, machineOf, Proper, Distinguishes}
@@ -21,16 +21,16 @@ use Rattle.machine.specs.Causes.Separation.{clear-separates}
 
 -- ---- the lists, written out
 pub machine-causes-are : (n : Needs) (s : List ℕ) → firstCause (machineCauses n s)
-    ≡ (firstCause (sheetCauses (needed n) s) else (cause3 (the 1 s) (content 1 s) else cause4 (the 1 s) (content 1 s)))
+    ≡ (firstCause (sheetCauses (needed n) s) else (cause3 (recordOf 1 s) (content 1 s) else cause4 (recordOf 1 s) (content 1 s)))
 unfolding machineCauses
 machine-causes-are n s =
-    cause-append (sheetCauses (needed n) s) (cause3 (the 1 s) (content 1 s) ∷ cause4 (the 1 s) (content 1 s) ∷ [])
-    ∙ ap (λ (c : Check). firstCause (sheetCauses (needed n) s) else c) (cause-two (cause3 (the 1 s) (content 1 s)) (cause4 (the 1 s) (content 1 s)))
+    cause-append (sheetCauses (needed n) s) (cause3 (recordOf 1 s) (content 1 s) ∷ cause4 (recordOf 1 s) (content 1 s) ∷ [])
+    ∙ ap (λ (c : Check). firstCause (sheetCauses (needed n) s) else c) (cause-two (cause3 (recordOf 1 s) (content 1 s)) (cause4 (recordOf 1 s) (content 1 s)))
 
 pub word-causes-are : (s : List ℕ) → firstCause (wordCauses true s)
-    ≡ (cause5 (machineIn s .k) (the 2 s) (content 2 s) else cause6 (machineIn s) (content 2 s))
+    ≡ (cause5 (machineIn s .k) (recordOf 2 s) (content 2 s) else cause6 (machineIn s) (content 2 s))
 unfolding wordCauses
-word-causes-are s = cause-two (cause5 (machineIn s .k) (the 2 s) (content 2 s)) (cause6 (machineIn s) (content 2 s))
+word-causes-are s = cause-two (cause5 (machineIn s .k) (recordOf 2 s) (content 2 s)) (cause6 (machineIn s) (content 2 s))
 
 pub word-causes-none : (s : List ℕ) → firstCause (wordCauses false s) ≡ Clear
 unfolding wordCauses
@@ -52,7 +52,7 @@ machine-same s t e = ap machineOf e
 
 -- ---- where they are clear
 module _ (n : Needs) (s : List ℕ) (e : firstCause (machineCauses n s) ≡ Clear) where
-  table-clear : (cause3 (the 1 s) (content 1 s) ≡ Clear) × (cause4 (the 1 s) (content 1 s) ≡ Clear)
+  table-clear : (cause3 (recordOf 1 s) (content 1 s) ≡ Clear) × (cause4 (recordOf 1 s) (content 1 s) ≡ Clear)
   table-clear = both-clear _ _ (both-clear _ _ (sym (machine-causes-are n s) ∙ e) .1)
 
   -- reading a needed kind is not refused
@@ -63,7 +63,7 @@ module _ (n : Needs) (s : List ℕ) (e : firstCause (machineCauses n s) ≡ Clea
   kind-reads k m = clear-reads k s (kind-clear k m)
 
   pub shape-of : Shape (content 1 s)
-  shape-of = clear-shape (the 1 s) (content 1 s) (table-clear .0)
+  shape-of = clear-shape (recordOf 1 s) (content 1 s) (table-clear .0)
 
   -- the machine that is held is the sheet's
   pub held-is : held s ≡ machineIn s
@@ -80,7 +80,7 @@ machine-proper n s e =
       some-commands = h .some-commands;
       few-commands = h .few-commands;
       starts = h .some-states;
-      stays = clear-next (the 1 s) (content 1 s) (table-clear n s e .1);
+      stays = clear-next (recordOf 1 s) (content 1 s) (table-clear n s e .1);
     }
 
 pub clear-table : (n : Needs) (s : List ℕ) → firstCause (loadCauses n s) ≡ Clear → firstCause (machineCauses n s) ≡ Clear
@@ -101,7 +101,7 @@ word-distinguishes n s t e =
     let five : firstCause (wordCauses true s) ≡ Clear = rw (← t) (both-clear _ _ (sym (load-causes-are n s) ∙ e) .1) in
     let two = both-clear _ _ (sym (word-causes-are s) ∙ five) in
     record {
-      commands = clear-commands 5 mostWord (machineIn s .k) (the 2 s) (content 2 s) (two .0);
+      commands = clear-commands 5 mostWord (machineIn s .k) (recordOf 2 s) (content 2 s) (two .0);
       separates = clear-separates (machineIn s) (content 2 s) (two .1);
     }
 

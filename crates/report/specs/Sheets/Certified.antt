@@ -12,8 +12,8 @@ use Rattle.sheet.specs.Check.{_else_, firstCause}
 use Rattle.sheet.specs.Check.Laws.{absent, both-clear, else-clear}
 use Rattle.sheet.specs.Format.{longest, header, end, parsed, find}
 use Rattle.sheet.specs.Format.Laws.{start-at, end-size}
-use Rattle.sheet.specs.Reader.{isMissing, whenMissing, the, needed, refusalOf, content, sheetCauses}
-use Rattle.sheet.specs.Reader.Laws.{when-missing, checks-are, the-found, clear-reads, found-the, size-of}
+use Rattle.sheet.specs.Reader.{isMissing, whenMissing, recordOf, needed, refusalOf, content, sheetCauses}
+use Rattle.sheet.specs.Reader.Laws.{when-missing, checks-are, record-found, clear-reads, found-record, size-of}
 use Rattle.machine.specs.Limits.{mostMachine, mostWord, mostSequence}
 use Rattle.machine.specs.Machine.{Mealy, Commands}
 use Rattle.machine.specs.Causes.{cause3, cause4, cause5, cause6, machineIn, loadCauses}
@@ -26,28 +26,28 @@ use Rattle.certify.specs.Certification.Laws.{room-clear, sequence-causes-are}
 use Rattle.build.specs.declared.service.Answer.the-variants.{Built}
 use Rattle.build.specs.Sequence.{sequence}
 use Rattle.build.specs.Building.{buildNeeds, building}
-use Rattle.build.specs.Building.Service.{load-clear, answer-built, built-shows, built-certification}
+use Rattle.build.specs.Building.Service.{load-clear, answer-built, built-sequence, built-certification}
 use Rattle.report.specs.Sheets.{withSequence, builtSheet}
 use Rattle.sheet.specs.Format.Records.{Pair, pair-of}
 use Rattle.sheet.specs.Writing.{headerOf}
 use Rattle.sheet.specs.Writing.Reading as reading
 
 -- ---- the sheet with a sequence added, in its parts
-pub with-sequence-is : (s xs : List ℕ) → take (end (the 2 s)) s ++ headerOf 3 (length xs) ++ xs ≡ withSequence s xs
+pub with-sequence-is : (s xs : List ℕ) → take (end (recordOf 2 s)) s ++ headerOf 3 (length xs) ++ xs ≡ withSequence s xs
 unfolding withSequence
-with-sequence-is s xs = append-assoc (take (end (the 2 s)) s) (headerOf 3 (length xs)) xs
+with-sequence-is s xs = append-assoc (take (end (recordOf 2 s)) s) (headerOf 3 (length xs)) xs
 
 -- ---- a sheet from which a sequence was built
 record Source (s : List ℕ) : Type 0 where
   pub one : refusalOf 1 s ≡ Clear
   pub two : refusalOf 2 s ≡ Clear
-  pub at-one : find 1 (parsed s .records) ≡ At (the 1 s)
-  pub at-two : find 2 (parsed s .records) ≡ At (the 2 s)
-  pub pair : Pair s (the 1 s) (the 2 s)
-  pub inside : end (the 2 s) ≤ length s
-  pub short : end (the 2 s) ≤ header + mostMachine + (header + mostWord)
-  pub table : (cause3 (the 1 s) (content 1 s) else cause4 (the 1 s) (content 1 s)) ≡ Clear
-  pub word : (cause5 (machineIn s .k) (the 2 s) (content 2 s) else cause6 (machineIn s) (content 2 s)) ≡ Clear
+  pub at-one : find 1 (parsed s .records) ≡ At (recordOf 1 s)
+  pub at-two : find 2 (parsed s .records) ≡ At (recordOf 2 s)
+  pub pair : Pair s (recordOf 1 s) (recordOf 2 s)
+  pub inside : end (recordOf 2 s) ≤ length s
+  pub short : end (recordOf 2 s) ≤ header + mostMachine + (header + mostWord)
+  pub table : (cause3 (recordOf 1 s) (content 1 s) else cause4 (recordOf 1 s) (content 1 s)) ≡ Clear
+  pub word : (cause5 (machineIn s .k) (recordOf 2 s) (content 2 s) else cause6 (machineIn s) (content 2 s)) ≡ Clear
 
 source-of : (s : List ℕ) → firstCause (loadCauses buildNeeds s) ≡ Clear → Source s
 source-of s load =
@@ -57,12 +57,12 @@ source-of s load =
     let two = load-word buildNeeds s refl load in
     let reads-one = clear-reads 1 s one in
     let reads-two = clear-reads 2 s two in
-    let at-one = found-the 1 s (λ e. omega (arith, e)) reads-one in
-    let at-two = found-the 2 s (λ e. omega (arith, e)) reads-two in
+    let at-one = found-record 1 s (λ e. omega (arith, e)) reads-one in
+    let at-two = found-record 2 s (λ e. omega (arith, e)) reads-two in
     let pair = pair-of s at-one at-two in
     let shape = shape-of buildNeeds s rows in
-    let starts-one : the 1 s .start ≡ 0 = ap (λ (r : Record). r .start) (sym (pair .first .is)) ∙ start-at s 0 in
-    let starts-two : the 2 s .start ≡ end (the 1 s) = ap (λ (r : Record). r .start) (sym (pair .second .is)) ∙ start-at s (end (the 1 s)) in
+    let starts-one : recordOf 1 s .start ≡ 0 = ap (λ (r : Record). r .start) (sym (pair .first .is)) ∙ start-at s 0 in
+    let starts-two : recordOf 2 s .start ≡ end (recordOf 1 s) = ap (λ (r : Record). r .start) (sym (pair .second .is)) ∙ start-at s (end (recordOf 1 s)) in
     let few : length (content 1 s) ≤ mostMachine = omega (arith, shape .long, few-entries (content 1 s) shape) in
     record {
       one = one;
@@ -71,7 +71,7 @@ source-of s load =
       at-two = at-two;
       pair = pair;
       inside = reads-two .inside;
-      short = omega (arith, starts-one, starts-two, few, end-size (the 1 s), end-size (the 2 s), size-of 1 s one at-one (reads-one .inside), size-of 2 s two at-two (reads-two .inside), word-distinguishes buildNeeds s refl load .commands .few);
+      short = omega (arith, starts-one, starts-two, few, end-size (recordOf 1 s), end-size (recordOf 2 s), size-of 1 s one at-one (reads-one .inside), size-of 2 s two at-two (reads-two .inside), word-distinguishes buildNeeds s refl load .commands .few);
       table = parts .1;
       word = sym (word-causes-are s) ∙ both-clear _ _ (sym (load-causes-are buildNeeds s) ∙ load) .1;
     }
@@ -87,20 +87,20 @@ pub record Carries (s xs t : List ℕ) : Type 0 where
   pub short : length t ≤ longest
   pub clear : firstCause (loadCauses (sequenceNeeds false) t) ≡ Clear
 
-parts-carry : (s xs : List ℕ) → Source s → length xs ≤ mostSequence → Carries s xs (take (end (the 2 s)) s ++ headerOf 3 (length xs) ++ xs)
+parts-carry : (s xs : List ℕ) → Source s → length xs ≤ mostSequence → Carries s xs (take (end (recordOf 2 s)) s ++ headerOf 3 (length xs) ++ xs)
 parts-carry s xs h few =
     let p = h .pair in
     let inside = h .inside in
     let low : length xs < 2 ^ 32 = omega (arith, few) in
-    let short : end (the 2 s) + header + length xs ≤ longest = omega (arith, h .short, few) in
-    let t = take (end (the 2 s)) s ++ headerOf 3 (length xs) ++ xs in
+    let short : end (recordOf 2 s) + header + length xs ≤ longest = omega (arith, h .short, few) in
+    let t = take (end (recordOf 2 s)) s ++ headerOf 3 (length xs) ++ xs in
     let one : content 1 t ≡ content 1 s = reading.content-one s xs p inside low short (h .one) (h .at-one) in
     let two : content 2 t ≡ content 2 s = reading.content-two s xs p inside low short (h .two) (h .at-two) in
     let f1 = reading.find-one s xs p inside low in
     let f2 = reading.find-two s xs p inside low in
     let f3 = reading.find-three s xs p inside low in
-    let the-one : the 1 t ≡ the 1 s = sym (the-found 1 t {f = At (the 1 s)} (sym f1) refl) in
-    let the-two : the 2 t ≡ the 2 s = sym (the-found 2 t {f = At (the 2 s)} (sym f2) refl) in
+    let record-one : recordOf 1 t ≡ recordOf 1 s = sym (record-found 1 t {f = At (recordOf 1 s)} (sym f1) refl) in
+    let record-two : recordOf 2 t ≡ recordOf 2 s = sym (record-found 2 t {f = At (recordOf 2 s)} (sym f2) refl) in
     let machine : machineIn t ≡ machineIn s = machine-same s t one in
     let none : whenMissing t 4 false ≡ Clear = sym (when-missing t 4 false) ∙ absent 2 (length t) refl in
     let sheet : firstCause (sheetCauses (needed (sequenceNeeds false)) t) ≡ Clear =
@@ -108,11 +108,11 @@ parts-carry s xs h few =
     ∙ ap₂ _else_ (reading.not-refused s xs p inside low short 1 f1)
     (ap₂ _else_ (present-kind 2 t f2) (ap₂ _else_ (present-kind 3 t f3) none ∙ else-clear Clear) ∙ else-clear Clear)
     ∙ else-clear Clear in
-    let table : (cause3 (the 1 t) (content 1 t) else cause4 (the 1 t) (content 1 t)) ≡ Clear =
-    ap₂ (λ (r : Record) (c : List ℕ). cause3 r c else cause4 r c) the-one one ∙ h .table in
-    let word : (cause5 (machineIn t .k) (the 2 t) (content 2 t) else cause6 (machineIn t) (content 2 t)) ≡ Clear =
-    ap₂ (λ (r : Record) (c : List ℕ). cause5 (machineIn t .k) r c else cause6 (machineIn t) c) the-two two
-    ∙ ap (λ (M : Mealy). cause5 (M .k) (the 2 s) (content 2 s) else cause6 M (content 2 s)) machine
+    let table : (cause3 (recordOf 1 t) (content 1 t) else cause4 (recordOf 1 t) (content 1 t)) ≡ Clear =
+    ap₂ (λ (r : Record) (c : List ℕ). cause3 r c else cause4 r c) record-one one ∙ h .table in
+    let word : (cause5 (machineIn t .k) (recordOf 2 t) (content 2 t) else cause6 (machineIn t) (content 2 t)) ≡ Clear =
+    ap₂ (λ (r : Record) (c : List ℕ). cause5 (machineIn t .k) r c else cause6 (machineIn t) c) record-two two
+    ∙ ap (λ (M : Mealy). cause5 (M .k) (recordOf 2 s) (content 2 s) else cause6 M (content 2 s)) machine
     ∙ h .word in
     record {
       machine = machine;
@@ -131,7 +131,7 @@ carries s xs h few = subst (Carries s xs) (with-sequence-is s xs) (parts-carry s
 -- where a sequence was built, the sheet that is made has the same machine and word and carries the sequence, and no cause of 1 to 6 is present
 pub built-carries : (room : ℕ) (s : List ℕ) {n : ℕ} → building room s ≡ Built n → Carries s (sequence (machineIn s) (content 2 s)) (builtSheet s)
 built-carries room s e =
-    carries s (sequence (machineIn s) (content 2 s)) (source-of s (load-clear room s (answer-built room s e .0))) (built-shows room s e .commands .few)
+    carries s (sequence (machineIn s) (content 2 s)) (source-of s (load-clear room s (answer-built room s e .0))) (built-sequence room s e .commands .few)
 
 -- and certifying it, in a room for its marks, answers certified
 pub built-sheet-certified : (room : ℕ) (s : List ℕ) {n : ℕ} → building room s ≡ Built n → (marksRoom : ℕ) → n + 1 ≤ marksRoom
@@ -140,11 +140,11 @@ built-sheet-certified room s {n} e marksRoom enough =
     let xs = sequence (machineIn s) (content 2 s) in
     let t = builtSheet s in
     let c = built-carries room s e in
-    let shows = built-shows room s e in
-    let long : length (content 3 t) + 1 ≤ marksRoom = omega (arith, enough, shows .long, ap length (c .sequence)) in
-    let seven : cause7 (machineIn t .k) (the 3 t) (content 3 t) ≡ Clear =
-    commands-clear 7 mostSequence (machineIn t .k) (the 3 t) (content 3 t)
-    (subst (λ (M : Mealy). Commands mostSequence (M .k) (content 3 t)) (sym (c .machine)) (subst (λ (l : List ℕ). Commands mostSequence (machineIn s .k) l) (sym (c .sequence)) (shows .commands))) in
+    let sequence-facts = built-sequence room s e in
+    let long : length (content 3 t) + 1 ≤ marksRoom = omega (arith, enough, sequence-facts .long, ap length (c .sequence)) in
+    let seven : cause7 (machineIn t .k) (recordOf 3 t) (content 3 t) ≡ Clear =
+    commands-clear 7 mostSequence (machineIn t .k) (recordOf 3 t) (content 3 t)
+    (subst (λ (M : Mealy). Commands mostSequence (M .k) (content 3 t)) (sym (c .machine)) (subst (λ (l : List ℕ). Commands mostSequence (machineIn s .k) l) (sym (c .sequence)) (sequence-facts .commands))) in
     built-certification room s e marksRoom t (c .machine) (c .word) (c .sequence)
     (sequence-causes-are false marksRoom t
     ∙ ap₂ _else_ (c .clear) (ap₂ _else_ seven (room-clear marksRoom (length (content 3 t) + 1) long) ∙ else-clear Clear)

@@ -3,7 +3,7 @@
 use borrow.Author.Needs.{needs}
 use mathlib.Core.Path.{ap, _∙_}
 use Rattle.certify.specs.Certification.{valuesOf}
-use Rattle.certify.specs.Certification.Places.{certification-fits}
+use Rattle.certify.specs.Certification.Bounds.{certification-fits}
 use Rattle.rig.specs.Result.{packed}
 use Rattle.rig.proofs.rig_certify.Statement.{statement}
 use Rattle.rig.proofs.rig_certify.Tie as tie

@@ -5,15 +5,15 @@ use mathlib.Core.List.{List}
 use native.Mathlib.Omega.{arith}
 use Rattle.sheet.specs.Values.{Fits}
 use Rattle.sheet.specs.Reader.{content}
-use Rattle.sheet.specs.Reader.Places.{Bytes}
+use Rattle.sheet.specs.Reader.Bounds.{Bytes}
 use Rattle.machine.specs.Causes.{machineIn}
 use Rattle.sheet.specs.declared.check.Values.{Values}
 use Rattle.certify.specs.Certification.{certification, valuesOf as certifyingValues}
-use Rattle.certify.specs.Certification.Places.{certification-fits}
+use Rattle.certify.specs.Certification.Bounds.{certification-fits}
 use Rattle.judge.specs.Unit.{Renaming}
 use Rattle.judge.specs.Judging.{judgement, valuesOf as judgingValues}
 use Rattle.judge.specs.Judging.Laws.{pass-identity}
-use Rattle.judge.specs.Judging.Places.{judgement-fits, class-pass}
+use Rattle.judge.specs.Judging.Bounds.{judgement-fits, class-pass}
 use Rattle.rig.specs.Result.{packed, classIn, placeIn, aIn, bIn, RigIdentity}
 
 -- ---- the fields

@@ -16,7 +16,7 @@ use Rattle.sheet.specs.declared.record.Found.the-variants.{At, Missing}
 use Rattle.sheet.specs.Tests.{neither}
 use Rattle.sheet.specs.Check.{refusal_with_if_, _else_}
 use Rattle.sheet.specs.Check.Laws.{absent, clear-absent, else-clear, both-clear}
-use Rattle.sheet.specs.Format.{header, recordAt, offset, end, kindOf, rank, rankAt, cause1, cause2, causeAt, Parsed, ended, _before_, onward, parseFrom, parse, parsed, ofKind, _or_, find}
+use Rattle.sheet.specs.Format.{header, recordAt, offset, end, kindOf, rank, rankAt, cause1, cause2, causeAt, Parsed, ended, _before_, parseStep, parseFrom, parse, parsed, ofKind, _or_, find}
 
 -- ---- the rank of a kind
 pub rank-machine : rank (kindOf 1) ≡ 1
@@ -78,17 +78,17 @@ unfolding cause1
 cause1-is s at r e = rw (← end-is s at r e)
 
 -- ---- the bound on the steps plays no part
-onward-at-end : (s : List ℕ) (at : ℕ) → length s ≤ at → (c : Check) (r : Record) (w : Parsed) → onward (ltb at (length s)) c r w ≡ ended Clear
-unfolding onward
-onward-at-end s at h c r w = rw (le-ltb at (length s) h)
+step-at-end : (s : List ℕ) (at : ℕ) → length s ≤ at → (c : Check) (r : Record) (w : Parsed) → parseStep (ltb at (length s)) c r w ≡ ended Clear
+unfolding parseStep
+step-at-end s at h c r w = rw (le-ltb at (length s) h)
 
 enough : (f g : ℕ) (s : List ℕ) (at last : ℕ) → length s - at ≤ f → length s - at ≤ g → parseFrom f s at last ≡ parseFrom g s at last
 unfolding parseFrom
 enough zero zero s at last p q = refl
-enough zero (suc g) s at last p q = sym (onward-at-end s at (omega arith) (causeAt s at last) (recordAt s at) (parseFrom g s (end (recordAt s at)) (rankAt s at)))
-enough (suc f) zero s at last p q = onward-at-end s at (omega arith) (causeAt s at last) (recordAt s at) (parseFrom f s (end (recordAt s at)) (rankAt s at))
+enough zero (suc g) s at last p q = sym (step-at-end s at (omega arith) (causeAt s at last) (recordAt s at) (parseFrom g s (end (recordAt s at)) (rankAt s at)))
+enough (suc f) zero s at last p q = step-at-end s at (omega arith) (causeAt s at last) (recordAt s at) (parseFrom f s (end (recordAt s at)) (rankAt s at))
 enough (suc f) (suc g) s at last p q =
-    ap (λ (w : Parsed). onward (ltb at (length s)) (causeAt s at last) (recordAt s at) w)
+    ap (λ (w : Parsed). parseStep (ltb at (length s)) (causeAt s at last) (recordAt s at) w)
     (enough f g s (end (recordAt s at)) (rankAt s at) (omega (arith, end-after s at)) (omega (arith, end-after s at)))
 
 -- at the sheet's end the parsing ends
@@ -101,27 +101,27 @@ parse-end s at last h = enough (length s - at) 0 s at last (omega arith) (omega 
 
 -- before it, a cause stops it, and else the record comes before what follows it
 pub parse-on : (s : List ℕ) (at last : ℕ) → at < length s
-    → parse s at last ≡ onward true (causeAt s at last) (recordAt s at) (parse s (end (recordAt s at)) (rankAt s at))
+    → parse s at last ≡ parseStep true (causeAt s at last) (recordAt s at) (parse s (end (recordAt s at)) (rankAt s at))
 unfolding parse
 parse-on s at last h =
     enough (length s - at) (suc (length s - (at + 1))) s at last (omega arith) (omega arith)
     ∙ one
-    ∙ ap (λ (w : Parsed). onward true (causeAt s at last) (recordAt s at) w)
+    ∙ ap (λ (w : Parsed). parseStep true (causeAt s at last) (recordAt s at) w)
     (enough (length s - (at + 1)) (length s - end (recordAt s at)) s (end (recordAt s at)) (rankAt s at) (omega (arith, end-after s at)) (omega arith))
   where
     one : parseFrom (suc (length s - (at + 1))) s at last
-        ≡ onward true (causeAt s at last) (recordAt s at) (parseFrom (length s - (at + 1)) s (end (recordAt s at)) (rankAt s at))
+        ≡ parseStep true (causeAt s at last) (recordAt s at) (parseFrom (length s - (at + 1)) s (end (recordAt s at)) (rankAt s at))
     one = unfold parseFrom in rw (lt-ltb at (length s) h)
 
 -- the record that stops the parsing
 pub parse-stopped : (s : List ℕ) (at last n p : ℕ) → at < length s → causeAt s at last ≡ Refused n p → parse s at last ≡ ended (Refused n p)
-unfolding onward
+unfolding parseStep
 parse-stopped s at last n p h e = parse-on s at last h ∙ rw e
 
 -- a record in order
 pub parse-record : (s : List ℕ) (at last : ℕ) → at < length s → causeAt s at last ≡ Clear
     → parse s at last ≡ (recordAt s at before parse s (end (recordAt s at)) (rankAt s at))
-unfolding onward
+unfolding parseStep
 parse-record s at last h e = parse-on s at last h ∙ rw e
 
 pub parse-as : (s : List ℕ) (at last : ℕ) {r : Record} → recordAt s at ≡ r → at + header ≤ length s → end r ≤ length s → last < rank (kindOf (r .kind))

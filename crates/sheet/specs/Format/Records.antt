@@ -12,14 +12,14 @@ use Rattle.sheet.specs.Format.{recordAt, end, kindOf, rank, rankAt, caus
 use Rattle.sheet.specs.Format.Laws.{rank-machine, rank-word, clear-rank, parsed-is, parse-induction, none-found, found-cons}
 
 -- where a record is found the parsing goes on
-record Onward (s : List ℕ) (at last k : ℕ) (r : Record) : Type 0 where
+record FoundFrom (s : List ℕ) (at last k : ℕ) (r : Record) : Type 0 where
   pub inside : at < length s
   pub clear : causeAt s at last ≡ Clear
   pub found : ((recordAt s at .kind ≡ k) × (recordAt s at ≡ r)) ⊎ (find k (parse s (end (recordAt s at)) (rankAt s at) .records) ≡ At r)
 
-onward-at : (s : List ℕ) (at last k : ℕ) {r : Record} → find k (parse s at last .records) ≡ At r → Onward s at last k r
-onward-at s at last k {r} =
-    parse-induction s (λ at last w. find k (w .records) ≡ At r → Onward s at last k r)
+found-from : (s : List ℕ) (at last k : ℕ) {r : Record} → find k (parse s at last .records) ≡ At r → FoundFrom s at last k r
+found-from s at last k {r} =
+    parse-induction s (λ at last w. find k (w .records) ≡ At r → FoundFrom s at last k r)
     (λ at last l e. none-found k e)
     (λ at last n p l q e. none-found k e)
     (λ at last l q h e. record { inside = l; clear = q; found = found-cons k (recordAt s at) _ e })
@@ -47,7 +47,7 @@ pub record Next (s : List ℕ) (at last k : ℕ) (r : Record) : Type 0 where
 
 pub next-is : (s : List ℕ) (at last k : ℕ) {r : Record} → rank (kindOf k) ≡ last + 1 → find k (parse s at last .records) ≡ At r → Next s at last k r
 next-is s at last k {r} up e =
-    let h = onward-at s at last k e in
+    let h = found-from s at last k e in
     let above = clear-rank s at last (h .clear) in
     ⊎-elim (λ (q : (recordAt s at .kind ≡ k) × (recordAt s at ≡ r)).
     record { inside = h .inside; clear = h .clear; kind = ap (λ (x : Record). x .kind) (sym (q .1)) ∙ q .0; is = q .1 })
@@ -64,7 +64,7 @@ pub pair-of : (s : List ℕ) {one two : Record} → find 1 (parsed s .records) �
 pair-of s {one} {two} e f =
     let a : Next s 0 0 1 one = next-is s 0 0 1 rank-machine (ap (λ (w : Parsed). find 1 (w .records)) (sym (parsed-is s)) ∙ e) in
     let here : recordAt s 0 .kind ≡ 1 = ap (λ (x : Record). x .kind) (a .is) ∙ a .kind in
-    let h = onward-at s 0 0 2 (ap (λ (w : Parsed). find 2 (w .records)) (sym (parsed-is s)) ∙ f) in
+    let h = found-from s 0 0 2 (ap (λ (w : Parsed). find 2 (w .records)) (sym (parsed-is s)) ∙ f) in
     let rest : find 2 (parse s (end (recordAt s 0)) (rankAt s 0) .records) ≡ At two =
     ⊎-elim (λ (q : (recordAt s 0 .kind ≡ 2) × (recordAt s 0 ≡ two)). let z : ⊥ = omega (arith, q .0, here) in absurd z)
     (λ (q : find 2 (parse s (end (recordAt s 0)) (rankAt s 0) .records) ≡ At two). q)

@@ -18,7 +18,7 @@ use Rattle.sheet.specs.Check.{refusal_with_if_, _else_, firstCause}
 use Rattle.sheet.specs.Check.Laws.{absent, present, clear-absent, else-clear, both-clear, cause-none, cause-cons, cause-one, cause-two, cause-append}
 use Rattle.sheet.specs.Format.{header, recordAt, offset, end, kindOf, rank, rankAt, causeAt, Parsed, parse, parsed, find}
 use Rattle.sheet.specs.Format.Laws.{clear-inside, clear-rank, end-size, parsed-is, parse-induction, none-found, found-cons}
-use Rattle.sheet.specs.Reader.{tooLong, isMissing, missing, sheetCauses, when, whenMissing, needed, refusalOf, recordOr, the, payloadPart, partWhen, part, bytes, content, seen, handed, Reads}
+use Rattle.sheet.specs.Reader.{tooLong, isMissing, missing, sheetCauses, when, whenMissing, needed, refusalOf, recordOr, recordOf, payloadPart, partWhen, part, bytes, content, seen, handed, Reads}
 use denote.Ref.{RefT, now}
 
 -- ---- the causes, written out
@@ -120,9 +120,9 @@ pub part-refused : (k : ℕ) (s : List ℕ) {c : Check} {n p : ℕ} → c ≡ re
 unfolding part
 part-refused k s ce e = rw (← ce, e)
 
-pub the-found : (k : ℕ) (s : List ℕ) {f g : Found} → f ≡ find k (parsed s .records) → f ≡ g → recordOr g ≡ the k s
-unfolding the
-the-found k s fe e = ap recordOr (sym e ∙ fe)
+pub record-found : (k : ℕ) (s : List ℕ) {f g : Found} → f ≡ find k (parsed s .records) → f ≡ g → recordOr g ≡ recordOf k s
+unfolding recordOf
+record-found k s fe e = ap recordOr (sym e ∙ fe)
 
 -- a record starts inside the sheet, and its payload ends there
 inside-of : (s : List ℕ) (c : Check) (f : Found) → payloadPart f .from + payloadPart f .size ≤ length s → recordOr f .start + length (bytes (partWhen c f) s) ≤ length s
@@ -132,9 +132,9 @@ inside-of s Clear Missing h = omega arith
 inside-of s (Refused n p) (At r) h = omega arith
 inside-of s (Refused n p) Missing h = omega arith
 
-pub the-inside : (k : ℕ) (s : List ℕ) → the k s .start + length (content k s) ≤ length s
-unfolding the content part
-the-inside k s = inside-of s (refusalOf k s) (find k (parsed s .records)) (payload-inside s k (find k (parsed s .records)) refl)
+pub record-inside : (k : ℕ) (s : List ℕ) → recordOf k s .start + length (content k s) ≤ length s
+unfolding recordOf content part
+record-inside k s = inside-of s (refusalOf k s) (find k (parsed s .records)) (payload-inside s k (find k (parsed s .records)) refl)
 
 -- what reading hands back, as bytes
 pub handed-content : (k : ℕ) (s w : RefT (List ℕ)) → seen w ≡ handed s (part k (now s)) → now w ≡ content k (now s)
@@ -164,7 +164,7 @@ clear-reads k s e = go (find k (parsed s .records)) refl
   where
     go : (f : Found) → find k (parsed s .records) ≡ f → Reads k s
     go (At r) q =
-        let t : the k s ≡ r = sym (the-found k s {f = At r} (sym q) refl) in
+        let t : recordOf k s ≡ r = sym (record-found k s {f = At r} (sym q) refl) in
         let p : part k s ≡ payloadPart (At r) = sym (part-clear k s {c = refusalOf k s} refl e (sym q)) in
         record {
           kind = ap (λ (x : Record). x .kind) t ∙ found-kind s k r q;
@@ -181,16 +181,16 @@ pub content-of : (k : ℕ) (s : List ℕ) {r : Record} → refusalOf k s ≡ Cle
 unfolding content bytes
 content-of k s {r} c e = ap (λ (q : Part). bytes q s) (sym (part-clear k s {c = refusalOf k s} {f = At r} refl c (sym e)))
 
-pub found-the : (k : ℕ) (s : List ℕ) → (0 ≡ k → ⊥) → Reads k s → find k (parsed s .records) ≡ At (the k s)
-found-the k s d h = go (find k (parsed s .records)) refl
+pub found-record : (k : ℕ) (s : List ℕ) → (0 ≡ k → ⊥) → Reads k s → find k (parsed s .records) ≡ At (recordOf k s)
+found-record k s d h = go (find k (parsed s .records)) refl
   where
-    go : (f : Found) → find k (parsed s .records) ≡ f → find k (parsed s .records) ≡ At (the k s)
-    go (At r) q = q ∙ ap At (the-found k s {f = At r} (sym q) refl)
-    go Missing q = absurd (d (ap (λ (r : Record). r .kind) (the-found k s {f = Missing} (sym q) refl) ∙ h .kind))
+    go : (f : Found) → find k (parsed s .records) ≡ f → find k (parsed s .records) ≡ At (recordOf k s)
+    go (At r) q = q ∙ ap At (record-found k s {f = At r} (sym q) refl)
+    go Missing q = absurd (d (ap (λ (r : Record). r .kind) (record-found k s {f = Missing} (sym q) refl) ∙ h .kind))
 
-pub size-of : (k : ℕ) (s : List ℕ) → refusalOf k s ≡ Clear → find k (parsed s .records) ≡ At (the k s) → end (the k s) ≤ length s → length (content k s) ≡ the k s .size
+pub size-of : (k : ℕ) (s : List ℕ) → refusalOf k s ≡ Clear → find k (parsed s .records) ≡ At (recordOf k s) → end (recordOf k s) ≤ length s → length (content k s) ≡ recordOf k s .size
 size-of k s c e l =
-    let r = the k s in
+    let r = recordOf k s in
     let room = end-size r in
     ap length (content-of k s c e) ∙ length-take-le (r .size) (drop (r .start + header) s) (omega (arith, length-drop (r .start + header) s))
 

@@ -4,7 +4,7 @@ use mathlib.Core.Path.{refl, sym}
 use lib.Seq.{length-take-le}
 use denote.Ref.{now}
 use Rattle.sheet.specs.Reader.Laws.{handed-content}
-use Rattle.build.proofs.Answering.{front-none, early-refused, proper, eight-refused, table-ready, nine-refused, built}
+use Rattle.build.proofs.Answering.{front-none, early-refused, proper, eight-refused, write-required, nine-refused, built}
 use borrow.Author.Needs.{needs}
 use Rattle.build.proofs.service.build.Statement.{statement}
 use Rattle.build.proofs.service.build.Tie as tie
@@ -71,7 +71,7 @@ write-sequence-requires c κs =
     let early = word .before .before in
     let load = early .before .before in
     let start = load .before .before .before in
-    table-ready (now (start .args .sheet)) (now (start .args .buffer)) (load .load-sheet .result) (load .load-sheet .ensures) (early .enum-told .given .1) (now (word .read .result)) (handed-content _ (start .args .sheet) (word .read .result) (word .read .ensures)) (table .connect .ensures .0) (eight .enum-told2 .given .1) _ (table .connect .ensures .1 (eight .enum-told2 .given .1))
+    write-required (now (start .args .sheet)) (now (start .args .buffer)) (load .load-sheet .result) (load .load-sheet .ensures) (early .enum-told .given .1) (now (word .read .result)) (handed-content _ (start .args .sheet) (word .read .result) (word .read .ensures)) (table .connect .ensures .0) (eight .enum-told2 .given .1) _ (table .connect .ensures .1 (eight .enum-told2 .given .1))
 
 refuse-requires : tie.Need-refuse-requires
 refuse-requires c κs = search needs
@@ -109,7 +109,7 @@ write-sequence-requires-2 c κs =
     let early = word .before .before in
     let load = early .before .before in
     let start = load .before .before .before in
-    table-ready (now (start .args .sheet)) (now (start .args .buffer)) (load .load-sheet .result) (load .load-sheet .ensures) (early .enum-told .given .1) (now (word .read .result)) (handed-content _ (start .args .sheet) (word .read .result) (word .read .ensures)) (table .connect .ensures .0) (eight .enum-told2 .given .1) _ (table .connect .ensures .1 (eight .enum-told2 .given .1))
+    write-required (now (start .args .sheet)) (now (start .args .buffer)) (load .load-sheet .result) (load .load-sheet .ensures) (early .enum-told .given .1) (now (word .read .result)) (handed-content _ (start .args .sheet) (word .read .result) (word .read .ensures)) (table .connect .ensures .0) (eight .enum-told2 .given .1) _ (table .connect .ensures .1 (eight .enum-told2 .given .1))
 
 same-length-2 : tie.Need-same-length-2
 same-length-2 c = search needs

@@ -7,7 +7,7 @@ use denote.Ref.{now}
 use Rattle.machine.specs.Machine.{meaning}
 use Rattle.machine.specs.Machine.Laws.{meaning-states}
 use Rattle.build.specs.Sequence.Cycle.{gap}
-use Rattle.build.proofs.Parts.{Approaching, approaching-start, approaching-asked, approaching-on, approaching-less, approaching-end, below}
+use Rattle.build.proofs.Parts.{Approaching, approaching-start, approaching-required, approaching-on, approaching-less, approaching-end, below}
 use Rattle.build.proofs.writing.approach.Statement.{statement}
 use Rattle.build.proofs.writing.approach.Tie as tie
 
@@ -20,12 +20,12 @@ abbrev μ-loop : tie.MeasureT-loop
 loop-holds : tie.Need-loop-holds Inv-loop μ-loop
 loop-holds c =
     let start = c .before .before .before in
-    (refl, approaching-start (meaning (start .args .m)) (now (start .args .w)) (now (start .args .rows)) (start .pre .0 .ready) (now (start .args .buffer)) _ _ _ (start .pre .0) (start .pre .1))
+    (refl, approaching-start (meaning (start .args .m)) (now (start .args .w)) (now (start .args .rows)) (start .pre .0 .write-requires) (now (start .args .buffer)) _ _ _ (start .pre .0) (start .pre .1))
 
 block-requires : tie.Need-block-requires Inv-loop μ-loop
 block-requires c κs =
     let start = c .before .before .before .before .before .before in
-    approaching-asked (meaning (start .args .m)) (now (start .args .w)) (now (start .args .rows)) (start .pre .0 .ready) _ _ _ _ (c .before .before .loop .inv .1) (start .pre .1) (c .before .loop-test .taken)
+    approaching-required (meaning (start .args .m)) (now (start .args .w)) (now (start .args .rows)) (start .pre .0 .write-requires) _ _ _ _ (c .before .before .loop .inv .1) (start .pre .1) (c .before .loop-test .taken)
 
 following-requires : tie.Need-following-requires Inv-loop μ-loop
 following-requires c κs =
@@ -35,12 +35,12 @@ following-requires c κs =
 loop-less : tie.Need-loop-less Inv-loop μ-loop
 loop-less c =
     let start = c .before .before .before .before .before .before .before .before .before .before in
-    approaching-less (meaning (start .args .m)) (now (start .args .w)) (now (start .args .rows)) (start .pre .0 .ready) _ _ _ _ (c .before .before .before .before .before .before .loop .inv .1) (start .pre .1) (c .before .before .before .before .before .loop-test .taken) (sym (meaning-states (start .args .m))) (c .following .ensures)
+    approaching-less (meaning (start .args .m)) (now (start .args .w)) (now (start .args .rows)) (start .pre .0 .write-requires) _ _ _ _ (c .before .before .before .before .before .before .loop .inv .1) (start .pre .1) (c .before .before .before .before .before .loop-test .taken) (sym (meaning-states (start .args .m))) (c .following .ensures)
 
 loop-again : tie.Need-loop-again Inv-loop μ-loop
 loop-again c =
     let start = c .before .before .before .before .before .before .before .before .before .before in
-    (c .before .before .before .block .kept .1 .1 .1 .1 .0 ∙ c .before .before .before .before .before .before .loop .inv .0, approaching-on (meaning (start .args .m)) (now (start .args .w)) (now (start .args .rows)) (start .pre .0 .ready) _ _ _ _ (c .before .before .before .before .before .before .loop .inv .1) (start .pre .1) (c .before .before .before .before .before .loop-test .taken) (sym (meaning-states (start .args .m))) (c .before .before .before .block .ensures) (c .following .ensures))
+    (c .before .before .before .block .kept .1 .1 .1 .1 .0 ∙ c .before .before .before .before .before .before .loop .inv .0, approaching-on (meaning (start .args .m)) (now (start .args .w)) (now (start .args .rows)) (start .pre .0 .write-requires) _ _ _ _ (c .before .before .before .before .before .before .loop .inv .1) (start .pre .1) (c .before .before .before .before .before .loop-test .taken) (sym (meaning-states (start .args .m))) (c .before .before .before .block .ensures) (c .following .ensures))
 
 same-length : tie.Need-same-length Inv-loop μ-loop
 same-length c = c .before .loop .inv .0
@@ -48,7 +48,7 @@ same-length c = c .before .loop .inv .0
 returns : tie.Need-returns Inv-loop μ-loop
 returns c =
     let start = c .before .before .before .before .before in
-    approaching-end (meaning (start .args .m)) (now (start .args .w)) (now (start .args .rows)) (start .pre .0 .ready) _ _ _ _ (c .before .loop .inv .1) (start .pre .1) (c .loop-test .left)
+    approaching-end (meaning (start .args .m)) (now (start .args .w)) (now (start .args .rows)) (start .pre .0 .write-requires) _ _ _ _ (c .before .loop .inv .1) (start .pre .1) (c .loop-test .left)
 
 pub approach-spec : {M : Type 1} → statement M
 approach-spec =

@@ -6,7 +6,7 @@ use lib.ListN.{length}
 use denote.Ref.{now}
 use Rattle.machine.specs.Machine.{meaning}
 use Rattle.machine.specs.Machine.Laws.{meaning-states, meaning-start}
-use Rattle.build.proofs.Parts.{Opening, opening-start, opening-low, opening-asked, opening-on, opening-end, below}
+use Rattle.build.proofs.Parts.{Opening, opening-start, opening-low, opening-required, opening-on, opening-end, below}
 use borrow.Author.Needs.{needs}
 use native.Mathlib.Omega.{arith}
 use Rattle.build.proofs.writing.opening.Statement.{statement}
@@ -26,7 +26,7 @@ loop-holds c =
 block-requires : tie.Need-block-requires Inv-loop μ-loop
 block-requires c κs =
     let start = c .before .before .before .before .before .before .before in
-    opening-asked (meaning (start .args .m)) (now (start .args .w)) (now (start .args .rows)) (now (start .args .buffer)) (start .pre) (c .before .before .before .loop .inv .1) (sym (meaning-states (start .args .m))) (omega (arith, c .before .if1 .taken))
+    opening-required (meaning (start .args .m)) (now (start .args .w)) (now (start .args .rows)) (now (start .args .buffer)) (start .pre) (c .before .before .before .loop .inv .1) (sym (meaning-states (start .args .m))) (omega (arith, c .before .if1 .taken))
 
 following-requires : tie.Need-following-requires Inv-loop μ-loop
 following-requires c κs =

@@ -6,7 +6,7 @@ use lib.ListN.{length}
 use denote.Ref.{now}
 use Rattle.machine.specs.Machine.{meaning}
 use Rattle.machine.specs.Machine.Laws.{meaning-states}
-use Rattle.build.proofs.Parts.{Testing, testing-start, testing-asked, testing-on, testing-end, below, not-below}
+use Rattle.build.proofs.Parts.{Testing, testing-start, testing-required, testing-on, testing-end, below, not-below}
 use borrow.Author.Needs.{needs}
 use Rattle.build.proofs.writing.tests.Statement.{statement}
 use Rattle.build.proofs.writing.tests.Tie as tie
@@ -20,13 +20,13 @@ abbrev μ-loop : tie.MeasureT-loop
 loop-holds : tie.Need-loop-holds Inv-loop μ-loop
 loop-holds c =
     let start = c .before .before .before in
-    (refl, testing-start (meaning (start .args .m)) (now (start .args .w)) (now (start .args .rows)) (now (start .args .buffer)) (start .args .from) (start .pre .ready) (start .pre))
+    (refl, testing-start (meaning (start .args .m)) (now (start .args .w)) (now (start .args .rows)) (now (start .args .buffer)) (start .args .from) (start .pre .write-requires) (start .pre))
 
 state-tests-requires : tie.Need-state-tests-requires Inv-loop μ-loop
 state-tests-requires c κs =
     let start = c .before .before .before .before .before .before .before in
     let sl = below (sym (meaning-states (start .args .m))) (c .before .if1 .taken) in
-    (testing-asked (meaning (start .args .m)) (now (start .args .w)) (now (start .args .rows)) (now (start .args .buffer)) (start .args .from) (start .pre .ready) (c .before .before .before .loop .inv .1) sl, sl)
+    (testing-required (meaning (start .args .m)) (now (start .args .w)) (now (start .args .rows)) (now (start .args .buffer)) (start .args .from) (start .pre .write-requires) (c .before .before .before .loop .inv .1) sl, sl)
 
 add-s : tie.Need-add-s Inv-loop μ-loop
 add-s c = search needs
@@ -38,7 +38,7 @@ loop-again : tie.Need-loop-again Inv-loop μ-loop
 loop-again c =
     let start = c .before .before .before .before .before .before .before .before .before .before in
     let sl = below (sym (meaning-states (start .args .m))) (c .before .before .before .before .if1 .taken) in
-    (c .before .before .state-tests .kept .1 .1 .1 .1 .1 .0 ∙ c .before .before .before .before .before .before .loop .inv .0, testing-on (meaning (start .args .m)) (now (start .args .w)) (now (start .args .rows)) (now (start .args .buffer)) (start .args .from) (start .pre .ready) (c .before .before .before .before .before .before .loop .inv .1) sl (c .before .before .state-tests .ensures))
+    (c .before .before .state-tests .kept .1 .1 .1 .1 .1 .0 ∙ c .before .before .before .before .before .before .loop .inv .0, testing-on (meaning (start .args .m)) (now (start .args .w)) (now (start .args .rows)) (now (start .args .buffer)) (start .args .from) (start .pre .write-requires) (c .before .before .before .before .before .before .loop .inv .1) sl (c .before .before .state-tests .ensures))
 
 same-length : tie.Need-same-length Inv-loop μ-loop
 same-length c = c .before .before .loop .inv .0
@@ -46,7 +46,7 @@ same-length c = c .before .before .loop .inv .0
 returns : tie.Need-returns Inv-loop μ-loop
 returns c =
     let start = c .before .before .before .before .before .before in
-    testing-end (meaning (start .args .m)) (now (start .args .w)) (now (start .args .rows)) (now (start .args .buffer)) (start .args .from) (start .pre .ready) (c .before .before .loop .inv .1) (not-below (sym (meaning-states (start .args .m))) (c .if1 .left))
+    testing-end (meaning (start .args .m)) (now (start .args .w)) (now (start .args .rows)) (now (start .args .buffer)) (start .args .from) (start .pre .write-requires) (c .before .before .loop .inv .1) (not-below (sym (meaning-states (start .args .m))) (c .if1 .left))
 
 pub tests-spec : {M : Type 1} → statement M
 tests-spec =

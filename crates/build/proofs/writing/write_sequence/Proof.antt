@@ -2,7 +2,7 @@
 -- Assumes nothing.
 use denote.Ref.{now}
 use Rattle.machine.specs.Machine.{meaning}
-use Rattle.build.proofs.Parts.{tests-asked, sequence-written}
+use Rattle.build.proofs.Parts.{tests-required, sequence-written}
 use borrow.Author.Needs.{needs}
 use Rattle.build.proofs.writing.write_sequence.Statement.{statement}
 use Rattle.build.proofs.writing.write_sequence.Tie as tie
@@ -13,7 +13,7 @@ opening-requires c κs = search needs
 tests-requires : tie.Need-tests-requires
 tests-requires c κs =
     let start = c .before .before .before .before .before .before .before .before in
-    tests-asked (meaning (start .args .m)) (now (start .args .w)) (now (start .args .rows)) (now (start .args .buffer)) (start .pre) (c .before .before .before .opening .ensures)
+    tests-required (meaning (start .args .m)) (now (start .args .w)) (now (start .args .rows)) (now (start .args .buffer)) (start .pre) (c .before .before .before .opening .ensures)
 
 same-length : tie.Need-same-length
 same-length c = search needs

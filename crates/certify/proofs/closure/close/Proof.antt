@@ -9,7 +9,7 @@ use Rattle.machine.specs.Machine.{meaning}
 use Rattle.certify.specs.Marks.{mark, count}
 use Rattle.certify.proofs.Answering.{entries-tabled, few-tabled}
 use Rattle.certify.proofs.Known.{known-closed}
-use Rattle.certify.proofs.Settling.{Settling, settling-starts, settling-sweepable, settling-on, settling-less, settled-closed}
+use Rattle.certify.proofs.Settling.{Settling, settling-starts, settling-sweep-required, settling-on, settling-less, settled-closed}
 use Rattle.certify.proofs.closure.close.Statement.{statement}
 use Rattle.certify.proofs.closure.close.Tie as tie
 
@@ -32,7 +32,7 @@ loop-holds : tie.Need-loop-holds Inv-loop μ-loop
 loop-holds c = settling-starts (c .before .before .before .before .pre)
 
 sweep-requires : tie.Need-sweep-requires Inv-loop μ-loop
-sweep-requires c κs = settling-sweepable (c .before .before .before .loop .inv)
+sweep-requires c κs = settling-sweep-required (c .before .before .before .loop .inv)
 
 all-known-requires : tie.Need-all-known-requires Inv-loop μ-loop
 all-known-requires c κs =

@@ -5,14 +5,14 @@ use Prim.Native.Nat.{_+_}
 use mathlib.Core.Path.{_≡_}
 use lib.ListN.{length}
 use Rattle.machine.specs.Machine.{Mealy}
-use Rattle.certify.specs.Propagation.{Propagable}
+use Rattle.certify.specs.Propagation.{PropagateRequires}
 use Rattle.certify.proofs.Following.{Propagating, propagation-starts, propagation-on}
 use Rattle.certify.proofs.propagation.propagate.Statement.{statement}
 use Rattle.certify.proofs.propagation.propagate.Tie as tie
 
 abbrev Inv-loop : tie.InvT-loop
 Inv-loop xs next k marks₀ alt root p s steps left₀ at₀ marks left at =
-    (length marks ≡ length xs + 1) × ((M : Mealy) → Propagable M xs marks₀ next alt root k p s → Propagating M xs marks₀ marks at)
+    (length marks ≡ length xs + 1) × ((M : Mealy) → PropagateRequires M xs marks₀ next alt root k p s → Propagating M xs marks₀ marks at)
 
 abbrev μ-loop : tie.MeasureT-loop
 μ-loop xs next k marks₀ alt root p s steps left₀ at₀ marks left at = left

@@ -4,7 +4,7 @@ use native.Mathlib.Omega.{arith}
 use borrow.Author.Needs.{needs}
 use denote.Ref.{now}
 use Rattle.machine.specs.Machine.{meaning}
-use Rattle.certify.proofs.Answering.{entries-tabled, few-tabled, word-closable, marks-are, outcome-is}
+use Rattle.certify.proofs.Answering.{entries-tabled, few-tabled, word-close-required, marks-are, outcome-is}
 use Rattle.certify.proofs.service.recognise.Statement.{statement}
 use Rattle.certify.proofs.service.recognise.Tie as tie
 
@@ -14,7 +14,7 @@ mark-words-requires c κs = search needs
 close-requires : tie.Need-close-requires
 close-requires c κs =
     let start = c .before .before .before .before .before .before .before .before in
-    word-closable (now (start .args .w)) (now (start .args .xs)) (c .before .before .before .mark-words .ensures) (meaning (start .args .m)) (start .pre .0) (start .pre .1 .0)
+    word-close-required (now (start .args .w)) (now (start .args .xs)) (c .before .before .before .mark-words .ensures) (meaning (start .args .m)) (start .pre .0) (start .pre .1 .0)
 
 cast-entries : tie.Need-cast-entries
 cast-entries c = search needs

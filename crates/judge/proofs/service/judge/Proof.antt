@@ -76,10 +76,10 @@ compare-requires c κs =
     let d = c .before .before .before .before .before .before .before .before in
     let clear = c .before .before .before .before .before .before .enum-told .given .1 in
     let loaded = d .before .before .before .before .before .load-sequence .ensures in
-    let ready = loaded-clear d clear in
+    let loading-clear = loaded-clear d clear in
     record {
-      proper = loaded .proper ready;
-      commands = rw (sequence-is d) (loaded .commands ready);
+      proper = loaded .proper loading-clear;
+      commands = rw (sequence-is d) (loaded .commands loading-clear);
       few = few-here (length (buffer d)) (sheet d) (d .before .before .before .before .record-of .ensures) (sequence-is d) (answers-are d) (check-is d) clear;
     }
 

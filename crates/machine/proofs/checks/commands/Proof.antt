@@ -4,7 +4,7 @@ use native.Mathlib.Omega.{arith}
 use borrow.Author.Needs.{needs}
 use denote.Ref.{now}
 use Rattle.sheet.specs.Reader.Laws.{handed-content}
-use Rattle.machine.proofs.LoadChecks.{record-inside, commands-are}
+use Rattle.machine.proofs.LoadChecks.{read-inside, commands-are}
 use Rattle.machine.proofs.checks.commands.Statement.{statement}
 use Rattle.machine.proofs.checks.commands.Tie as tie
 
@@ -23,12 +23,12 @@ refuse-requires c κs = search needs
 add-scan : tie.Need-add-scan
 add-scan c =
     let start = c .before .before .before .before .before .before in
-    omega (arith, record-inside (start .args .kind) (now (start .args .sheet)) (c .before .before .before .before .record-of .ensures) (handed-content _ (start .args .sheet) (c .before .before .before .read .result) (c .before .before .before .read .ensures)))
+    omega (arith, read-inside (start .args .kind) (now (start .args .sheet)) (c .before .before .before .before .record-of .ensures) (handed-content _ (start .args .sheet) (c .before .before .before .read .result) (c .before .before .before .read .ensures)))
 
 scan-requires : tie.Need-scan-requires
 scan-requires c κs =
     let start = c .before .before .before .before .before .before in
-    omega (arith, record-inside (start .args .kind) (now (start .args .sheet)) (c .before .before .before .before .record-of .ensures) (handed-content _ (start .args .sheet) (c .before .before .before .read .result) (c .before .before .before .read .ensures)))
+    omega (arith, read-inside (start .args .kind) (now (start .args .sheet)) (c .before .before .before .before .record-of .ensures) (handed-content _ (start .args .sheet) (c .before .before .before .read .result) (c .before .before .before .read .ensures)))
 
 first-of-requires : tie.Need-first-of-requires
 first-of-requires c κs = search needs

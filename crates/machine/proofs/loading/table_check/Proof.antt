@@ -4,7 +4,7 @@ use native.Mathlib.Omega.{arith}
 use borrow.Author.Needs.{needs}
 use denote.Ref.{now}
 use Rattle.sheet.specs.Reader.Laws.{handed-content}
-use Rattle.machine.proofs.LoadChecks.{record-inside, table-are}
+use Rattle.machine.proofs.LoadChecks.{read-inside, table-are}
 use Rattle.machine.proofs.loading.table_check.Statement.{statement}
 use Rattle.machine.proofs.loading.table_check.Tie as tie
 
@@ -23,7 +23,7 @@ shape-requires c κs = search needs
 next-states-requires : tie.Need-next-states-requires
 next-states-requires c κs =
     let start = c .before .before .before .before .before in
-    omega (arith, record-inside 1 (now (start .args .sheet)) (c .before .before .record-of .ensures) (handed-content _ (start .args .sheet) (c .before .read .result) (c .before .read .ensures)))
+    omega (arith, read-inside 1 (now (start .args .sheet)) (c .before .before .record-of .ensures) (handed-content _ (start .args .sheet) (c .before .read .result) (c .before .read .ensures)))
 
 first-of-requires : tie.Need-first-of-requires
 first-of-requires c κs = search needs

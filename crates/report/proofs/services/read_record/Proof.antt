@@ -6,7 +6,7 @@ use mathlib.Core.Path.{sym, ap, _∙_}
 use denote.Ref.{now}
 use lib.ListN.{length}
 use Rattle.sheet.specs.Reader.Laws.{handed-content}
-use Rattle.sheet.specs.Reader.Places.{read-short}
+use Rattle.sheet.specs.Reader.Bounds.{read-short}
 use Rattle.report.specs.Output.Laws.{writes-same}
 use Rattle.report.specs.Services.Laws.{read-clear, read-refused}
 use Rattle.report.proofs.Putting.{puts-same, prints-line}

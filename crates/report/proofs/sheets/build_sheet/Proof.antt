@@ -12,7 +12,7 @@ use Rattle.report.specs.Sheets.{withSequence}
 use Rattle.report.specs.Output.Laws.{writes-same}
 use Rattle.report.specs.Services.Laws.{built-clear, built-refused}
 use Rattle.report.proofs.Putting.{prints-same}
-use Rattle.report.proofs.Making.{answer-is, built-ready, writes-output}
+use Rattle.report.proofs.Making.{answer-is, built-holds, writes-output}
 use Rattle.report.proofs.sheets.build_sheet.Statement.{statement}
 use Rattle.report.proofs.sheets.build_sheet.Tie as tie
 
@@ -27,18 +27,18 @@ enum-known-answer c = search needs
 
 array-share-prefix-sequence : tie.Need-array-share-prefix-sequence
 array-share-prefix-sequence c =
-    let ready = built-ready (now (c .before .before .before .before .before .before .before .args .sheet)) _ _ (length-replicate {A = ℕ} mostSequence 0) (c .before .before .before .before .build .ensures) (c .before .answer .given .1) in
-    ready .inside
+    let holds = built-holds (now (c .before .before .before .before .before .before .before .args .sheet)) _ _ (length-replicate {A = ℕ} mostSequence 0) (c .before .before .before .before .build .ensures) (c .before .answer .given .1) in
+    holds .inside
 
 slice-aggregate-compose : tie.Need-slice-aggregate-compose
 slice-aggregate-compose c =
-    let ready = built-ready (now (c .before .before .before .before .before .before .before .before .args .sheet)) _ _ (length-replicate {A = ℕ} mostSequence 0) (c .before .before .before .before .before .build .ensures) (c .before .before .answer .given .1) in
-    ready .sized
+    let holds = built-holds (now (c .before .before .before .before .before .before .before .before .args .sheet)) _ _ (length-replicate {A = ℕ} mostSequence 0) (c .before .before .before .before .before .build .ensures) (c .before .before .answer .given .1) in
+    holds .sized
 
 compose-requires : tie.Need-compose-requires
 compose-requires c κs =
-    let ready = built-ready (now (c .before .before .before .before .before .before .before .before .before .args .sheet)) _ _ (length-replicate {A = ℕ} mostSequence 0) (c .before .before .before .before .before .before .build .ensures) (c .before .before .before .answer .given .1) in
-    (ready .behind, (ready .short, omega (arith, ready .few, ready .sized)))
+    let holds = built-holds (now (c .before .before .before .before .before .before .before .before .before .args .sheet)) _ _ (length-replicate {A = ℕ} mostSequence 0) (c .before .before .before .before .before .before .build .ensures) (c .before .before .before .answer .given .1) in
+    (holds .behind, (holds .short, omega (arith, holds .few, holds .sized)))
 
 enum-known-answer-2 : tie.Need-enum-known-answer-2
 enum-known-answer-2 c = search needs
@@ -51,9 +51,9 @@ returns c =
     let s = now (c .before .before .before .before .before .before .before .before .before .before .args .sheet) in
     let build = c .before .before .before .before .before .before .before .build .ensures in
     let answer = c .before .before .before .before .answer .given .1 in
-    let ready = built-ready s _ _ (length-replicate {A = ℕ} mostSequence 0) build answer in
+    let holds = built-holds s _ _ (length-replicate {A = ℕ} mostSequence 0) build answer in
     writes-output _ (built-clear s (answer-is (length-replicate {A = ℕ} mostSequence 0) build answer))
-    (prints-same (ap (λ (l : List ℕ). withSequence s l) (sym (ready .built))) (c .compose .ensures))
+    (prints-same (ap (λ (l : List ℕ). withSequence s l) (sym (holds .built))) (c .compose .ensures))
 
 returns-2 : tie.Need-returns-2
 returns-2 c =

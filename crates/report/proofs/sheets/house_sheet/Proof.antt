@@ -9,7 +9,7 @@ use Rattle.sheet.specs.Writing.{recordBytes}
 use Rattle.sheet.specs.Writing.Laws.{record-size}
 use Rattle.machine.specs.House.{houseWord}
 use Rattle.report.specs.Sheets.{houseSheet}
-use Rattle.report.specs.Services.{houseShown}
+use Rattle.report.specs.Services.{houseWritten}
 use Rattle.report.proofs.Putting.{puts-append, puts-same, prints-line}
 use Rattle.report.proofs.Making.{writes-output}
 use Rattle.report.proofs.sheets.house_sheet.Statement.{statement}
@@ -32,7 +32,7 @@ put-record-requires-2 c κs =
     omega (arith, c .before .before .put-record .ensures .ends, record-size 1 (c .before .before .before .before .before .house-payload .result))
 
 returns : tie.Need-returns
-unfolding houseShown houseSheet
+unfolding houseWritten houseSheet
 returns c =
     let payload = c .before .before .before .before .before .before .house-payload in
     writes-output houseSheet refl (prints-line houseSheet

@@ -11,11 +11,11 @@ use Rattle.sheet.specs.declared.check.Check.the-variants.{Clear}
 use Rattle.sheet.specs.declared.reader.Needs.{Needs}
 use Rattle.sheet.specs.Check.{refusal_with_if_, _else_, firstCause, first}
 use Rattle.sheet.specs.Check.Laws.{both-clear}
-use Rattle.sheet.specs.Check.Places.{WhereRefused, place-clear, place-of, place-cause, place-else, place-first}
+use Rattle.sheet.specs.Check.Bounds.{WhereRefused, place-clear, place-of, place-cause, place-else, place-first}
 use Rattle.sheet.specs.Format.{longest, offset}
-use Rattle.sheet.specs.Reader.{sheetCauses, needed, the, content}
-use Rattle.sheet.specs.Reader.Laws.{the-inside}
-use Rattle.sheet.specs.Reader.Places.{Small, sheet-small, sheet-short, offset-inside, Bytes, content-bytes}
+use Rattle.sheet.specs.Reader.{sheetCauses, needed, recordOf, content}
+use Rattle.sheet.specs.Reader.Laws.{record-inside}
+use Rattle.sheet.specs.Reader.Bounds.{Small, sheet-small, sheet-short, offset-inside, Bytes, content-bytes}
 use Rattle.machine.specs.Limits.{mostStates, mostWord}
 use Rattle.machine.specs.Machine.{Mealy, pairAt, machineOf}
 use Rattle.machine.specs.Causes.{outside, cause3, cause4, commandsCause, cause5, cause6, machineIn, machineCauses, wordCauses, loadCauses}
@@ -24,26 +24,26 @@ use Rattle.machine.specs.Causes.Lists.{machine-causes-are, word-causes-a
 
 -- ---- each cause, on a sheet that is not too long
 module _ (s : List ℕ) (short : length s ≤ longest) where
-  cause3-small : WhereRefused Small (cause3 (the 1 s) (content 1 s))
+  cause3-small : WhereRefused Small (cause3 (recordOf 1 s) (content 1 s))
   unfolding cause3
-  cause3-small = place-cause Small 3 (the 1 s .start) _ (λ t. record { number = omega arith; place = omega (arith, the-inside 1 s) })
+  cause3-small = place-cause Small 3 (recordOf 1 s .start) _ (λ t. record { number = omega arith; place = omega (arith, record-inside 1 s) })
 
-  cause4-small : Shape (content 1 s) → WhereRefused Small (cause4 (the 1 s) (content 1 s))
+  cause4-small : Shape (content 1 s) → WhereRefused Small (cause4 (recordOf 1 s) (content 1 s))
   unfolding cause4
   cause4-small h =
       place-first Small (getD (content 1 s) 0 0 * getD (content 1 s) 1 0) _
-      (λ e l. place-cause Small 4 (offset (the 1 s) (pairAt e)) _
+      (λ e l. place-cause Small 4 (offset (recordOf 1 s) (pairAt e)) _
       (λ t. record { number = omega arith; place = omega (arith, offset-inside 1 s (pairAt e) (omega (arith, h .long))) }))
 
   -- causes 5 and 7, of the record of any kind
-  pub commands-small : (number most k kind : ℕ) → number < 100 → WhereRefused Small (commandsCause number most k (the kind s) (content kind s))
+  pub commands-small : (number most k kind : ℕ) → number < 100 → WhereRefused Small (commandsCause number most k (recordOf kind s) (content kind s))
   unfolding commandsCause
   commands-small number most k kind low =
-      place-else Small (refusal number with the kind s .start if outside 1 most (length (content kind s)))
-      (first (length (content kind s)) (λ i. refusal number with offset (the kind s) i if leb k (getD (content kind s) i 0)))
-      (place-cause Small number (the kind s .start) _ (λ t. record { number = low; place = omega (arith, the-inside kind s) }))
+      place-else Small (refusal number with recordOf kind s .start if outside 1 most (length (content kind s)))
+      (first (length (content kind s)) (λ i. refusal number with offset (recordOf kind s) i if leb k (getD (content kind s) i 0)))
+      (place-cause Small number (recordOf kind s .start) _ (λ t. record { number = low; place = omega (arith, record-inside kind s) }))
       (λ q. place-first Small (length (content kind s)) _
-      (λ i l. place-cause Small number (offset (the kind s) i) _ (λ t. record { number = low; place = omega (arith, offset-inside kind s i l) })))
+      (λ i l. place-cause Small number (offset (recordOf kind s) i) _ (λ t. record { number = low; place = omega (arith, offset-inside kind s i l) })))
 
 -- 16i+j of two states
 cause6-small : (M : Mealy) (w : List ℕ) → M .n ≤ mostStates → WhereRefused Small (cause6 M w)
@@ -57,12 +57,12 @@ module _ (n : Needs) (s : List ℕ) where
   machine-small : WhereRefused Small (firstCause (machineCauses n s))
   machine-small =
       place-of Small (machine-causes-are n s)
-      (place-else Small (firstCause (sheetCauses (needed n) s)) (cause3 (the 1 s) (content 1 s) else cause4 (the 1 s) (content 1 s))
+      (place-else Small (firstCause (sheetCauses (needed n) s)) (cause3 (recordOf 1 s) (content 1 s) else cause4 (recordOf 1 s) (content 1 s))
       (sheet-small (needed n) s)
       (λ q.
       let l : length s ≤ longest = sheet-short (needed n) s q in
-      place-else Small (cause3 (the 1 s) (content 1 s)) (cause4 (the 1 s) (content 1 s)) (cause3-small s l)
-      (λ t. cause4-small s l (clear-shape (the 1 s) (content 1 s) t))))
+      place-else Small (cause3 (recordOf 1 s) (content 1 s)) (cause4 (recordOf 1 s) (content 1 s)) (cause3-small s l)
+      (λ t. cause4-small s l (clear-shape (recordOf 1 s) (content 1 s) t))))
 
   machine-short : firstCause (machineCauses n s) ≡ Clear → length s ≤ longest
   machine-short e = sheet-short (needed n) s (both-clear _ _ (sym (machine-causes-are n s) ∙ e) .0)
@@ -71,7 +71,7 @@ module _ (n : Needs) (s : List ℕ) where
   word-small e false = place-of Small (word-causes-none s) (place-clear Small)
   word-small e true =
       place-of Small (word-causes-are s)
-      (place-else Small (cause5 (machineIn s .k) (the 2 s) (content 2 s)) (cause6 (machineIn s) (content 2 s))
+      (place-else Small (cause5 (machineIn s .k) (recordOf 2 s) (content 2 s)) (cause6 (machineIn s) (content 2 s))
       (commands-small s (machine-short e) 5 mostWord (machineIn s .k) 2 (omega arith))
       (λ q. cause6-small (machineIn s) (content 2 s) (machine-proper n s e .few-states)))
 

@@ -7,17 +7,17 @@ use mathlib.Core.List.{List}
 use native.Mathlib.Omega.{arith}
 use Rattle.sheet.specs.declared.check.Check.the-variants.{Clear}
 use Rattle.sheet.specs.Check.{_else_, firstCause}
-use Rattle.sheet.specs.Check.Places.{WhereRefused, place-of, place-else}
+use Rattle.sheet.specs.Check.Bounds.{WhereRefused, place-of, place-else}
 use Rattle.sheet.specs.Values.{Fits}
-use Rattle.sheet.specs.Reader.{the, content}
-use Rattle.sheet.specs.Reader.Places.{Small}
+use Rattle.sheet.specs.Reader.{recordOf, content}
+use Rattle.sheet.specs.Reader.Bounds.{Small}
 use Rattle.machine.specs.Limits.{mostSequence}
 use Rattle.machine.specs.Machine.{Mealy}
 use Rattle.machine.specs.Machine.Laws.{proper-entries}
 use Rattle.machine.specs.Causes.{machineIn, loadCauses}
 use Rattle.machine.specs.Causes.Laws.{clear-commands}
 use Rattle.machine.specs.Causes.Lists.{load-proper}
-use Rattle.machine.specs.Causes.Places.{commands-small, load-small, load-short}
+use Rattle.machine.specs.Causes.Bounds.{commands-small, load-small, load-short}
 use Rattle.certify.specs.declared.answer.Answer.{Answer}
 use Rattle.certify.specs.declared.answer.Answer.the-variants.{Certified, Open, Refused as RefusedAnswer}
 use Rattle.certify.specs.Recognition.{RecognisedNumber}
@@ -36,12 +36,12 @@ sequence-small answers room s =
     let xs = content 3 s in
     let needs = sequenceNeeds answers in
     place-of Small (sequence-causes-are answers room s)
-    (place-else Small (firstCause (loadCauses needs s)) (cause7 (machineIn s .k) (the 3 s) xs else cause9 room (markBytes xs)) (load-small needs s)
-    (λ q. place-else Small (cause7 (machineIn s .k) (the 3 s) xs) (cause9 room (markBytes xs))
+    (place-else Small (firstCause (loadCauses needs s)) (cause7 (machineIn s .k) (recordOf 3 s) xs else cause9 room (markBytes xs)) (load-small needs s)
+    (λ q. place-else Small (cause7 (machineIn s .k) (recordOf 3 s) xs) (cause9 room (markBytes xs))
     (commands-small s (load-short needs s q) 7 mostSequence (machineIn s .k) 3 (omega arith))
     (λ t n p e.
     let h = room-refused room (markBytes xs) e in
-    record { number = omega (arith, h .0); place = omega (arith, h .1 .0, clear-commands 7 mostSequence (machineIn s .k) (the 3 s) xs t .few) })))
+    record { number = omega (arith, h .0); place = omega (arith, h .1 .0, clear-commands 7 mostSequence (machineIn s .k) (recordOf 3 s) xs t .few) })))
 
 -- ---- results, where nothing is refused
 -- the recognised places are at most N+1

@@ -14,11 +14,11 @@ use Rattle.sheet.specs.declared.record.Found.{Found}
 use Rattle.sheet.specs.declared.record.Found.the-variants.{At, Missing}
 use Rattle.sheet.specs.Check.{firstCause}
 use Rattle.sheet.specs.Check.Laws.{clear-absent, both-clear, cause-cons}
-use Rattle.sheet.specs.Check.Places.{WhereRefused, place-clear, place-of, place-cause, place-else, place-cons, place-map}
+use Rattle.sheet.specs.Check.Bounds.{WhereRefused, place-clear, place-of, place-cause, place-else, place-cons, place-map}
 use Rattle.sheet.specs.Format.{longest, offset, cause1, cause2, causeAt, Parsed, parsed, find}
 use Rattle.sheet.specs.Format.Laws.{parsed-is, parse-induction}
-use Rattle.sheet.specs.Reader.{tooLong, isMissing, missing, sheetCauses, refusalOf, recordOr, the, payloadPart, partWhen, part, bytes, content}
-use Rattle.sheet.specs.Reader.Laws.{payload-inside, the-inside}
+use Rattle.sheet.specs.Reader.{tooLong, isMissing, missing, sheetCauses, refusalOf, recordOr, recordOf, payloadPart, partWhen, part, bytes, content}
+use Rattle.sheet.specs.Reader.Laws.{payload-inside, record-inside}
 
 -- ---- causes 1 and 2
 -- a refusal that the capture rig's number can hold: its number is below the results' classes, which begin with 100, and its place is at most
@@ -67,7 +67,7 @@ sheet-short needed s e = not-long s (both-clear (tooLong s) _ (sym (cause-cons (
 -- what reading hands back is no longer
 pub read-short : (k : ℕ) (s : List ℕ) → refusalOf k s ≡ Clear → length (content k s) ≤ longest
 unfolding refusalOf
-read-short k s e = omega (arith, the-inside k s, sheet-short (k ∷ []) s e)
+read-short k s e = omega (arith, record-inside k s, sheet-short (k ∷ []) s e)
 
 -- ---- offsets in what reading hands back
 offset-of : (s : List ℕ) (c : Check) (f : Found) → payloadPart f .from + payloadPart f .size ≤ length s → (i : ℕ) → i < length (bytes (partWhen c f) s)
@@ -78,8 +78,8 @@ offset-of s Clear Missing h i l = let z : ⊥ = omega arith in absurd z
 offset-of s (Refused n p) f h i l = let z : ⊥ = omega arith in absurd z
 
 -- they lie inside the sheet
-pub offset-inside : (k : ℕ) (s : List ℕ) (i : ℕ) → i < length (content k s) → offset (the k s) i < length s
-unfolding the content part
+pub offset-inside : (k : ℕ) (s : List ℕ) (i : ℕ) → i < length (content k s) → offset (recordOf k s) i < length s
+unfolding recordOf content part
 offset-inside k s i l = offset-of s (refusalOf k s) (find k (parsed s .records)) (payload-inside s k (find k (parsed s .records)) refl) i l
 
 -- ---- bytes

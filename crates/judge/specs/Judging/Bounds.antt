@@ -8,20 +8,20 @@ use native.Mathlib.Omega.{arith}
 use lib.ListN.{length, getD}
 use Rattle.sheet.specs.declared.check.Check.the-variants.{Clear}
 use Rattle.sheet.specs.Check.{firstCause}
-use Rattle.sheet.specs.Check.Places.{WhereRefused, place-of, place-cause, place-else}
+use Rattle.sheet.specs.Check.Bounds.{WhereRefused, place-of, place-cause, place-else}
 use Rattle.sheet.specs.Values.{Fits}
-use Rattle.sheet.specs.Reader.{the, content}
-use Rattle.sheet.specs.Reader.Laws.{the-inside}
-use Rattle.sheet.specs.Reader.Places.{Small, Bytes, content-bytes}
+use Rattle.sheet.specs.Reader.{recordOf, content}
+use Rattle.sheet.specs.Reader.Laws.{record-inside}
+use Rattle.sheet.specs.Reader.Bounds.{Small, Bytes, content-bytes}
 use Rattle.machine.specs.Limits.{mostSequence}
 use Rattle.machine.specs.Machine.{Mealy, Proper, Commands, stateAt}
 use Rattle.machine.specs.Machine.Laws.{answer-at, state-stays, proper-entries}
 use Rattle.machine.specs.Causes.{machineIn}
-use Rattle.machine.specs.Causes.Places.{load-short, answer-byte}
+use Rattle.machine.specs.Causes.Bounds.{load-short, answer-byte}
 use Rattle.certify.specs.Recognition.Laws.{open-small}
 use Rattle.certify.specs.Certification.{sequenceNeeds, sequenceCauses}
 use Rattle.certify.specs.Certification.Laws.{load-clear}
-use Rattle.certify.specs.Certification.Places.{sequence-small}
+use Rattle.certify.specs.Certification.Bounds.{sequence-small}
 use Rattle.judge.specs.declared.answer.Answer.{Answer}
 use Rattle.judge.specs.declared.answer.Answer.the-variants.{Pass}
 use Rattle.judge.specs.Judging.{cause10, judgeCauses, judgement, valuesOf}
@@ -33,9 +33,9 @@ use Rattle.judge.specs.Judging.Laws.{cause10-is, judge-causes-are, few-a
 pub judge-small : (room : ℕ) (s : List ℕ) → WhereRefused Small (firstCause (judgeCauses room s))
 judge-small room s =
     place-of Small (judge-causes-are room s)
-    (place-else Small (firstCause (sequenceCauses true room s)) (cause10 (the 4 s) (content 3 s) (content 4 s)) (sequence-small true room s)
-    (λ q. place-of Small (sym (cause10-is (the 4 s) (content 3 s) (content 4 s))) (place-cause Small 10 (the 4 s .start) _
-    (λ t. record { number = omega arith; place = omega (arith, the-inside 4 s, load-short (sequenceNeeds true) s (load-clear true room s q)) }))))
+    (place-else Small (firstCause (sequenceCauses true room s)) (cause10 (recordOf 4 s) (content 3 s) (content 4 s)) (sequence-small true room s)
+    (λ q. place-of Small (sym (cause10-is (recordOf 4 s) (content 3 s) (content 4 s))) (place-cause Small 10 (recordOf 4 s .start) _
+    (λ t. record { number = omega arith; place = omega (arith, record-inside 4 s, load-short (sequenceNeeds true) s (load-clear true room s q)) }))))
 
 -- ---- the values
 module _ (room : ℕ) (s : List ℕ) (bytes : Bytes s) where

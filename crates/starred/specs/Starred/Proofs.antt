@@ -8,8 +8,8 @@ use Rattle.sheet.specs.declared.check.Check.{Check}
 use Rattle.sheet.specs.declared.check.Check.the-variants.{Clear, Refused}
 use Rattle.sheet.specs.Check.{refusal_with_if_, _else_, firstCause, first}
 use Rattle.sheet.specs.Check.Laws.{absent, else-clear}
-use Rattle.sheet.specs.Format.{recordAt, offset, end, kindOf, cause1, cause2, causeAt, onward, parseFrom, parse, parsed, ofKind, _or_, find}
-use Rattle.sheet.specs.Reader.{sheetCauses, when, needed, refusalOf, the, part, bytes, content}
+use Rattle.sheet.specs.Format.{recordAt, offset, end, kindOf, cause1, cause2, causeAt, parseStep, parseFrom, parse, parsed, ofKind, _or_, find}
+use Rattle.sheet.specs.Reader.{sheetCauses, when, needed, refusalOf, recordOf, part, bytes, content}
 use Rattle.sheet.specs.Writing.{headerOf}
 use Rattle.machine.specs.Machine.{Mealy, machineOf, run, answers, stateAt}
 use Rattle.machine.specs.Causes.{cause3, cause4, commandsCause, cause6, machineIn, machineCauses, wordCauses, loadCauses}
@@ -78,7 +78,7 @@ record Computed : Type 0 where
   four-judged : (room command answer : ℕ) → firstCause (judgeCauses room (answersSheet noStateTable (command ∷ []) builtTwin (answer ∷ []))) ≡ Refused 4 8
 
 computed : Computed
-unfolding twinMachine singleMachine headerOf refusal_with_if_ _else_ firstCause first recordAt offset end kindOf cause1 cause2 causeAt onward parseFrom parse parsed ofKind _or_ find sheetCauses when needed refusalOf the part bytes content machineOf run answers cause3 cause4 commandsCause cause6 machineIn machineCauses wordCauses loadCauses buildCauses cause9 sequenceCauses cause10 judgeCauses verdict resultAt agreed stateAt
+unfolding twinMachine singleMachine headerOf refusal_with_if_ _else_ firstCause first recordAt offset end kindOf cause1 cause2 causeAt parseStep parseFrom parse parsed ofKind _or_ find sheetCauses when needed refusalOf recordOf part bytes content machineOf run answers cause3 cause4 commandsCause cause6 machineIn machineCauses wordCauses loadCauses buildCauses cause9 sequenceCauses cause10 judgeCauses verdict resultAt agreed stateAt
 computed = record {
   built = λ room l. record { clear = buildings.nine-clear room 13 l; machine = refl; word = refl; sequence = refl };
   each-other = λ room l. record { clear = buildings.nine-clear room 7 l; machine = refl; word = refl; sequence = refl };
