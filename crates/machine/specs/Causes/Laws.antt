@@ -78,8 +78,8 @@ clear-shape r p e =
     }
 
 -- a machine with few states and commands has few entries
-pub few-entries : (p : List ℕ) → Shape p → getD p 0 0 * getD p 1 0 ≤ mostEntries
-few-entries p h = entries-few (getD p 0 0) (getD p 1 0) (h .few-states) (h .few-commands)
+pub shape-entries : (p : List ℕ) → Shape p → getD p 0 0 * getD p 1 0 ≤ mostEntries
+shape-entries p h = entries-few (getD p 0 0) (getD p 1 0) (h .few-states) (h .few-commands)
 
 pub clear-next : (r : Record) (p : List ℕ) → cause4 r p ≡ Clear → (s c : ℕ) → s < getD p 0 0 → c < getD p 1 0
     → getD p (pairAt (s * getD p 1 0 + c)) 0 < getD p 0 0

@@ -16,7 +16,7 @@ use Rattle.sheet.specs.Reader.Laws.{needed-without-answers, needed-machine, nee
 use Rattle.machine.specs.Limits.{mostMachine, mostWord}
 use Rattle.machine.specs.Machine.{Mealy, machineOf, Proper, Distinguishes}
 use Rattle.machine.specs.Causes.{cause3, cause4, cause5, cause6, machineIn, held, machineCauses, wordCauses, loadCauses}
-use Rattle.machine.specs.Causes.Laws.{Shape, clear-shape, few-entries, clear-next, clear-commands}
+use Rattle.machine.specs.Causes.Laws.{Shape, clear-shape, shape-entries, clear-next, clear-commands}
 use Rattle.machine.specs.Causes.Separation.{clear-separates}
 
 -- ---- the lists, written out
@@ -68,7 +68,7 @@ module _ (n : Needs) (s : List ℕ) (e : firstCause (machineCauses n s) ≡ Clea
   -- the machine that is held is the sheet's
   pub held-is : held s ≡ machineIn s
   unfolding held machineIn
-  held-is = ap machineOf (take-all mostMachine (content 1 s) (omega (arith, shape-of .long, few-entries (content 1 s) shape-of)))
+  held-is = ap machineOf (take-all mostMachine (content 1 s) (omega (arith, shape-of .long, shape-entries (content 1 s) shape-of)))
 
 pub machine-proper : (n : Needs) (s : List ℕ) → firstCause (machineCauses n s) ≡ Clear → Proper (machineIn s)
 unfolding machineIn machineOf

@@ -17,7 +17,7 @@ use Rattle.sheet.specs.Reader.Laws.{when-missing, checks-are, record-found, cle
 use Rattle.machine.specs.Limits.{mostMachine, mostWord, mostSequence}
 use Rattle.machine.specs.Machine.{Mealy, Commands}
 use Rattle.machine.specs.Causes.{cause3, cause4, cause5, cause6, machineIn, loadCauses}
-use Rattle.machine.specs.Causes.Laws.{few-entries, commands-clear}
+use Rattle.machine.specs.Causes.Laws.{shape-entries, commands-clear}
 use Rattle.machine.specs.Causes.Lists.{machine-same, machine-causes-are, word-causes-are, load-causes-are, shape-of, clear-table, load-machine, load-word, word-distinguishes}
 use Rattle.certify.specs.declared.answer.Answer.the-variants.{Certified}
 use Rattle.certify.specs.Marks.{count, marks}
@@ -63,7 +63,7 @@ source-of s load =
     let shape = shape-of buildNeeds s rows in
     let starts-one : recordOf 1 s .start ≡ 0 = ap (λ (r : Record). r .start) (sym (pair .first .is)) ∙ start-at s 0 in
     let starts-two : recordOf 2 s .start ≡ end (recordOf 1 s) = ap (λ (r : Record). r .start) (sym (pair .second .is)) ∙ start-at s (end (recordOf 1 s)) in
-    let few : length (content 1 s) ≤ mostMachine = omega (arith, shape .long, few-entries (content 1 s) shape) in
+    let few : length (content 1 s) ≤ mostMachine = omega (arith, shape .long, shape-entries (content 1 s) shape) in
     record {
       one = one;
       two = two;
