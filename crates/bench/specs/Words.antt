@@ -101,8 +101,8 @@ unfoldable pub serviceOf : List (List ℕ) → Service
 serviceOf [] = OnSheet Judge
 serviceOf (w ∷ ws) = unlessUnfit w (counted (length ws) (named services w (getD ws 0 [])))
 
--- ---- the words as the program has them: how many there are, and the first two. Words behind these are counted, and not looked at:
--- words-are, in Words.Laws, says that this is enough
+-- ---- the words as the program has them: how many there are, and the first two. Words behind these are counted, and
+-- not looked at: words-are, in Words.Laws, says that this is enough
 unfoldable pub behindFirst : ℕ → List ℕ → List (List ℕ)
 behindFirst zero second = []
 behindFirst (suc n) second = second ∷ replicate n []

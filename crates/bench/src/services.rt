@@ -67,7 +67,9 @@ pub fn bench(
     sheet: &[u8],
     out: &mut [u8; OUTPUT],
 ) -> Written
-    ensures { λ r. ⌜ Writes (benchOf (wordsOf count (now (first .entry)) (now (second .entry))) (now (sheet .entry))) (now (out .entry)) (now (out .exit)) r ⌝ }
+    ensures { λ r. ⌜
+        Writes (benchOf (wordsOf count (now (first .entry)) (now (second .entry))) (now (sheet .entry)))
+        (now (out .entry)) (now (out .exit)) r ⌝ }
 {
     let service = service_of(count, first, second);
     perform(service, sheet, out)

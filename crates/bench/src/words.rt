@@ -143,7 +143,9 @@ fn counted(n: usize, found: Lookup) -> Service
 
 // What the first word asks for, with so many words behind it.
 fn asked(first: &[u8], n: usize, second: &[u8]) -> Service
-    ensures { λ r. ⌜ r ≡ unlessUnfit (now (first .entry)) (countedOf n (namedIn services (now (first .entry)) (now (second .entry)))) ⌝ }
+    ensures { λ r. ⌜
+        r ≡ unlessUnfit (now (first .entry))
+        (countedOf n (namedIn services (now (first .entry)) (now (second .entry)))) ⌝ }
 {
     let found = named(first, second);
     unless_unfit(first, counted(n, found))

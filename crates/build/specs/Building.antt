@@ -1,5 +1,6 @@
--- Building: causes 1 to 6, 8 and 9 (§4.2), the answer and what is written (§6.4), and when building succeeds (§6.5). The
--- laws of cause 8 stand in Building.Connection, those of the service in Building.Service; in Building.Twin the starred cases are computed.
+-- Building: causes 1 to 6, 8 and 9 (§4.2), the answer and what is written (§6.4), and when building succeeds (§6.5).
+-- The laws of cause 8 stand in Building.Connection, those of the service in Building.Service; in Building.Twin the
+-- starred cases are computed.
 use Prim.Native.Nat.{ℕ, _≤_, _<_}
 use mathlib.Core.Path.{_≡_}
 use mathlib.Core.Bool.{Bool, true, false}
@@ -50,18 +51,22 @@ buildCauses room s =
 -- ---- the service
 -- what building answers to a sheet and a room: the length of the sequence (§6.4)
 unfoldable pub building : ℕ → List ℕ → Answer
-building room s = refusedOr RefusedAnswer (firstCause (buildCauses room s)) (Built (length (sequence (machineIn s) (content 2 s))))
+building room s =
+    refusedOr RefusedAnswer (firstCause (buildCauses room s)) (Built (length (sequence (machineIn s) (content 2 s))))
 
 -- the lent buffer after building (§6.4)
 unfoldable pub bufferAfter : List ℕ → List ℕ → List ℕ
-bufferAfter s buffer = unlessRefused (firstCause (buildCauses (length buffer) s)) (written (sequence (machineIn s) (content 2 s)) buffer) buffer
+bufferAfter s buffer =
+    unlessRefused (firstCause (buildCauses (length buffer) s))
+    (written (sequence (machineIn s) (content 2 s)) buffer) buffer
 
 -- number and values of each answer: the length, for which §8.3 has no class, or a refusal's
 abbrev pub valuesOf : Answer → Values ⊎ ℕ
 valuesOf (Built size) = inr size
 valuesOf (RefusedAnswer number place) = inl (refusalValues number place)
 
--- what building promises of a sheet (§4.4): the specified answer with its number and values, and every byte of the lent buffer
+-- what building promises of a sheet (§4.4): the specified answer with its number and values, and every
+-- byte of the lent buffer
 pub record Builds (s before after : List ℕ) (a : Answer) : Type 0 where
   pub answer : Returns valuesOf (building (length before) s) a
   pub buffer : after ≡ bufferAfter s before
@@ -71,8 +76,8 @@ pub record Builds (s before after : List ℕ) (a : Answer) : Type 0 where
 abbrev pub StronglyConnected : Mealy → Type 0
 StronglyConnected M = (a b : ℕ) → a < M .n → b < M .n → (u : List ℕ) × Leads M a b u
 
--- when building succeeds (§6.5): no cause of 1 to 5 is present, the word separates, the table is strongly connected, and
--- there is room. It succeeds exactly then: built-buildable and buildable-built, in Building.Service
+-- when building succeeds (§6.5): no cause of 1 to 5 is present, the word separates, the table is strongly connected,
+-- and there is room. It succeeds exactly then: built-buildable and buildable-built, in Building.Service
 pub record Buildable (room : ℕ) (s : List ℕ) : Type 0 where
   pub machine : firstCause (machineCauses buildNeeds s) ≡ Clear
   pub word : cause5 (machineIn s .k) (recordOf 2 s) (content 2 s) ≡ Clear

@@ -13,7 +13,8 @@ unreached = 255
 
 -- the distance v of a state s to b, among strings of at most d commands; unreached where none leads there
 pub data Distance (M : Mealy) (b d s v : ℕ) : Type 0 where
-  near : (t : List ℕ) → v ≤ d → firstPath M b v s ≡ some t → ((m : ℕ) → m < v → firstPath M b m s ≡ none) → Distance M b d s v
+  near : (t : List ℕ) → v ≤ d → firstPath M b v s ≡ some t → ((m : ℕ) → m < v → firstPath M b m s ≡ none)
+      → Distance M b d s v
   beyond : v ≡ unreached → ((m : ℕ) → m ≤ d → firstPath M b m s ≡ none) → Distance M b d s v
 
 -- the distances of all bytes
@@ -28,13 +29,17 @@ pub record FirstStep (next : List ℕ) (k : ℕ) (distance : List ℕ) (s d r : 
   pub byte : r < k → getD next (s * k + r) 0 < 256
   pub found : r < k → getD distance (getD next (s * k + r) 0) 0 ≡ d
 
--- the distance w of a state s after a round, by a table of distances before: d + 1 where it was unreached and a command leads to distance d
+-- the distance w of a state s after a round, by a table of distances before: d + 1 where it was unreached and a
+-- command leads to distance d
 pub data Widened (next : List ℕ) (k : ℕ) (distance : List ℕ) (d s w : ℕ) : Type 0 where
   kept : (getD distance s 0 ≡ unreached → ⊥) → w ≡ getD distance s 0 → Widened next k distance d s w
-  reached : (c : ℕ) → c < k → getD distance s 0 ≡ unreached → getD distance (getD next (s * k + c) 0) 0 ≡ d → w ≡ d + 1 → Widened next k distance d s w
-  still : getD distance s 0 ≡ unreached → ((c : ℕ) → c < k → getD distance (getD next (s * k + c) 0) 0 ≡ d → ⊥) → w ≡ unreached → Widened next k distance d s w
+  reached : (c : ℕ) → c < k → getD distance s 0 ≡ unreached → getD distance (getD next (s * k + c) 0) 0 ≡ d → w ≡ d + 1
+      → Widened next k distance d s w
+  still : getD distance s 0 ≡ unreached → ((c : ℕ) → c < k → getD distance (getD next (s * k + c) 0) 0 ≡ d → ⊥)
+      → w ≡ unreached → Widened next k distance d s w
 
 -- the commands xs from a state s down m distances: the first step to the next lower distance, each time
 pub data Descent (next : List ℕ) (k : ℕ) (distance : List ℕ) : ℕ → ℕ → List ℕ → Type 0 where
   there : {s : ℕ} → Descent next k distance s 0 []
-  down : {s m c : ℕ} {xs : List ℕ} → FirstStep next k distance s m c → Descent next k distance (getD next (s * k + c) 0) m xs → Descent next k distance s (m + 1) (c ∷ xs)
+  down : {s m c : ℕ} {xs : List ℕ} → FirstStep next k distance s m c
+      → Descent next k distance (getD next (s * k + c) 0) m xs → Descent next k distance s (m + 1) (c ∷ xs)

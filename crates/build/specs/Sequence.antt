@@ -1,6 +1,6 @@
 -- The prescribed sequence (§6.2, §6.3), of a machine M and a word w: the field's checking sequence. Sequence.Cycle has
--- the laws of the states counted round, Sequence.Laws where each part leads; Sequence.Certified shows that the sequence is certified, Sequence.Length
--- how long it is at most. In the laws T(s) is called a block.
+-- the laws of the states counted round, Sequence.Laws where each part leads; Sequence.Certified shows that the sequence
+-- is certified, Sequence.Length how long it is at most. In the laws T(s) is called a block.
 use Prim.Native.Nat.{ℕ, zero, suc, _+_, _-_, _*_}
 use mathlib.Core.Bool.{Bool, true, false}
 use mathlib.Core.List.{List, [], _∷_, _++_}
@@ -56,7 +56,8 @@ unless false xs = xs
 -- times are enough (approach-reaches, in Sequence.Laws); approach-here and approach-more are the equations without i
 unfoldable pub approach : Mealy → List ℕ → ℕ → ℕ → ℕ → List ℕ
 approach M w zero present s = []
-approach M w (suc i) present s = unless (eqb present s) (T M w present ++ approach M w i (run M present (T M w present)) s)
+approach M w (suc i) present s =
+    unless (eqb present s) (T M w present ++ approach M w i (run M present (T M w present)) s)
 
 -- an entry's test (§6.3, 2): the way there, the command, and the block of the entry's next state. Command and block are
 -- the field's transition test

@@ -1,5 +1,5 @@
--- The program's table of the transfers B(s): a row for each state, first the transfer's length, then its commands. Nothing here has to be
--- believed: the service's contract does not name it.
+-- The program's table of the transfers B(s): a row for each state, first the transfer's length, then its commands.
+-- Nothing here has to be believed: the service's contract does not name it.
 use Prim.Native.Nat.{ℕ, _+_, _*_, _<_}
 use mathlib.Core.Path.{_≡_}
 use mathlib.Core.List.{List, []}

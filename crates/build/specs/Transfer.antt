@@ -1,5 +1,5 @@
--- Transfers (§6.1). `IsTransfer` says what one is and `transfer` computes it; Transfer.Laws shows that both agree for the
--- states of a machine within its limits, by the laws of Transfer.Paths.
+-- Transfers (§6.1). `IsTransfer` says what one is and `transfer` computes it; Transfer.Laws shows that both agree for
+-- the states of a machine within its limits, by the laws of Transfer.Paths.
 use Prim.Native.Nat.{ℕ, zero, suc, _≤_, _<_}
 use mathlib.Core.Path.{_≡_}
 use mathlib.Core.Bool.{Bool, true, false, _&&_}
@@ -25,8 +25,8 @@ pub record Before (u v : List ℕ) : Type 0 where
   pub same : take place u ≡ take place v
   pub lower : getD u place 0 < getD v place 0
 
--- the transfer from a to b (§6.1): of the strings that lead there none is shorter, and none of its length comes before it
--- in byte order
+-- the transfer from a to b (§6.1): of the strings that lead there none is shorter, and none of its length comes
+-- before it in byte order
 pub record IsTransfer (M : Mealy) (a b : ℕ) (t : List ℕ) : Type 0 where
   pub leads : Leads M a b t
   pub shortest : (u : List ℕ) → Leads M a b u → length t ≤ length u
@@ -43,14 +43,15 @@ unfoldable pub firstOf : ℕ → (ℕ → Option (List ℕ)) → Option (List �
 firstOf zero f = none
 firstOf (suc n) f = orElse (firstOf n f) (f n)
 
--- firstPath M b m a: the first string in byte order of exactly m commands that leads from a to b along states of the machine; of m + 1 it is the
--- least command that has one behind it
+-- firstPath M b m a: the first string in byte order of exactly m commands that leads from a to b along states of the
+-- machine; of m + 1 it is the least command that has one behind it
 unfoldable pub firstPath : Mealy → ℕ → ℕ → ℕ → Option (List ℕ)
 firstPath M b zero a = guard (ltb a (M .n) && eqb a b) (some [])
-firstPath M b (suc m) a = guard (ltb a (M .n)) (firstOf (M .k) (λ c. Option·map (_∷_ c) (firstPath M b m (M .next a c))))
+firstPath M b (suc m) a =
+    guard (ltb a (M .n)) (firstOf (M .k) (λ c. Option·map (_∷_ c) (firstPath M b m (M .next a c))))
 
--- the transfer from a to b: the least length below n that has a string, and the first string of that length. Where a string of any length
--- leads from a to b, there is one of a length below n: leads-some, in Transfer.Laws
+-- the transfer from a to b: the least length below n that has a string, and the first string of that length. Where a
+-- string of any length leads from a to b, there is one of a length below n: leads-some, in Transfer.Laws
 unfoldable pub transfer : Mealy → ℕ → ℕ → Option (List ℕ)
 transfer M a b = firstOf (M .n) (λ m. firstPath M b m a)
 

@@ -1,4 +1,5 @@
--- What the program's functions that write the sequence promise each other: commands written into a buffer, by the table of transfers.
+-- What the program's functions that write the sequence promise each other: commands written into a buffer, by
+-- the table of transfers.
 use Prim.Native.Nat.{ℕ, _+_, _-_, _*_, _≤_, _<_}
 use mathlib.Core.Path.{_≡_}
 use mathlib.Core.List.{List}
@@ -31,7 +32,8 @@ pub record WriteRequires (M : Mealy) (w rows : List ℕ) : Type 0 where
   pub filled : Filled M w (M .n) rows
 
 -- ---- writing
--- commands written at a place of a buffer: where they fit they stand there and all else is as it was; with the place behind them
+-- commands written at a place of a buffer: where they fit they stand there and all else is as it was;
+-- with the place behind them
 pub record Writes (before : List ℕ) (at : ℕ) (xs after : List ℕ) (end : ℕ) : Type 0 where
   pub ends : end ≡ at + length xs
   pub written : end ≤ length before → after ≡ paste before at xs (length xs)

@@ -47,7 +47,10 @@ fn widened(next: &[u8], k: u8, distance: &[u8; 256], s: u8, d: u8) -> u8
 fn widen(next: &[u8], n: u8, k: u8, distance: &mut [u8; 256], d: u8)
     requires { ⌜ d + 1 < unreached ⌝ }
     requires { ⌜ length (now distance) ≡ 256 ⌝ }
-    ensures { λ _. ⌜ ((start to : ℕ) (answer : List ℕ) → Distances (tabled n k start (now (next .entry)) answer) to d (now (distance .entry)) → Distances (tabled n k start (now (next .entry)) answer) to (d + 1) (now (distance .exit))) ⌝ }
+    ensures { λ _. ⌜
+        ((start to : ℕ) (answer : List ℕ)
+        → Distances (tabled n k start (now (next .entry)) answer) to d (now (distance .entry))
+        → Distances (tabled n k start (now (next .entry)) answer) to (d + 1) (now (distance .exit))) ⌝ }
 {
     let mut s: u8 = 0;
     while s < n {
@@ -60,7 +63,8 @@ fn widen(next: &[u8], n: u8, k: u8, distance: &mut [u8; 256], d: u8)
 // The least number of commands, below n, from each state to one state; UNREACHED where none lead
 // there.
 pub fn distances(next: &[u8], n: u8, k: u8, to: u8) -> [u8; 256]
-    ensures { λ r. ⌜ ((start : ℕ) (answer : List ℕ) → Distances (tabled n k start (now (next .entry)) answer) to (n - 1) r) ⌝ }
+    ensures { λ r. ⌜
+        ((start : ℕ) (answer : List ℕ) → Distances (tabled n k start (now (next .entry)) answer) to (n - 1) r) ⌝ }
 {
     let mut distance = [UNREACHED; 256];
     if to < n {

@@ -36,7 +36,8 @@ pub fn following(n: u8, s: u8) -> u8
 
 // Where a word takes a state.
 fn word_end(next: &[u8], k: u8, w: &[u8], s: u8) -> u8
-    ensures { λ r. ⌜ ((n start : ℕ) (answer : List ℕ) → r ≡ run (tabled n k start (now (next .entry)) answer) s (now (w .entry))) ⌝ }
+    ensures { λ r. ⌜
+        ((n start : ℕ) (answer : List ℕ) → r ≡ run (tabled n k start (now (next .entry)) answer) s (now (w .entry))) ⌝ }
 {
     let mut t = s;
     let mut p = 0;

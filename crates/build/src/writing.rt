@@ -13,7 +13,8 @@ ghost use Rattle.build.specs.Sequence.{stateTests};
 ghost use Rattle.build.specs.Sequence.{tests as testsOf};
 ghost use Rattle.build.specs.Sequence.{opening as openingOf};
 ghost use Rattle.build.specs.Table.{row};
-ghost use Rattle.build.specs.Writing.{mostApproach, mostTest, mostStateTests, mostTests, WriteRequires, Writes, Moves, BlockRequires, PartRequires};
+ghost use Rattle.build.specs.Writing.{mostApproach, mostTest, mostStateTests, mostTests, WriteRequires, Writes};
+ghost use Rattle.build.specs.Writing.{Moves, BlockRequires, PartRequires};
 use crate::table::ROW;
 use crate::table::following;
 use machine::Machine;
@@ -38,7 +39,8 @@ fn put(xs: &[u8], at: usize, buffer: &mut [u8]) -> usize
 // T(s): the word, then the transfer of its row.
 fn block(w: &[u8], rows: &[u8], s: u8, at: usize, buffer: &mut [u8]) -> usize
     requires { ⌜ BlockRequires (now w) (now rows) s at ⌝ }
-    ensures { λ r. ⌜ Writes (now (buffer .entry)) at (now (w .entry) ++ row (now (rows .entry)) s) (now (buffer .exit)) r ⌝ }
+    ensures { λ r. ⌜
+        Writes (now (buffer .entry)) at (now (w .entry) ++ row (now (rows .entry)) s) (now (buffer .exit)) r ⌝ }
 {
     let middle = put(w, at, buffer);
     let from = s as usize * ROW;
@@ -51,7 +53,9 @@ fn block(w: &[u8], rows: &[u8], s: u8, at: usize, buffer: &mut [u8]) -> usize
 fn approach(m: Machine, w: &[u8], rows: &[u8], from: Position, s: u8, buffer: &mut [u8]) -> usize
     requires { ⌜ PartRequires (meaning m) (now w) (now rows) (from .at) (from .state) mostApproach ⌝ }
     requires { ⌜ s < meaning m .n ⌝ }
-    ensures { λ r. ⌜ Writes (now (buffer .entry)) (from .at) (approachOf (meaning m) (now (w .entry)) (meaning m .n) (from .state) s) (now (buffer .exit)) r ⌝ }
+    ensures { λ r. ⌜
+        Writes (now (buffer .entry)) (from .at) (approachOf (meaning m) (now (w .entry)) (meaning m .n) (from .state) s)
+        (now (buffer .exit)) r ⌝ }
 {
     let mut at = from.at;
     let mut present = from.state;
@@ -75,7 +79,9 @@ fn test(
     requires { ⌜ PartRequires (meaning m) (now w) (now rows) (from .at) (from .state) mostTest ⌝ }
     requires { ⌜ s < meaning m .n ⌝ }
     requires { ⌜ c < meaning m .k ⌝ }
-    ensures { λ r. ⌜ Moves (meaning m) (now (buffer .entry)) (from .at) (from .state) (testOf (meaning m) (now (w .entry)) (from .state) s c) (now (buffer .exit)) r ⌝ }
+    ensures { λ r. ⌜
+        Moves (meaning m) (now (buffer .entry)) (from .at) (from .state)
+        (testOf (meaning m) (now (w .entry)) (from .state) s c) (now (buffer .exit)) r ⌝ }
 {
     let reached = approach(m, w, rows, from, s, buffer);
     let one = [c];
@@ -98,7 +104,9 @@ fn state_tests(
 ) -> Position
     requires { ⌜ PartRequires (meaning m) (now w) (now rows) (from .at) (from .state) mostStateTests ⌝ }
     requires { ⌜ s < meaning m .n ⌝ }
-    ensures { λ r. ⌜ Moves (meaning m) (now (buffer .entry)) (from .at) (from .state) (stateTests (meaning m) (now (w .entry)) (from .state) s (meaning m .k)) (now (buffer .exit)) r ⌝ }
+    ensures { λ r. ⌜
+        Moves (meaning m) (now (buffer .entry)) (from .at) (from .state)
+        (stateTests (meaning m) (now (w .entry)) (from .state) s (meaning m .k)) (now (buffer .exit)) r ⌝ }
 {
     let mut p = from;
     let mut c: u8 = 0;
@@ -112,7 +120,9 @@ fn state_tests(
 // The tests of all states.
 fn tests(m: Machine, w: &[u8], rows: &[u8], from: Position, buffer: &mut [u8]) -> Position
     requires { ⌜ PartRequires (meaning m) (now w) (now rows) (from .at) (from .state) mostTests ⌝ }
-    ensures { λ r. ⌜ Moves (meaning m) (now (buffer .entry)) (from .at) (from .state) (testsOf (meaning m) (now (w .entry)) (from .state) (meaning m .n)) (now (buffer .exit)) r ⌝ }
+    ensures { λ r. ⌜
+        Moves (meaning m) (now (buffer .entry)) (from .at) (from .state)
+        (testsOf (meaning m) (now (w .entry)) (from .state) (meaning m .n)) (now (buffer .exit)) r ⌝ }
 {
     let mut p = from;
     let mut s: u8 = 0;
@@ -127,7 +137,9 @@ fn tests(m: Machine, w: &[u8], rows: &[u8], from: Position, buffer: &mut [u8]) -
 // the start again.
 fn opening(m: Machine, w: &[u8], rows: &[u8], buffer: &mut [u8]) -> Position
     requires { ⌜ WriteRequires (meaning m) (now w) (now rows) ⌝ }
-    ensures { λ r. ⌜ Moves (meaning m) (now (buffer .entry)) 0 (meaning m .start) (openingOf (meaning m) (now (w .entry))) (now (buffer .exit)) r ⌝ }
+    ensures { λ r. ⌜
+        Moves (meaning m) (now (buffer .entry)) 0 (meaning m .start) (openingOf (meaning m) (now (w .entry)))
+        (now (buffer .exit)) r ⌝ }
 {
     let mut at = 0;
     let mut present = m.start;

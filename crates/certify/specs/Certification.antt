@@ -1,7 +1,9 @@
--- Certifying: causes 1 to 7 and 9 (§4.2), the open number, the answer, what is written (§5.4), and the contract. Shut are `verified`, `openCause`, `openIn`, `outcome`, `certification` and `marksAfter`: what an answer and a mark mean is said by the contract
--- itself, in the words of Recognition, and Certification.Contract shows that it holds of these definitions. Certification.Laws has the laws of the
--- causes and what building and the starred cases need, Certification.Program the open number by a table of known entries, as the program finds it,
--- and in Certification.Twin the starred sequences are computed.
+-- Certifying: causes 1 to 7 and 9 (§4.2), the open number, the answer, what is written (§5.4), and the contract. Shut
+-- are `verified`, `openCause`, `openIn`, `outcome`, `certification` and `marksAfter`: what an answer and a mark mean is
+-- said by the contract itself, in the words of Recognition, and Certification.Contract shows that it holds of these
+-- definitions. Certification.Laws has the laws of the causes and what building and the starred cases need,
+-- Certification.Program the open number by a table of known entries, as the program finds it, and in Certification.Twin
+-- the starred sequences are computed.
 use Prim.Native.Nat.{ℕ, _+_, _*_}
 use mathlib.Core.Path.{_≡_}
 use mathlib.Core.Bool.{Bool, true, false, not, _&&_}
@@ -22,7 +24,8 @@ use Rattle.machine.specs.Limits.{mostSequence}
 use Rattle.machine.specs.Machine.{Mealy, stateAt}
 use Rattle.machine.specs.Causes.{commandsCause, machineIn, loadCauses}
 use Rattle.certify.specs.declared.answer.Answer.{Answer}
-use Rattle.certify.specs.declared.answer.Answer.the-variants.{Certified as CertifiedAnswer, Open, Refused as RefusedAnswer}
+use Rattle.certify.specs.declared.answer.Answer.the-variants.{Certified as CertifiedAnswer, Open}
+use Rattle.certify.specs.declared.answer.Answer.the-variants.{Refused as RefusedAnswer}
 use Rattle.certify.specs.Recognition.{Certified, OpenNumber, MarksOf, RecognisedNumber}
 use Rattle.certify.specs.Marks.{any, marked, count, marks}
 pub mod Laws
@@ -51,7 +54,8 @@ markBytes xs = length xs + 1
 -- causes 1 to 7, then 9, of a service that certifies, by whether it needs the answers, and of a room for marks
 unfoldable pub sequenceCauses : Bool → ℕ → List ℕ → List Check
 sequenceCauses answers room s =
-    loadCauses (sequenceNeeds answers) s ++ (cause7 (machineIn s .k) (recordOf 3 s) (content 3 s) ∷ cause9 room (markBytes (content 3 s)) ∷ [])
+    loadCauses (sequenceNeeds answers) s
+    ++ (cause7 (machineIn s .k) (recordOf 3 s) (content 3 s) ∷ cause9 room (markBytes (content 3 s)) ∷ [])
 
 -- those of certifying itself
 abbrev pub certifyCauses : ℕ → List ℕ → List Check
@@ -89,7 +93,8 @@ outcome M w xs = answerOf (openIn M w xs) (count (marks M w xs))
 -- ---- the service
 -- what certifying answers to a sheet and a room for marks
 pub certification : ℕ → List ℕ → Answer
-certification room s = refusedOr RefusedAnswer (firstCause (certifyCauses room s)) (outcome (machineIn s) (content 2 s) (content 3 s))
+certification room s =
+    refusedOr RefusedAnswer (firstCause (certifyCauses room s)) (outcome (machineIn s) (content 2 s) (content 3 s))
 
 -- how marks are kept in a buffer (§5.4): they are its first bytes, and the bytes behind keep their values
 unfoldable pub kept : List ℕ → List ℕ → List ℕ
@@ -98,7 +103,8 @@ kept ms buffer = written ms buffer
 -- the lent buffer after certifying
 pub marksAfter : List ℕ → List ℕ → List ℕ
 marksAfter s buffer =
-    unlessRefused (firstCause (certifyCauses (length buffer) s)) (kept (marks (machineIn s) (content 2 s) (content 3 s)) buffer) buffer
+    unlessRefused (firstCause (certifyCauses (length buffer) s))
+    (kept (marks (machineIn s) (content 2 s) (content 3 s)) buffer) buffer
 
 -- the marks of a sequence that a buffer holds
 unfoldable pub keptIn : List ℕ → List ℕ → List ℕ
@@ -118,7 +124,8 @@ pub record CertifiedWith (room : ℕ) (s : List ℕ) (n : ℕ) : Type 0 where
   pub certified : Certified (machineIn s) (content 2 s) (content 3 s)
   pub number : RecognisedNumber (machineIn s) (content 2 s) (content 3 s) n
 
--- open with two numbers: no cause is present, the second is the sequence's open number, and as many places as the first says are recognised
+-- open with two numbers: no cause is present, the second is the sequence's open number, and as many places as the
+-- first says are recognised
 pub record OpenWith (room : ℕ) (s : List ℕ) (n v : ℕ) : Type 0 where
   pub clear : firstCause (certifyCauses room s) ≡ Clear
   pub open-number : OpenNumber (machineIn s) (content 2 s) (content 3 s) v
@@ -130,8 +137,9 @@ pub record Says (room : ℕ) (s : List ℕ) (a : Answer) : Type 0 where
   pub opened : (n v : ℕ) → (a ≡ Open n v) ↔ OpenWith room s n v
   pub refused : (n p : ℕ) → (a ≡ RefusedAnswer n p) ↔ (firstCause (certifyCauses room s) ≡ Refused n p)
 
--- what certifying a sheet promises (§4.4): the specified answer with its number and values, and what it says; every byte of the lent buffer, and what
--- these are: the marks of the recognised places with later bytes unchanged, or, on a refusal, what was there before
+-- what certifying a sheet promises (§4.4): the specified answer with its number and values, and what it says; every
+-- byte of the lent buffer, and what these are: the marks of the recognised places with later bytes unchanged, or, on a
+-- refusal, what was there before
 pub record Certifies (s before after : List ℕ) (a : Answer) : Type 0 where
   pub answer : Returns valuesOf (certification (length before) s) a
   pub says : Says (length before) s a

@@ -1,5 +1,5 @@
--- What the certifier's own functions promise each other about folding places and the tables for it. Nothing here has to be believed: the
--- service's contract does not name it.
+-- What the certifier's own functions promise each other about folding places and the tables for it. Nothing here has to
+-- be believed: the service's contract does not name it.
 use Prim.Native.Nat.{ℕ, _+_, _*_, _<_}
 use mathlib.Core.Path.{_≡_}
 use mathlib.Core.List.{List}
@@ -33,10 +33,11 @@ pub record Risen (given ms : List ℕ) : Type 0 where
 pub data Paired (M : Mealy) (xs given : List ℕ) : ℕ → ℕ → Type 0 where
   same : {a b : ℕ} → a ≡ b → Paired M xs given a b
   tops : {a b : ℕ} → From M xs given a → From M xs given b → stateAt M xs a ≡ stateAt M xs b → Paired M xs given a b
-  step : {a b : ℕ} (p q : ℕ) → Paired M xs given p q → p < length xs → q < length xs → getD xs p 0 ≡ getD xs q 0 → a ≡ p + 1 → b ≡ q + 1
-      → Paired M xs given a b
+  step : {a b : ℕ} (p q : ℕ) → Paired M xs given p q → p < length xs → q < length xs → getD xs p 0 ≡ getD xs q 0
+      → a ≡ p + 1 → b ≡ q + 1 → Paired M xs given a b
 
--- from r along the alternatives to v, past places with other commands than c; alt holds the next alternative, 0 for none
+-- from r along the alternatives to v, past places with other commands than c; alt holds the next
+-- alternative, 0 for none
 pub data Past (xs alt : List ℕ) (c : ℕ) : ℕ → ℕ → Type 0 where
   here : {r v : ℕ} → r ≡ v → Past xs alt c r v
   past : {r v : ℕ} → (getD xs r 0 ≡ c → ⊥) → (getD alt r 0 ≡ 0 → ⊥) → Past xs alt c (getD alt r 0) v → Past xs alt c r v
@@ -62,11 +63,13 @@ pub data Rooted (root : List ℕ) (s t : ℕ) (root′ : List ℕ) (r : ℕ) : T
 
 -- one further than the alternative of r that has t's command; t becomes the last one where there is none
 pub data Advanced (xs alt : List ℕ) (r t : ℕ) (alt′ : List ℕ) (cur : ℕ) : Type 0 where
-  found : (v : ℕ) → Past xs alt (getD xs t 0) r v → getD xs v 0 ≡ getD xs t 0 → alt′ ≡ alt → cur ≡ v + 1 → Advanced xs alt r t alt′ cur
-  added : (v : ℕ) → Past xs alt (getD xs t 0) r v → (getD xs v 0 ≡ getD xs t 0 → ⊥) → getD alt v 0 ≡ 0 → alt′ ≡ set alt v t → cur ≡ t + 1
+  found : (v : ℕ) → Past xs alt (getD xs t 0) r v → getD xs v 0 ≡ getD xs t 0 → alt′ ≡ alt → cur ≡ v + 1
       → Advanced xs alt r t alt′ cur
+  added : (v : ℕ) → Past xs alt (getD xs t 0) r v → (getD xs v 0 ≡ getD xs t 0 → ⊥) → getD alt v 0 ≡ 0
+      → alt′ ≡ set alt v t → cur ≡ t + 1 → Advanced xs alt r t alt′ cur
 
--- tables that fold places: alternatives are paired, and root holds for a state a place of it in the closure, plus 1, or 0 for none
+-- tables that fold places: alternatives are paired, and root holds for a state a place of it in the
+-- closure, plus 1, or 0 for none
 pub record Folds (M : Mealy) (xs given alt root : List ℕ) : Type 0 where
   pub links : (v : ℕ) → (getD alt v 0 ≡ 0 → ⊥) → Paired M xs given v (getD alt v 0)
   pub roots : (s r : ℕ) → getD root s 0 ≡ r + 1 → (r < length xs) × (From M xs given r) × (stateAt M xs r ≡ s)

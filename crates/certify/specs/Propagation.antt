@@ -1,5 +1,5 @@
--- What the functions that follow the commands of a marked place promise each other. Nothing here has to be believed: the
--- service's contract does not name it.
+-- What the functions that follow the commands of a marked place promise each other. Nothing here has to be believed:
+-- the service's contract does not name it.
 use Prim.Native.Nat.{ℕ, _+_, _*_, _<_}
 use mathlib.Core.Path.{_≡_}
 use mathlib.Core.List.{List}
@@ -15,15 +15,20 @@ pub data Restarted (root : List ℕ) (i s : ℕ) (step : Step) : Type 0 where
   none : step ≡ Stop → Restarted root i s step
   from : (r : ℕ) → getD root s 0 ≡ r + 1 → step ≡ On r i s → Restarted root i s step
 
--- places r and i with equal marks keep them; of two that differ, the one without gets its mark, and following goes on from it
+-- places r and i with equal marks keep them; of two that differ, the one without gets its mark, and
+-- following goes on from it
 pub data Equalised (ms root : List ℕ) (r i s : ℕ) (ms′ : List ℕ) (step : Step) : Type 0 where
   on : ms′ ≡ ms → step ≡ On r i s → Equalised ms root r i s ms′ step
   stop : ms′ ≡ ms → step ≡ Stop → Equalised ms root r i s ms′ step
-  first : (getD ms r 0 ≡ getD ms i 0 → ⊥) → ms′ ≡ set ms r 1 → Restarted root r s step → Equalised ms root r i s ms′ step
-  second : (getD ms r 0 ≡ getD ms i 0 → ⊥) → ms′ ≡ set ms i 1 → Restarted root i s step → Equalised ms root r i s ms′ step
+  first : (getD ms r 0 ≡ getD ms i 0 → ⊥) → ms′ ≡ set ms r 1 → Restarted root r s step
+      → Equalised ms root r i s ms′ step
+  second : (getD ms r 0 ≡ getD ms i 0 → ⊥) → ms′ ≡ set ms i 1 → Restarted root i s step
+      → Equalised ms root r i s ms′ step
 
--- the command of i, of state s, is followed from i and from its representative r, along an alternative v that has it, where there is one
-pub data Followed (xs next : List ℕ) (k : ℕ) (ms alt root : List ℕ) (r i s : ℕ) (ms′ : List ℕ) (step : Step) : Type 0 where
+-- the command of i, of state s, is followed from i and from its representative r, along an alternative v that
+-- has it, where there is one
+pub data Followed (xs next : List ℕ) (k : ℕ) (ms alt root : List ℕ) (r i s : ℕ) (ms′ : List ℕ)
+    (step : Step) : Type 0 where
   ends : ms′ ≡ ms → step ≡ Stop → Followed xs next k ms alt root r i s ms′ step
   steps : (v s′ : ℕ) → i < length xs → v < length xs → Past xs alt (getD xs i 0) r v → getD xs v 0 ≡ getD xs i 0
       → s′ ≡ getD next (s * k + getD xs i 0) 0 → Equalised ms root (v + 1) (i + 1) s′ ms′ step

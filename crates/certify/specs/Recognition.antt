@@ -1,6 +1,6 @@
--- Recognition as its rules read (§5.1): the recognised places, verified entries and certified sequences (§5.3), the open
--- number, and the marks with their number (§5.4). M is the machine, w the word, xs the sequence. `Recognised` is shut:
--- what is known of it outside are the laws in Recognition.Laws, and in Marks.Agreement that it can be computed.
+-- Recognition as its rules read (§5.1): the recognised places, verified entries and certified sequences (§5.3), the
+-- open number, and the marks with their number (§5.4). M is the machine, w the word, xs the sequence. `Recognised` is
+-- shut: what is known of it outside are the laws in Recognition.Laws, and in Marks.Agreement that it can be computed.
 use Prim.Native.Nat.{ℕ, _+_, _*_, _≤_, _<_}
 use mathlib.Core.Path.{_≡_}
 use mathlib.Core.List.{List}
@@ -15,8 +15,8 @@ pub record OccursAt (w xs : List ℕ) (p : ℕ) : Type 0 where
   pub inside : p + length w ≤ length xs
   pub commands : take (length w) (drop p xs) ≡ w
 
--- the smallest set that satisfies both rules (§5.1), of a sequence, the states of its places, and the places that rule 1
--- gives: a place is in it only by a finite use of the rules, so no two places are in it by each other alone (§5.2)
+-- the smallest set that satisfies both rules (§5.1), of a sequence, the states of its places, and the places that rule
+-- 1 gives: a place is in it only by a finite use of the rules, so no two places are in it by each other alone (§5.2)
 pub data Closure (xs : List ℕ) (state : ℕ → ℕ) (Base : ℕ → Type 0) : ℕ → Type 0 where
   rule1 : {p : ℕ} → Base p → Closure xs state Base p
   -- rule 2: p and q are in the set and have one state, p + m is in it, and the m commands from q are those from p; then
@@ -41,14 +41,14 @@ pub record Verified (M : Mealy) (w xs : List ℕ) (s c : ℕ) : Type 0 where
   pub before : Recognised M w xs place
   pub after : Recognised M w xs (place + 1)
 
--- a sequence is certified (§5.3): place 0 is recognised, and each entry verified. Where the word separates, it is then a
--- checking sequence
+-- a sequence is certified (§5.3): place 0 is recognised, and each entry verified. Where the word separates, it is
+-- then a checking sequence
 pub record Certified (M : Mealy) (w xs : List ℕ) : Type 0 where
   pub start : Recognised M w xs 0
   pub entries : (s c : ℕ) → s < M .n → c < M .k → Verified M w xs s c
 
--- the open number (§5.4): 0 where place 0 is not recognised; else it names the first entry, by state and then by command,
--- that is not verified
+-- the open number (§5.4): 0 where place 0 is not recognised; else it names the first entry, by state and then by
+-- command, that is not verified
 pub data OpenNumber (M : Mealy) (w xs : List ℕ) (v : ℕ) : Type 0 where
   start-open : (Recognised M w xs 0 → ⊥) → v ≡ 0 → OpenNumber M w xs v
   entry-open : (s c : ℕ) → s < M .n → c < M .k → Recognised M w xs 0 → (Verified M w xs s c → ⊥)

@@ -1,5 +1,5 @@
--- What the steps of a sweep over the places promise, a whole sweep, and sweeping to its end. Nothing here has to be believed: the
--- service's contract does not name it.
+-- What the steps of a sweep over the places promise, a whole sweep, and sweeping to its end. Nothing here has to be
+-- believed: the service's contract does not name it.
 use Prim.Native.Nat.{ℕ, _+_, _*_, _≤_, _<_}
 use mathlib.Core.Path.{_≡_}
 use mathlib.Core.Bool.{Bool, true, false}
@@ -22,32 +22,36 @@ pub record MergeRequires (M : Mealy) (xs ms next alt root : List ℕ) (k s cur t
   pub state : s ≡ stateAt M xs t
 
 -- the marks of cur and t are equal, or else they and what follows from them are marked
-pub data Merged (M : Mealy) (xs ms : List ℕ) (cur t : ℕ) (changed : Bool) (ms′ : List ℕ) (changed′ : Bool) : Type 0 where
+pub data Merged (M : Mealy) (xs ms : List ℕ) (cur t : ℕ) (changed : Bool) (ms′ : List ℕ)
+    (changed′ : Bool) : Type 0 where
   equal : getD ms cur 0 ≡ getD ms t 0 → ms′ ≡ ms → changed′ ≡ changed → Merged M xs ms cur t changed ms′ changed′
   differ : Marking M xs ms ms′ → Risen ms ms′ → changed′ ≡ true → Merged M xs ms cur t changed ms′ changed′
 
 -- the entry e is learnt where t and t + 1 are marked; a known one marks t + 1 where it is to be applied
-pub data Learnt (apply : Bool) (ms known : List ℕ) (e t : ℕ) (changed : Bool) (ms′ known′ : List ℕ) (changed′ : Bool) : Type 0 where
-  unmarked : getD ms t 0 ≡ 0 → ms′ ≡ ms → known′ ≡ known → changed′ ≡ changed → Learnt apply ms known e t changed ms′ known′ changed′
+pub data Learnt (apply : Bool) (ms known : List ℕ) (e t : ℕ) (changed : Bool) (ms′ known′ : List ℕ)
+    (changed′ : Bool) : Type 0 where
+  unmarked : getD ms t 0 ≡ 0 → ms′ ≡ ms → known′ ≡ known → changed′ ≡ changed
+      → Learnt apply ms known e t changed ms′ known′ changed′
   knew : (getD known e 0 ≡ 0 → ⊥) → (getD ms (t + 1) 0 ≡ 0 → ⊥) → ms′ ≡ ms → known′ ≡ known → changed′ ≡ changed
       → Learnt apply ms known e t changed ms′ known′ changed′
-  learns : (getD ms t 0 ≡ 0 → ⊥) → (getD ms (t + 1) 0 ≡ 0 → ⊥) → getD known e 0 ≡ 0 → ms′ ≡ ms → known′ ≡ set known e 1 → changed′ ≡ true
-      → Learnt apply ms known e t changed ms′ known′ changed′
+  learns : (getD ms t 0 ≡ 0 → ⊥) → (getD ms (t + 1) 0 ≡ 0 → ⊥) → getD known e 0 ≡ 0 → ms′ ≡ ms → known′ ≡ set known e 1
+      → changed′ ≡ true → Learnt apply ms known e t changed ms′ known′ changed′
   unknown : getD ms (t + 1) 0 ≡ 0 → getD known e 0 ≡ 0 → ms′ ≡ ms → known′ ≡ known → changed′ ≡ changed
       → Learnt apply ms known e t changed ms′ known′ changed′
   waits : getD ms (t + 1) 0 ≡ 0 → apply ≡ false → ms′ ≡ ms → known′ ≡ known → changed′ ≡ changed
       → Learnt apply ms known e t changed ms′ known′ changed′
-  applies : (getD ms t 0 ≡ 0 → ⊥) → getD ms (t + 1) 0 ≡ 0 → (getD known e 0 ≡ 0 → ⊥) → ms′ ≡ set ms (t + 1) 1 → known′ ≡ known → changed′ ≡ true
-      → Learnt apply ms known e t changed ms′ known′ changed′
+  applies : (getD ms t 0 ≡ 0 → ⊥) → getD ms (t + 1) 0 ≡ 0 → (getD known e 0 ≡ 0 → ⊥) → ms′ ≡ set ms (t + 1) 1
+      → known′ ≡ known → changed′ ≡ true → Learnt apply ms known e t changed ms′ known′ changed′
 
--- where the sweep comes to t + 1 from: an unmarked t is represented by cur, a marked one by its state's place; between two marked places
--- there is nothing to fold
+-- where the sweep comes to t + 1 from: an unmarked t is represented by cur, a marked one by its state's place; between
+-- two marked places there is nothing to fold
 pub data NextRepresented (xs ms alt root : List ℕ) (s t cur : ℕ) (alt′ root′ : List ℕ) (cur′ : ℕ) : Type 0 where
-  unmarked : getD ms t 0 ≡ 0 → root′ ≡ root → Advanced xs alt cur t alt′ cur′ → NextRepresented xs ms alt root s t cur alt′ root′ cur′
+  unmarked : getD ms t 0 ≡ 0 → root′ ≡ root → Advanced xs alt cur t alt′ cur′
+      → NextRepresented xs ms alt root s t cur alt′ root′ cur′
   between : (getD ms t 0 ≡ 0 → ⊥) → (getD ms (t + 1) 0 ≡ 0 → ⊥) → alt′ ≡ alt → root′ ≡ root → cur′ ≡ t + 1
       → NextRepresented xs ms alt root s t cur alt′ root′ cur′
-  marked : (getD ms t 0 ≡ 0 → ⊥) → getD ms (t + 1) 0 ≡ 0 → (r : ℕ) → Rooted root s t root′ r → Advanced xs alt r t alt′ cur′
-      → NextRepresented xs ms alt root s t cur alt′ root′ cur′
+  marked : (getD ms t 0 ≡ 0 → ⊥) → getD ms (t + 1) 0 ≡ 0 → (r : ℕ) → Rooted root s t root′ r
+      → Advanced xs alt r t alt′ cur′ → NextRepresented xs ms alt root s t cur alt′ root′ cur′
 
 -- ---- a whole sweep
 -- where the entry of place i stands in the table of the entries that are known to be verified
@@ -81,8 +85,8 @@ pub record SweepRequires (M : Mealy) (apply : Bool) (xs ms known : List ℕ) : T
   pub known-bits : Bits known
   pub fresh : apply ≡ false → (e : ℕ) → getD known e 0 ≡ 0
 
--- what a sweep leaves: marks between the given ones and their closure, and known entries; where nothing changed, rule 2 adds nothing to the
--- given marks, and every entry between two of them is known
+-- what a sweep leaves: marks between the given ones and their closure, and known entries; where nothing changed, rule 2
+-- adds nothing to the given marks, and every entry between two of them is known
 pub record Swept (M : Mealy) (xs given known ms known′ : List ℕ) (changed : Bool) : Type 0 where
   pub marking : Marking M xs given ms
   pub table : length known′ ≡ mostEntries
@@ -92,7 +96,8 @@ pub record Swept (M : Mealy) (xs given known ms known′ : List ℕ) (changed : 
   pub rises : changed ≡ true → (Risen given ms) ⊎ (Risen known known′)
   pub stays : changed ≡ false → (ms ≡ given) × (known′ ≡ known)
   pub closed : changed ≡ false → (r : ℕ) → r ≤ length xs → ByRule2 xs (stateAt M xs) given r → getD given r 0 ≡ 1
-  pub all : changed ≡ false → (i : ℕ) → i < length xs → getD given i 0 ≡ 1 → getD given (i + 1) 0 ≡ 1 → getD known′ (placeEntry M xs i) 0 ≡ 0 → ⊥
+  pub all : changed ≡ false → (i : ℕ) → i < length xs → getD given i 0 ≡ 1 → getD given (i + 1) 0 ≡ 1
+      → getD known′ (placeEntry M xs i) 0 ≡ 0 → ⊥
 
 -- ---- sweeping until nothing changes, or until every entry is known
 -- the first entries, as many as given, are known

@@ -1,5 +1,5 @@
--- What the functions that mark the places where the word stands promise each other. Nothing here has to be believed: the service's contract
--- does not name it.
+-- What the functions that mark the places where the word stands promise each other. Nothing here has to be believed:
+-- the service's contract does not name it.
 use Prim.Native.Nat.{ℕ, _+_, _≤_, _<_}
 use mathlib.Core.Path.{_≡_}
 use mathlib.Core.Bool.{cond}

@@ -68,7 +68,9 @@ fn follow(
     requires { ⌜ length (now marks) ≡ length (now xs) + 1 ⌝ }
     requires { ⌜ length (now xs) ≤ mostSequence ⌝ }
     requires { ⌜ Rising (now xs) (now alt) ⌝ }
-    ensures { λ a. ⌜ Followed (now (xs .entry)) (now (next .entry)) k (now (marks .entry)) (now (alt .entry)) (now (root .entry)) r i s (now (marks .exit)) a ⌝ }
+    ensures { λ a. ⌜
+        Followed (now (xs .entry)) (now (next .entry)) k (now (marks .entry)) (now (alt .entry))
+        (now (root .entry)) r i s (now (marks .exit)) a ⌝ }
 {
     if r >= xs.len() {
         return Step::Stop;
@@ -100,7 +102,11 @@ pub fn propagate(
     requires { ⌜ length (now marks) ≡ length (now xs) + 1 ⌝ }
     requires { ⌜ length (now xs) ≤ mostSequence ⌝ }
     requires { ⌜ Rising (now xs) (now alt) ⌝ }
-    ensures { λ r. ⌜ ((M : Mealy) → PropagateRequires M (now (xs .entry)) (now (marks .entry)) (now (next .entry)) (now (alt .entry)) (now (root .entry)) k p s → Marking M (now (xs .entry)) (now (marks .entry)) (now (marks .exit))) ⌝ }
+    ensures { λ r. ⌜
+        ((M : Mealy)
+        → PropagateRequires M (now (xs .entry)) (now (marks .entry)) (now (next .entry)) (now (alt .entry))
+        (now (root .entry)) k p s
+        → Marking M (now (xs .entry)) (now (marks .entry)) (now (marks .exit))) ⌝ }
 {
     let mut left = steps;
     let mut at = restart(root, p, s);

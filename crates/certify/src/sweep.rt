@@ -40,7 +40,11 @@ fn merge(
     requires { ⌜ length (now marks) ≡ length (now xs) + 1 ⌝ }
     requires { ⌜ length (now xs) ≤ mostSequence ⌝ }
     requires { ⌜ Rising (now xs) (now alt) ⌝ }
-    ensures { λ r. ⌜ ((M : Mealy) → MergeRequires M (now (xs .entry)) (now (marks .entry)) (now (next .entry)) (now (alt .entry)) (now (root .entry)) k s cur t → Merged M (now (xs .entry)) (now (marks .entry)) cur t (p .changed) (now (marks .exit)) (r .changed)) ⌝ }
+    ensures { λ r. ⌜
+        ((M : Mealy)
+        → MergeRequires M (now (xs .entry)) (now (marks .entry)) (now (next .entry)) (now (alt .entry))
+        (now (root .entry)) k s cur t
+        → Merged M (now (xs .entry)) (now (marks .entry)) cur t (p .changed) (now (marks .exit)) (r .changed)) ⌝ }
 {
     if marks[cur] == marks[t] {
         return p;
@@ -72,7 +76,8 @@ fn learn(
 ) -> bool
     requires { ⌜ i + 1 < length (now marks) ⌝ }
     requires { ⌜ e < mostEntries ⌝ }
-    ensures { λ r. ⌜ Learnt apply (now (marks .entry)) (now (known .entry)) e i changed (now (marks .exit)) (now (known .exit)) r ⌝ }
+    ensures { λ r. ⌜
+        Learnt apply (now (marks .entry)) (now (known .entry)) e i changed (now (marks .exit)) (now (known .exit)) r ⌝ }
 {
     if marks[i] == 0 {
         return changed;
@@ -112,7 +117,9 @@ fn represent_next(
     requires { ⌜ length (now xs) ≤ mostSequence ⌝ }
     requires { ⌜ Rising (now xs) (now alt) ⌝ }
     requires { ⌜ ((x r : ℕ) → getD (now root) x 0 ≡ r + 1 → r < length (now xs)) ⌝ }
-    ensures { λ r. ⌜ NextRepresented (now (xs .entry)) (now (marks .entry)) (now (alt .entry)) (now (root .entry)) s t cur (now (alt .exit)) (now (root .exit)) r ⌝ }
+    ensures { λ r. ⌜
+        NextRepresented (now (xs .entry)) (now (marks .entry)) (now (alt .entry)) (now (root .entry)) s t cur
+        (now (alt .exit)) (now (root .exit)) r ⌝ }
 {
     if marks[t] == 0 {
         return advance(xs, alt, cur, t);
@@ -135,7 +142,9 @@ pub fn sweep(
     apply: bool,
 ) -> bool
     requires { ⌜ SweepRequires (meaning m) apply (now xs) (now marks) (now known) ⌝ }
-    ensures { λ r. ⌜ Swept (meaning m) (now (xs .entry)) (now (marks .entry)) (now (known .entry)) (now (marks .exit)) (now (known .exit)) r ⌝ }
+    ensures { λ r. ⌜
+        Swept (meaning m) (now (xs .entry)) (now (marks .entry)) (now (known .entry)) (now (marks .exit))
+        (now (known .exit)) r ⌝ }
 {
     let next = m.next;
     let mut alt = [0u16; Machine::SEQUENCE];

@@ -1,4 +1,5 @@
--- What the program's comparison of the answers asks of its caller. Nothing here has to be believed: the service's contract does not name it.
+-- What the program's comparison of the answers asks of its caller. Nothing here has to be believed: the service's
+-- contract does not name it.
 use Prim.Native.Nat.{ℕ, _≤_}
 use mathlib.Core.List.{List}
 use lib.ListN.{length}

@@ -1,6 +1,7 @@
 -- Judging: causes 1 to 7, 9, 10 and 11 (§4.2), the results and what is written (§7), and the identity claim (§9.3).
--- Certification is known by its contract: `certification` and `marksAfter`, its answer and its buffer, are shut, and what they say is the contract's. The laws of
--- the verdict stand in Judging.Verdict, those of a sheet in Judging.Laws, bounds on places in Judging.Bounds.
+-- Certification is known by its contract: `certification` and `marksAfter`, its answer and its buffer, are shut, and
+-- what they say is the contract's. The laws of the verdict stand in Judging.Verdict, those of a sheet in Judging.Laws,
+-- bounds on places in Judging.Bounds.
 use Prim.Native.Nat.{ℕ, suc}
 use mathlib.Core.Path.{_≡_}
 use mathlib.Core.Bool.{true, false, cond}
@@ -44,7 +45,8 @@ cause11 (Open recognised number) = Refused 11 number
 cause11 (RefusedThere number place) = Refused number place
 
 -- ---- the results
--- how many of the answers from the front are the specified ones: the first place where they differ, or the length of the shorter list
+-- how many of the answers from the front are the specified ones: the first place where they differ, or the
+-- length of the shorter list
 unfoldable pub agreed : List ℕ → List ℕ → ℕ
 agreed [] ys = 0
 agreed (x ∷ xs) [] = 0
@@ -72,22 +74,24 @@ judgement room s =
 unfoldable pub judgedMarks : List ℕ → List ℕ → List ℕ
 judgedMarks s buffer = unlessRefused (firstCause (judgeCauses (length buffer) s)) (marksAfter s buffer) buffer
 
--- number and values of each answer (§8.3): pass has N as its place and the end state as b, wrong its place, the specified answer as a and the given one as b,
--- unfinished the number of answers as its place
+-- number and values of each answer (§8.3): pass has N as its place and the end state as b, wrong its place, the
+-- specified answer as a and the given one as b, unfinished the number of answers as its place
 abbrev pub valuesOf : Answer → Values
 valuesOf (Pass size end) = record { class = 100; place = size; a = 0; b = end }
 valuesOf (Wrong place specified given) = record { class = 101; place = place; a = specified; b = given }
 valuesOf (Unfinished number) = record { class = 102; place = number; a = 0; b = 0 }
 valuesOf (RefusedAnswer number place) = refusalValues number place
 
--- what judging promises of a sheet (§4.4): the specified answer with its number and values, and every byte of the lent buffer
+-- what judging promises of a sheet (§4.4): the specified answer with its number and values, and every
+-- byte of the lent buffer
 pub record Judges (s before after : List ℕ) (a : Answer) : Type 0 where
   pub answer : Returns valuesOf (judgement (length before) s) a
   pub marks : after ≡ judgedMarks s before
 
--- the identity claim (§9.3), of a sheet and judging's answer: for every unit, if the answer is pass and record 4 holds the
--- answers that the unit gives to the sequence, there is a renaming with that end state
+-- the identity claim (§9.3), of a sheet and judging's answer: for every unit, if the answer is pass and record 4 holds
+-- the answers that the unit gives to the sequence, there is a renaming with that end state
 abbrev pub Identity : List ℕ → Answer → Type 0
 Identity s a =
     (U : Unit (machineIn s .n) (machineIn s .k)) (size end : ℕ) → a ≡ Pass size end
-    → content 4 s ≡ ownAnswers (machineIn s .n) (machineIn s .k) U (content 3 s) → Renaming (machineIn s) U (content 3 s) end
+    → content 4 s ≡ ownAnswers (machineIn s .n) (machineIn s .k) U (content 3 s)
+    → Renaming (machineIn s) U (content 3 s) end

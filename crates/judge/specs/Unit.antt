@@ -1,6 +1,6 @@
--- The unit on the bench (§9.1) and the renaming (§9.2): what the identity claim speaks of. That a certified sequence with
--- the specified answers gives a renaming is shown in Unit.Identity, and in Unit.Behaviour what it says of the unit's
--- answers.
+-- The unit on the bench (§9.1) and the renaming (§9.2): what the identity claim speaks of. That a certified
+-- sequence with the specified answers gives a renaming is shown in Unit.Identity, and in Unit.Behaviour what it
+-- says of the unit's answers.
 use Prim.Native.Nat.{ℕ, _≤_, _<_}
 use mathlib.Core.Path.{_≡_}
 use mathlib.Core.List.{List}
@@ -9,9 +9,9 @@ use Rattle.machine.specs.Machine.{Mealy, run, answers, stateAt}
 pub mod Identity
 pub mod Behaviour
 
--- a unit for a machine of n states and k commands (§9.1), the field's implementation under test: m states, at most n; the
--- state u in which the run begins; and a next state, among the m, and an answer for each state and command. That m is at
--- least 1 follows from u; that an answer is a byte is not asked
+-- a unit for a machine of n states and k commands (§9.1), the field's implementation under test: m states, at most n;
+-- the state u in which the run begins; and a next state, among the m, and an answer for each state and command. That m
+-- is at least 1 follows from u; that an answer is a byte is not asked
 pub record Unit (n k : ℕ) : Type 0 where
   pub m : ℕ
   pub few : m ≤ n
@@ -43,8 +43,8 @@ pub record Renaming (M : Mealy) (U : Unit (M .n) (M .k)) (xs : List ℕ) (end : 
   pub one-to-one : (s t : ℕ) → s < M .n → t < M .n → given s ≡ given t → s ≡ t
   -- every state of the unit is assigned
   pub onto : (x : ℕ) → x < U .m → (s : ℕ) × (s < M .n) × (given s ≡ x)
-  -- for each entry the unit in the assigned state gives the entry's answer, and goes to the state that is assigned to the
-  -- entry's next state
+  -- for each entry the unit in the assigned state gives the entry's answer, and goes to the state that is assigned
+  -- to the entry's next state
   pub answers-alike : (s c : ℕ) → s < M .n → c < M .k → U .answer (given s) c ≡ M .answer s c
   pub goes-alike : (s c : ℕ) → s < M .n → c < M .k → U .next (given s) c ≡ given (M .next s c)
   -- u is assigned to the start

@@ -1,4 +1,5 @@
--- Causes 3 to 6, and causes 1 to 6 in order (§4.1, §4.2). The laws stand in Causes.Laws (3, 4, 5 and 7), Causes.Separation (6), Causes.Lists (the lists) and Causes.Bounds (how large a place is).
+-- Causes 3 to 6, and causes 1 to 6 in order (§4.1, §4.2). The laws stand in Causes.Laws (3, 4, 5 and 7),
+-- Causes.Separation (6), Causes.Lists (the lists) and Causes.Bounds (how large a place is).
 use Prim.Native.Nat.{ℕ, _+_, _*_}
 use mathlib.Core.Bool.{Bool, true, false, not, _&&_, _||_}
 use mathlib.Core.List.{List, [], _∷_, _++_}
@@ -26,7 +27,8 @@ unfoldable pub cause3 : Record → List ℕ → Check
 cause3 r p =
     let n = getD p 0 0 in
     let k = getD p 1 0 in
-    refusal 3 with r .start if (outside 1 mostStates n || outside 1 mostCommands k || not (eqb (length p) (2 + 2 * (n * k))))
+    refusal 3 with r .start
+    if (outside 1 mostStates n || outside 1 mostCommands k || not (eqb (length p) (2 + 2 * (n * k))))
 
 -- next state (§4.2), at its offset: the first byte for a next state that is not below n
 unfoldable pub cause4 : Record → List ℕ → Check
@@ -35,13 +37,14 @@ cause4 r p =
     let k = getD p 1 0 in
     first (n * k) (λ e. refusal 4 with offset r (pairAt e) if leb n (getD p (pairAt e) 0))
 
--- a byte that is the bound or more: the cause at byte from + stride · i of a part that starts at base in the sheet. The code looks for causes 4, 5 and 7
--- by this one; it is theirs by cause4-is and commands-cause-is, in Causes.Laws
+-- a byte that is the bound or more: the cause at byte from + stride · i of a part that starts at base in the sheet. The
+-- code looks for causes 4, 5 and 7 by this one; it is theirs by cause4-is and commands-cause-is, in Causes.Laws
 unfoldable pub byteCause : ℕ → ℕ → List ℕ → ℕ → ℕ → ℕ → ℕ → Check
-byteCause number base p from stride bound i = refusal number with base + (from + stride * i) if leb bound (getD p (from + stride * i) 0)
+byteCause number base p from stride bound i =
+    refusal number with base + (from + stride * i) if leb bound (getD p (from + stride * i) 0)
 
--- causes 5 and 7 (§4.2): at the start of the record where the length is not within its limits, else at the offset of the
--- first command that is not below k
+-- causes 5 and 7 (§4.2): at the start of the record where the length is not within its limits, else at the offset of
+-- the first command that is not below k
 unfoldable pub commandsCause : ℕ → ℕ → ℕ → Record → List ℕ → Check
 commandsCause number most k r w =
     (refusal number with r .start if outside 1 most (length w))
@@ -74,14 +77,15 @@ cause6 M w = first (M .n) (λ i. first (M .n) (pairCause M w i))
 unfoldable pub machineIn : List ℕ → Mealy
 machineIn s = machineOf (content 1 s)
 
--- the machine that the program holds for any sheet: that of at most as many bytes as the largest machine has. It is the sheet's machine
--- where cause 3 is absent: held-is, in Causes.Lists
+-- the machine that the program holds for any sheet: that of at most as many bytes as the largest machine has. It is the
+-- sheet's machine where cause 3 is absent: held-is, in Causes.Lists
 unfoldable pub held : List ℕ → Mealy
 held s = machineOf (take mostMachine (content 1 s))
 
 -- causes 1 to 4, for a service on a machine and the kinds that it needs besides
 unfoldable pub machineCauses : Needs → List ℕ → List Check
-machineCauses n s = sheetCauses (needed n) s ++ (cause3 (recordOf 1 s) (content 1 s) ∷ cause4 (recordOf 1 s) (content 1 s) ∷ [])
+machineCauses n s =
+    sheetCauses (needed n) s ++ (cause3 (recordOf 1 s) (content 1 s) ∷ cause4 (recordOf 1 s) (content 1 s) ∷ [])
 
 -- causes 5 and 6, where the word is needed
 unfoldable pub wordCauses : Bool → List ℕ → List Check

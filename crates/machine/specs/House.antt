@@ -12,7 +12,8 @@ infix 75 _▹_
 abbrev pub _▹_ : ℕ → ℕ → Entry
 n ▹ a = record { next = n; answer = a }
 
--- one row a state: preview waiting, archive waiting, preview running, archive running; one column a command: quality, profile, run, stop
+-- one row a state: preview waiting, archive waiting, preview running, archive running; one column a command:
+-- quality, profile, run, stop
 abbrev pub houseTable : List (List Entry)
 houseTable =
     (0 ▹ 31 ∷ 1 ▹ 6 ∷ 2 ▹ 6 ∷ 0 ▹ 21 ∷ [])

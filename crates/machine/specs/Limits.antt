@@ -35,7 +35,8 @@ abbrev pub limits : Limits
 limits = record { states = mostStates; commands = mostCommands; word = mostWord; sequence = mostSequence }
 
 -- the longest sheet is that of the largest machine, word, sequence and answers (§2.1)
-pub longest-is : longest ≡ (header + mostMachine) + (header + mostWord) + (header + mostSequence) + (header + mostSequence)
+pub longest-is : longest
+    ≡ (header + mostMachine) + (header + mostWord) + (header + mostSequence) + (header + mostSequence)
 longest-is = refl
 
 -- few states and commands have few entries

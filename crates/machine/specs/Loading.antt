@@ -15,7 +15,8 @@ use Rattle.machine.specs.Causes.{machineIn, held, loadCauses}
 pub record LoadedFrom (n : Needs) (s : List ℕ) (l : Loaded) : Type 0 where
   -- the first refusal, or Clear
   pub check : l .check ≡ firstCause (loadCauses n s)
-  -- where nothing is refused: each needed record is read, the machine is the sheet's and within its limits, and a needed word separates
+  -- where nothing is refused: each needed record is read, the machine is the sheet's and within its limits, and
+  -- a needed word separates
   pub reads : (k : ℕ) → List·Memᴰ k (needed n) → l .check ≡ Clear → Reads k s
   pub machine : l .check ≡ Clear → meaning (l .machine) ≡ machineIn s
   pub proper : l .check ≡ Clear → Proper (machineIn s)

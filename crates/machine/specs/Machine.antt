@@ -8,8 +8,8 @@ use Rattle.machine.specs.Limits.{mostStates, mostCommands, mostWord}
 use Rattle.machine.specs.declared.machine.Machine.{Machine}
 pub mod Laws
 
--- A Mealy machine: n states from 0, k commands (inputs) from 0, a start, and for each entry (transition), a state with a command, the
--- next state and the answer (output).
+-- A Mealy machine: n states from 0, k commands (inputs) from 0, a start, and for each entry (transition), a state with
+-- a command, the next state and the answer (output).
 pub record Mealy : Type 0 where
   pub n : ℕ
   pub k : ℕ

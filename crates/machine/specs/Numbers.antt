@@ -25,7 +25,8 @@ less-or-not a b = go (ltb a b) refl
     go false e = inr (ltb-false a b e)
 
 -- where each number below n has a value with a property, one function gives them all such a value
-pub choice : (n : ℕ) (P : ℕ → ℕ → Type 0) → ((i : ℕ) → i < n → (v : ℕ) × P i v) → (f : ℕ → ℕ) × ((i : ℕ) → i < n → P i (f i))
+pub choice : (n : ℕ) (P : ℕ → ℕ → Type 0) → ((i : ℕ) → i < n → (v : ℕ) × P i v)
+    → (f : ℕ → ℕ) × ((i : ℕ) → i < n → P i (f i))
 choice n P h = (λ i. value i (ltb i n) refl, λ i l. holds i (ltb i n) refl l)
   where
     value : (i : ℕ) (t : Bool) → ltb i n ≡ t → ℕ

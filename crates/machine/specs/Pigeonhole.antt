@@ -1,4 +1,5 @@
--- The pigeonhole principle, over the numbers of the program's contracts, and that a function that is one to one into no more numbers is onto.
+-- The pigeonhole principle, over the numbers of the program's contracts, and that a function that is one to one into
+-- no more numbers is onto.
 use Prim.Native.Nat.{ℕ, zero, suc, _≤_, _<_}
 use mathlib.Core.Path.{_≡_, refl, sym, _∙_}
 use mathlib.Core.Bool.{Bool, true, false}
@@ -46,7 +47,8 @@ instead v m x = go (eqb x m) refl
 abbrev pub Twice : (n : ℕ) (f : ℕ → ℕ) → Type 0
 Twice n f = (i : ℕ) × (j : ℕ) × (i < j) × (j ≤ n) × (f i ≡ f j)
 
-module _ (n : ℕ) (f : ℕ → ℕ) (low : (i : ℕ) → i ≤ suc n → f i < suc n) (apart : (i : ℕ) → i < suc n → f i ≡ f (suc n) → ⊥) where
+module _ (n : ℕ) (f : ℕ → ℕ) (low : (i : ℕ) → i ≤ suc n → f i < suc n)
+    (apart : (i : ℕ) → i < suc n → f i ≡ f (suc n) → ⊥) where
   -- where the last value stands only at the end, the values with it in place of n are below n
   fewer : (i : ℕ) → i ≤ n → {y : ℕ} → Instead (f (suc n)) n (f i) y → y < n
   fewer i l {y} (changed e q) = less (low (suc n) (omega arith)) (λ s. apart i (omega arith) (e ∙ sym s))
@@ -56,7 +58,8 @@ module _ (n : ℕ) (f : ℕ → ℕ) (low : (i : ℕ) → i ≤ suc n → f i < 
   fewer i l (kept o q) = omega (arith, low i (omega arith))
 
   -- and places with one such value have one value
-  alike : (i j : ℕ) → i ≤ n → j ≤ n → {x y : ℕ} → Instead (f (suc n)) n (f i) x → Instead (f (suc n)) n (f j) y → x ≡ y → f i ≡ f j
+  alike : (i j : ℕ) → i ≤ n → j ≤ n → {x y : ℕ} → Instead (f (suc n)) n (f i) x → Instead (f (suc n)) n (f j) y → x ≡ y
+      → f i ≡ f j
   alike i j il jl (changed e q) (changed e′ q′) s = omega arith
   alike i j il jl (changed e q) (kept o q′) s = absurd (apart j (omega arith) (omega arith))
   alike i j il jl (kept o q) (changed e q′) s = absurd (apart i (omega arith) (omega arith))
@@ -65,16 +68,28 @@ module _ (n : ℕ) (f : ℕ → ℕ) (low : (i : ℕ) → i ≤ suc n → f i < 
 -- of n + 1 places with values below n, two have the same value
 pub pigeonhole : (n : ℕ) (f : ℕ → ℕ) → ((i : ℕ) → i ≤ n → f i < n) → Twice n f
 pigeonhole zero f low = let z : ⊥ = omega (arith, low 0 (omega arith)) in absurd z
-pigeonhole (suc n) f low = go (seek f (f (suc n)) (suc n)) (λ h. pigeonhole n (λ i. choose (eqb (f i) n) (f (suc n)) (f i)) (λ i l. fewer n f low h i l (instead (f (suc n)) n (f i))))
+pigeonhole (suc n) f low =
+    go (seek f (f (suc n)) (suc n))
+    (λ h. pigeonhole n (λ i. choose (eqb (f i) n) (f (suc n)) (f i))
+    (λ i l. fewer n f low h i l (instead (f (suc n)) n (f i))))
   where
-    go : Sought f (f (suc n)) (suc n) → (((i : ℕ) → i < suc n → f i ≡ f (suc n) → ⊥) → Twice n (λ i. choose (eqb (f i) n) (f (suc n)) (f i))) → Twice (suc n) f
+    go : Sought f (f (suc n)) (suc n)
+        → (((i : ℕ) → i < suc n → f i ≡ f (suc n) → ⊥) → Twice n (λ i. choose (eqb (f i) n) (f (suc n)) (f i)))
+        → Twice (suc n) f
     go (at i l e) rest = (i, suc n, l, omega arith, e)
     go (nowhere h) rest =
         let r = rest h in
-        let jl : r .1 ≤ suc n = omega (arith, r .3) in
-        (r .0, r .1, r .2, jl, alike n f low h (r .0) (r .1) (omega (arith, r .2, r .3)) (r .3) (instead (f (suc n)) n (f (r .0))) (instead (f (suc n)) n (f (r .1))) (r .4))
+        let jl : r .1 ≤ suc n = omega (arith, r .3) in (
+          r .0,
+          r .1,
+          r .2,
+          jl,
+          alike n f low h (r .0) (r .1) (omega (arith, r .2, r .3)) (r .3) (instead (f (suc n)) n (f (r .0)))
+              (instead (f (suc n)) n (f (r .1))) (r .4),
+        )
 
-module _ (n m : ℕ) (f : ℕ → ℕ) (few : m ≤ n) (low : (i : ℕ) → i < n → f i < m) (one : (i j : ℕ) → i < n → j < n → f i ≡ f j → i ≡ j) where
+module _ (n m : ℕ) (f : ℕ → ℕ) (few : m ≤ n) (low : (i : ℕ) → i < n → f i < m)
+    (one : (i j : ℕ) → i < n → j < n → f i ≡ f j → i ≡ j) where
   -- f, with one value more at n
   data Longer (v i y : ℕ) : Type 0 where
     last : i ≡ n → y ≡ v → Longer v i y
@@ -108,4 +123,5 @@ module _ (n m : ℕ) (f : ℕ → ℕ) (few : m ≤ n) (low : (i : ℕ) → i < 
       go (at s sl e) = (s, sl, e)
       go (nowhere h) =
           let t = pigeonhole n (λ i. choose (eqb i n) v (f i)) (λ i il. longer-low v i _ l (longer v i il)) in
-          absurd (apart v (t .0) (t .1) _ _ h (t .2) (longer v (t .0) (omega (arith, t .2, t .3))) (longer v (t .1) (t .3)) (t .4))
+          absurd (apart v (t .0) (t .1) _ _ h (t .2) (longer v (t .0) (omega (arith, t .2, t .3)))
+          (longer v (t .1) (t .3)) (t .4))

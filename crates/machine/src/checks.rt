@@ -74,7 +74,8 @@ pub fn next_states(r: Record, p: &[u8]) -> Check
 // Causes 5 and 7: the commands of a record of a sheet, for a machine of k commands. The answer
 // counts where checks 1 and 2 are clear.
 pub fn commands(sheet: &[u8], kind: u16, number: u8, most: usize, k: u8) -> Check
-    ensures { λ c. ⌜ c ≡ commandsCause number most k (recordOf kind (now (sheet .entry))) (content kind (now (sheet .entry))) ⌝ }
+    ensures { λ c. ⌜
+        c ≡ commandsCause number most k (recordOf kind (now (sheet .entry))) (content kind (now (sheet .entry))) ⌝ }
 {
     let r = record_of(sheet, kind);
     let w = read(sheet, kind);

@@ -41,7 +41,8 @@ fn pair_place(i: u8, j: u8) -> usize
 // The least j above i whose answers equal those of i.
 fn partner(next: &[u8], answer: &[u8], n: u8, k: u8, w: &[u8], i: u8) -> Check
     requires { ⌜ i < n ⌝ }
-    ensures { λ c. ⌜ c ≡ first n (pairCause (tabled 0 k 0 (now (next .entry)) (now (answer .entry))) (now (w .entry)) i) ⌝ }
+    ensures { λ c. ⌜
+        c ≡ first n (pairCause (tabled 0 k 0 (now (next .entry)) (now (answer .entry))) (now (w .entry)) i) ⌝ }
 {
     let mut j = i + 1;
     while j < n {

@@ -35,7 +35,8 @@ passLine size end = labelled "PASS " size ++ labelled " end " end ++ newline
 
 -- `WRONG at 6 want 5 got 6`: the place, then what was specified and what was given
 unfoldable pub wrongLine : ℕ → ℕ → ℕ → List ℕ
-wrongLine place specified given = labelled "WRONG at " place ++ labelled " want " specified ++ labelled " got " given ++ newline
+wrongLine place specified given =
+    labelled "WRONG at " place ++ labelled " want " specified ++ labelled " got " given ++ newline
 
 -- `UNFINISHED 4`: how many answers there are
 unfoldable pub unfinishedLine : ℕ → List ℕ

@@ -6,7 +6,8 @@ use lib.ListN.{length}
 use Rattle.sheet.specs.Writing.{written}
 use Rattle.io.specs.Counts.{Counts}
 
--- bytes, a line or a sheet, at the start of a buffer, every later byte as it was, with their number, which is within the buffer
+-- bytes, a line or a sheet, at the start of a buffer, every later byte as it was, with their number,
+-- which is within the buffer
 pub record Prints (xs before after : List ℕ) (size : ℕ) : Type 0 where
   pub sized : size ≡ length xs
   pub counts : Counts size after

@@ -1,4 +1,5 @@
--- What each service of the bench writes to which stream (§8.2), of the bytes of its sheet. The laws stand in Services.Laws.
+-- What each service of the bench writes to which stream (§8.2), of the bytes of its sheet. The laws
+-- stand in Services.Laws.
 use Prim.Native.Nat.{ℕ, _+_}
 use mathlib.Core.List.{List}
 use Rattle.sheet.specs.Check.{firstCause}

@@ -1,5 +1,6 @@
--- The sheets that `bench build` and `bench house` write (§8.2). How the one with a built sequence is parsed is shown in sheet's Writing.Reading; Sheets.Certified has that it carries the sequence and is certified,
--- Sheets.House what the house unit's sheet carries.
+-- The sheets that `bench build` and `bench house` write (§8.2). How the one with a built sequence is parsed is shown in
+-- sheet's Writing.Reading; Sheets.Certified has that it carries the sequence and is certified, Sheets.House what the
+-- house unit's sheet carries.
 use Prim.Native.Nat.{ℕ}
 use mathlib.Core.List.{List, _++_}
 use lib.ListN.{take}

@@ -26,7 +26,7 @@ unfoldable pub decimalWithin : ℕ → ℕ → List ℕ
 decimalWithin zero n = []
 decimalWithin (suc most) n = lastDigit (ltb n 10) n (decimalWithin most)
 
--- a number in decimal: the digits of n / 10, where there are any, then the last one. The bound n + 1 is nothing to believe: `decimal-digit` and
--- `decimal-more` are the equations without it.
+-- a number in decimal: the digits of n / 10, where there are any, then the last one. The bound n + 1 is nothing to
+-- believe: `decimal-digit` and `decimal-more` are the equations without it.
 unfoldable pub decimal : ℕ → List ℕ
 decimal n = decimalWithin (n + 1) n

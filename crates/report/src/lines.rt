@@ -1,6 +1,7 @@
 // The output lines. A line stands at the start of the buffer, and its length is answered; later
 // bytes stay as they were.
-ghost use Rattle.report.specs.Lines.{passLine, wrongLine, unfinishedLine, judgeLine, certifiedLine, openLine, certifyLine, refusalLine};
+ghost use Rattle.report.specs.Lines.{passLine, wrongLine, unfinishedLine, judgeLine, certifiedLine, openLine};
+ghost use Rattle.report.specs.Lines.{certifyLine, refusalLine};
 ghost use Rattle.report.specs.Printing.{Prints};
 ghost use Rattle.report.specs.Output.{onError, Writes};
 use crate::output::OUTPUT;

@@ -30,7 +30,8 @@ fn compose(sheet: &[u8], xs: &[u8], out: &mut [u8; OUTPUT]) -> usize
     requires { ⌜ end (recordOf 2 (now sheet)) ≤ length (now sheet) ⌝ }
     requires { ⌜ length (now sheet) ≤ longest ⌝ }
     requires { ⌜ length (now xs) ≤ mostSequence ⌝ }
-    ensures { λ r. ⌜ Prints (withSequence (now (sheet .entry)) (now (xs .entry))) (now (out .entry)) (now (out .exit)) r ⌝ }
+    ensures { λ r. ⌜
+        Prints (withSequence (now (sheet .entry)) (now (xs .entry))) (now (out .entry)) (now (out .exit)) r ⌝ }
 {
     let word = record_of(sheet, WORD_KIND);
     let behind = word.start + HEADER + word.size;

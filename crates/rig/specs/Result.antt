@@ -39,9 +39,11 @@ pub record RigJudges (s before after : List ℕ) (r : ℕ) : Type 0 where
   pub number : r ≡ packed (judgingValues (judgement (length before) s))
   pub marks : after ≡ judgedMarks s before
 
--- the identity claim (§9.3) as the host has it, of a sheet and the number that `rig_judge` returns: for every unit, if the
--- class is 100 and record 4 holds the answers that the unit gives to the sequence, there is a renaming with end state b
+-- the identity claim (§9.3) as the host has it, of a sheet and the number that `rig_judge` returns: for every
+-- unit, if the class is 100 and record 4 holds the answers that the unit gives to the sequence, there is a
+-- renaming with end state b
 abbrev pub RigIdentity : List ℕ → ℕ → Type 0
 RigIdentity s r =
     (U : Unit (machineIn s .n) (machineIn s .k)) → classIn r ≡ 100
-    → content 4 s ≡ ownAnswers (machineIn s .n) (machineIn s .k) U (content 3 s) → Renaming (machineIn s) U (content 3 s) (bIn r)
+    → content 4 s ≡ ownAnswers (machineIn s .n) (machineIn s .k) U (content 3 s)
+    → Renaming (machineIn s) U (content 3 s) (bIn r)

@@ -1,5 +1,6 @@
 -- Checks, the order in which their causes count (§4.1), and what a refusal leaves (§4.3).
--- A check is Clear, or Refused with the refusal's number and its place. The laws stand in Check.Laws, bounds on places in Check.Bounds.
+-- A check is Clear, or Refused with the refusal's number and its place. The laws stand in Check.Laws, bounds on
+-- places in Check.Bounds.
 use Prim.Native.Nat.{ℕ, zero, suc}
 use mathlib.Core.Bool.{Bool, true, false}
 use mathlib.Core.List.{List, [], _∷_}

@@ -89,8 +89,8 @@ parseStep false c r w = ended Clear
 parseStep true (Refused n p) r w = ended (Refused n p)
 parseStep true Clear r w = r before w
 
--- the parsing from a place on, last being the rank of the record before. The first number bounds the steps, for the recursion; parse-end
--- and parse-on, in Format.Laws, are the equations of parse without it
+-- the parsing from a place on, last being the rank of the record before. The first number bounds the steps, for the
+-- recursion; parse-end and parse-on, in Format.Laws, are the equations of parse without it
 unfoldable pub parseFrom : ℕ → List ℕ → ℕ → ℕ → Parsed
 parseFrom zero s at last = ended Clear
 parseFrom (suc f) s at last =

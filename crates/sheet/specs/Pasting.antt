@@ -1,5 +1,5 @@
--- Bytes copied into a buffer at a place, two parts one behind the other. `paste d at xs n` is d with the first n bytes of xs from `at` on. The
--- crates that write into a lent buffer cite this.
+-- Bytes copied into a buffer at a place, two parts one behind the other. `paste d at xs n` is d with the first n bytes
+-- of xs from `at` on. The crates that write into a lent buffer cite this.
 use Prim.Native.Nat.{ℕ, _+_, _≤_}
 use mathlib.Core.Path.{_≡_, sym, ap, ap₂, _∙_}
 use mathlib.Core.List.{List, _++_, append-assoc}
@@ -20,7 +20,8 @@ paste-both d at xs ys l =
     ∙ drop-drop y (at + x) d
     ∙ ap (λ (n : ℕ). drop n d) (add-assoc at x y ∙ ap (λ (n : ℕ). at + n) (sym (length-append xs ys))) in
     let front : take (at + x) (paste d at xs x) ++ take y ys ≡ take at d ++ take (length (xs ++ ys)) (xs ++ ys) =
-    ap₂ _++_ (take-paste d at xs x (omega arith) (omega arith) ∙ ap (λ (l : List ℕ). take at d ++ l) (take-length xs)) (take-length ys)
+    ap₂ _++_ (take-paste d at xs x (omega arith) (omega arith) ∙ ap (λ (l : List ℕ). take at d ++ l) (take-length xs))
+    (take-length ys)
     ∙ append-assoc (take at d) xs ys
     ∙ ap (λ (l : List ℕ). take at d ++ l) (sym (take-length (xs ++ ys))) in
     ap₂ _++_ front back

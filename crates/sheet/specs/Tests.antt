@@ -1,4 +1,5 @@
--- Facts about tests, that is, values of type Bool, that the proofs of several crates cite. The kit's `borrow.Author.Tests` has those of tests that compare numbers.
+-- Facts about tests, that is, values of type Bool, that the proofs of several crates cite. The kit's
+-- `borrow.Author.Tests` has those of tests that compare numbers.
 use mathlib.Core.Path.{_≡_, refl, ap}
 use mathlib.Core.Bool.{Bool, true, false, cond, _&&_, _||_}
 use mathlib.Core.Logic.{_⊎_, inl, inr}

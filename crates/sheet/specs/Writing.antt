@@ -1,4 +1,5 @@
--- A record's header and a record as they are written (§2.1), and bytes put into a lent buffer, anywhere or at its start. The laws stand in Writing.Laws; Writing.Reading has what a sheet reads as to which a record 3 was added.
+-- A record's header and a record as they are written (§2.1), and bytes put into a lent buffer, anywhere or at its
+-- start. The laws stand in Writing.Laws; Writing.Reading has what a sheet reads as to which a record 3 was added.
 use Prim.Native.Nat.{ℕ, _+_, _/_, _%_}
 use mathlib.Core.Bool.{cond}
 use mathlib.Core.List.{List, [], _∷_, _++_}
@@ -10,13 +11,21 @@ pub mod Reading
 
 -- a header (§2.1): the payload's length in 4 bytes and the kind in 2, lowest byte first
 unfoldable pub headerOf : ℕ → ℕ → List ℕ
-headerOf kind size = (size % 256) ∷ (size / 256 % 256) ∷ (size / 65536 % 256) ∷ (size / 16777216 % 256) ∷ (kind % 256) ∷ (kind / 256 % 256) ∷ []
+headerOf kind size =
+    (size % 256)
+    ∷ (size / 256 % 256)
+    ∷ (size / 65536 % 256)
+    ∷ (size / 16777216 % 256)
+    ∷ (kind % 256)
+    ∷ (kind / 256 % 256)
+    ∷ []
 
 -- a record as a sheet has it (§2.1): its header, and behind it the payload
 abbrev pub recordBytes : ℕ → List ℕ → List ℕ
 recordBytes kind payload = headerOf kind (length payload) ++ payload
 
--- a buffer after bytes were put at a place: where all of them fit they stand there and all else is as it was; else nothing is changed
+-- a buffer after bytes were put at a place: where all of them fit they stand there and all else is as it was;
+-- else nothing is changed
 unfoldable pub putAt : List ℕ → ℕ → List ℕ → List ℕ
 putAt before at xs = cond (leb (at + length xs) (length before)) (paste before at xs (length xs)) before
 
@@ -24,6 +33,7 @@ putAt before at xs = cond (leb (at + length xs) (length before)) (paste before a
 unfoldable pub putEnd : List ℕ → ℕ → List ℕ → ℕ
 putEnd before at xs = cond (leb (at + length xs) (length before)) (at + length xs) at
 
--- a buffer after bytes were written to its start: they are its first bytes, and the bytes behind keep their values (§4.3)
+-- a buffer after bytes were written to its start: they are its first bytes, and the bytes behind
+-- keep their values (§4.3)
 abbrev pub written : List ℕ → List ℕ → List ℕ
 written xs buffer = xs ++ drop (length xs) buffer

@@ -1,6 +1,6 @@
 -- The cases with a star (§10.3): one collection, in their order, of the bytes of their sheets and the definitions of
--- building, certifying, judging and the bench's line. That all of them hold is shown once, as a whole, in Starred.Proofs.
--- Where a room is lent, the case holds for every room that is large enough.
+-- building, certifying, judging and the bench's line. That all of them hold is shown once, as a whole, in
+-- Starred.Proofs. Where a room is lent, the case holds for every room that is large enough.
 use Prim.Native.Nat.{ℕ, _≤_}
 use mathlib.Core.Path.{_≡_}
 use mathlib.Core.List.{List, [], _∷_, _++_}
@@ -63,7 +63,8 @@ JudgedAs room s a line = (judgement room s ≡ a) × (judgeLine (judgement room 
 pub record Starred : Type 0 where
   -- the twin as built, and certified
   pub built : (room : ℕ) → 12 ≤ room → building room (unitSheet twinTable (0 ∷ [])) ≡ Built 12
-  pub built-bytes : (buffer : List ℕ) → 12 ≤ length buffer → bufferAfter (unitSheet twinTable (0 ∷ [])) buffer ≡ builtTwin ++ drop 12 buffer
+  pub built-bytes : (buffer : List ℕ) → 12 ≤ length buffer
+      → bufferAfter (unitSheet twinTable (0 ∷ [])) buffer ≡ builtTwin ++ drop 12 buffer
   pub built-certified : (room : ℕ) → 13 ≤ room → certification room (twinWith builtTwin) ≡ Certified 13
   -- two places that would recognise each other (§5.2), and one command more
   pub each-other : (room : ℕ) → 7 ≤ room → certification room (twinWith (0 ∷ 0 ∷ 1 ∷ 0 ∷ 1 ∷ 0 ∷ [])) ≡ Open 5 2
@@ -73,25 +74,37 @@ pub record Starred : Type 0 where
   pub late : (room : ℕ) → 4 ≤ room → certification room (twinWith (1 ∷ 0 ∷ 0 ∷ [])) ≡ Open 2 0
   pub three : (room : ℕ) → 4 ≤ room → certification room (twinWith (0 ∷ 0 ∷ 0 ∷ [])) ≡ Open 4 2
   -- the built sequence with the right answers
-  pub passes : (room : ℕ) → 13 ≤ room → JudgedAs room (twinAnswered (0 ∷ 1 ∷ 0 ∷ 1 ∷ 0 ∷ 1 ∷ 5 ∷ 0 ∷ 1 ∷ 0 ∷ 5 ∷ 1 ∷ [])) (Pass 12 0) (bytes "PASS 12 end 0\n")
+  pub passes : (room : ℕ) → 13 ≤ room
+      → JudgedAs room (twinAnswered (0 ∷ 1 ∷ 0 ∷ 1 ∷ 0 ∷ 1 ∷ 5 ∷ 0 ∷ 1 ∷ 0 ∷ 5 ∷ 1 ∷ [])) (Pass 12 0)
+      (bytes "PASS 12 end 0\n")
   -- the same with another answer at place 6, and with the first four answers
-  pub wrong-at : (room : ℕ) → 13 ≤ room → JudgedAs room (twinAnswered (0 ∷ 1 ∷ 0 ∷ 1 ∷ 0 ∷ 1 ∷ 6 ∷ 0 ∷ 1 ∷ 0 ∷ 5 ∷ 1 ∷ [])) (Wrong 6 5 6) (bytes "WRONG at 6 want 5 got 6\n")
-  pub unfinished-run : (room : ℕ) → 13 ≤ room → JudgedAs room (twinAnswered (0 ∷ 1 ∷ 0 ∷ 1 ∷ [])) (Unfinished 4) (bytes "UNFINISHED 4\n")
+  pub wrong-at : (room : ℕ) → 13 ≤ room
+      → JudgedAs room (twinAnswered (0 ∷ 1 ∷ 0 ∷ 1 ∷ 0 ∷ 1 ∷ 6 ∷ 0 ∷ 1 ∷ 0 ∷ 5 ∷ 1 ∷ [])) (Wrong 6 5 6)
+      (bytes "WRONG at 6 want 5 got 6\n")
+  pub unfinished-run : (room : ℕ) → 13 ≤ room
+      → JudgedAs room (twinAnswered (0 ∷ 1 ∷ 0 ∷ 1 ∷ [])) (Unfinished 4) (bytes "UNFINISHED 4\n")
   -- thirteen answers, whatever they are
   pub too-many : (room : ℕ) → 13 ≤ room → (a b c d e f g h i j k l m : ℕ)
       → judgement room (twinAnswered (a ∷ b ∷ c ∷ d ∷ e ∷ f ∷ g ∷ h ∷ i ∷ j ∷ k ∷ l ∷ m ∷ [])) ≡ NotJudged 10 41
   -- a word that does not separate
   pub no-separation-built : (room : ℕ) → building room (unitSheet twinTable (1 ∷ [])) ≡ NotBuilt 6 1
-  pub no-separation-certified : (room : ℕ) → certification room (sequenceSheet twinTable (1 ∷ []) builtTwin) ≡ NotCertified 6 1
-  pub no-separation-judged : (room : ℕ) → judgement room (answersSheet twinTable (1 ∷ []) builtTwin (0 ∷ [])) ≡ NotJudged 6 1
+  pub no-separation-certified : (room : ℕ)
+      → certification room (sequenceSheet twinTable (1 ∷ []) builtTwin) ≡ NotCertified 6 1
+  pub no-separation-judged : (room : ℕ)
+      → judgement room (answersSheet twinTable (1 ∷ []) builtTwin (0 ∷ [])) ≡ NotJudged 6 1
   -- a next state that is none; the word's command and the answer may be any
   pub no-state-built : (room command : ℕ) → building room (unitSheet noStateTable (command ∷ [])) ≡ NotBuilt 4 8
-  pub no-state-certified : (room command : ℕ) → certification room (sequenceSheet noStateTable (command ∷ []) builtTwin) ≡ NotCertified 4 8
-  pub no-state-judged : (room command answer : ℕ) → judgement room (answersSheet noStateTable (command ∷ []) builtTwin (answer ∷ [])) ≡ NotJudged 4 8
+  pub no-state-certified : (room command : ℕ)
+      → certification room (sequenceSheet noStateTable (command ∷ []) builtTwin) ≡ NotCertified 4 8
+  pub no-state-judged : (room command answer : ℕ)
+      → judgement room (answersSheet noStateTable (command ∷ []) builtTwin (answer ∷ [])) ≡ NotJudged 4 8
   -- a table that is not connected
   pub not-connected : (room : ℕ) → building room (unitSheet disconnectedTable (0 ∷ [])) ≡ NotBuilt 8 1
   -- one state and one command
   pub single-built : (answer room : ℕ) → 4 ≤ room → building room (unitSheet (singleTable answer) (0 ∷ [])) ≡ Built 4
-  pub single-bytes : (answer : ℕ) (buffer : List ℕ) → 4 ≤ length buffer → bufferAfter (unitSheet (singleTable answer) (0 ∷ [])) buffer ≡ (0 ∷ 0 ∷ 0 ∷ 0 ∷ []) ++ drop 4 buffer
-  pub single-pair : (answer room : ℕ) → 3 ≤ room → certification room (sequenceSheet (singleTable answer) (0 ∷ []) (0 ∷ 0 ∷ [])) ≡ Certified 3
-  pub single-short : (answer room : ℕ) → 2 ≤ room → certification room (sequenceSheet (singleTable answer) (0 ∷ []) (0 ∷ [])) ≡ Open 1 1
+  pub single-bytes : (answer : ℕ) (buffer : List ℕ) → 4 ≤ length buffer
+      → bufferAfter (unitSheet (singleTable answer) (0 ∷ [])) buffer ≡ (0 ∷ 0 ∷ 0 ∷ 0 ∷ []) ++ drop 4 buffer
+  pub single-pair : (answer room : ℕ) → 3 ≤ room
+      → certification room (sequenceSheet (singleTable answer) (0 ∷ []) (0 ∷ 0 ∷ [])) ≡ Certified 3
+  pub single-short : (answer room : ℕ) → 2 ≤ room
+      → certification room (sequenceSheet (singleTable answer) (0 ∷ []) (0 ∷ [])) ≡ Open 1 1

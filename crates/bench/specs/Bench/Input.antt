@@ -1,5 +1,5 @@
--- What the program hands over is enough: of the words their number and the first bytes of the first two, of the input the first
--- 40,913 bytes, since a longer one is too long whatever stands behind them.
+-- What the program hands over is enough: of the words their number and the first bytes of the first two, of the input
+-- the first 40,913 bytes, since a longer one is too long whatever stands behind them.
 use Prim.Native.Nat.{ℕ, _+_, _<_}
 use mathlib.Core.Path.{_≡_, refl, sym, ap, _∙_}
 use mathlib.Core.Bool.{Bool, true, false}
@@ -53,7 +53,8 @@ module _ (s : List ℕ) (l : longest < length s) where
   read-long k = refusal-is k s ∙ stays _ (present 1 longest (lt-ltb longest (length s) l))
 
   load-long : (n : Needs) → firstCause (loadCauses n s) ≡ Refused 1 longest
-  load-long n = load-causes-are n s ∙ stays _ (machine-causes-are n s ∙ stays _ (checks-are n s ∙ stays _ (read-long 1)))
+  load-long n =
+      load-causes-are n s ∙ stays _ (machine-causes-are n s ∙ stays _ (checks-are n s ∙ stays _ (read-long 1)))
 
   sequence-long : (answers : Bool) (room : ℕ) → firstCause (sequenceCauses answers room s) ≡ Refused 1 longest
   sequence-long answers room = sequence-causes-are answers room s ∙ stays _ (load-long (sequenceNeeds answers))
@@ -66,8 +67,10 @@ module _ (s : List ℕ) (l : longest < length s) where
       (judgement-refused (mostSequence + 1) s
       (judge-causes-are (mostSequence + 1) s ∙ stays _ (sequence-long true (mostSequence + 1))))
   output-long Certify =
-      ap (λ a. onOutput (certifyLine a)) (certification-refused (mostSequence + 1) s (sequence-long false (mostSequence + 1)))
-  output-long Build = built-refused s (building-refused mostSequence s (refused-early mostSequence s (load-long buildNeeds)))
+      ap (λ a. onOutput (certifyLine a))
+      (certification-refused (mostSequence + 1) s (sequence-long false (mostSequence + 1)))
+  output-long Build =
+      built-refused s (building-refused mostSequence s (refused-early mostSequence s (load-long buildNeeds)))
   output-long (Read kind) = read-refused s kind (read-long kind)
 
 -- the first bytes of an input, one more than a sheet may have
@@ -80,7 +83,8 @@ sheet-cut service s = go (ltb longest (length s)) refl
     go : (t : Bool) → ltb longest (length s) ≡ t → sheetOutput service (cutInput s) ≡ sheetOutput service s
     go true e =
         let l = ltb-true longest (length s) e in
-        output-long (cutInput s) (omega (arith, length-take-le (longest + 1) s (omega arith))) service ∙ sym (output-long s l service)
+        output-long (cutInput s) (omega (arith, length-take-le (longest + 1) s (omega arith))) service
+        ∙ sym (output-long s l service)
     go false e = ap (sheetOutput service) (take-all (longest + 1) s (omega (arith, ltb-false longest (length s) e)))
 
 service-cut : (service : Service) (s : List ℕ) → output service (cutInput s) ≡ output service s
@@ -89,7 +93,8 @@ service-cut (OnSheet service) s = sheet-cut service s
 service-cut House s = refl
 service-cut Help s = refl
 
--- of any words and any input: how many words there are, the first bytes of the first two and the first bytes of the input are enough
+-- of any words and any input: how many words there are, the first bytes of the first two and the first bytes
+-- of the input are enough
 pub handed-over : (ws : List (List ℕ)) (s : List ℕ)
     → bench (wordsOf (length ws) (cut (getD ws 0 [])) (cut (getD ws 1 []))) (cutInput s) ≡ bench ws s
 unfolding bench

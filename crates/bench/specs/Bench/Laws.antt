@@ -1,5 +1,6 @@
--- What the bench's output says of its words and its input: an input that is not read plays no part; wrong words give a line on
--- standard error and nothing else; and where the words ask for judging, the identity claim as the reader of standard output has it.
+-- What the bench's output says of its words and its input: an input that is not read plays no part; wrong words give a
+-- line on standard error and nothing else; and where the words ask for judging, the identity claim as the reader of
+-- standard output has it.
 use Prim.Native.Nat.{ℕ, _+_}
 use mathlib.Core.Path.{_≡_, refl, ap, subst, _∙_}
 use mathlib.Core.Bool.{false}
@@ -32,7 +33,8 @@ module _ (words : List (List ℕ)) (s : List ℕ) where
   unfolding bench
   unread e t = unread-service (serviceOf words) s t e
 
-  pub wrong-words : {mistake : Mistake} → serviceOf words ≡ Wrong mistake → bench words s ≡ onError (mistakeLine mistake)
+  pub wrong-words : {mistake : Mistake} → serviceOf words ≡ Wrong mistake
+      → bench words s ≡ onError (mistakeLine mistake)
   unfolding bench
   wrong-words {mistake} e = ap (λ (service : Service). output service s) e ∙ mistake-told mistake
 
@@ -40,10 +42,10 @@ module _ (words : List (List ℕ)) (s : List ℕ) where
   unfolding bench
   judge-words e = ap (λ (service : Service). output service s) e ∙ judged-line s
 
-  -- whatever the unit, if standard output begins as a pass does and the answers judged are the unit's own, it is the line of a pass
-  -- with some end state, and there is a renaming, which gives the unit's present state to that end state
-  pub judge-identity : serviceOf words ≡ OnSheet Judge → (U : Unit (machineIn s .n) (machineIn s .k)) → Passing (bench words s .out)
-      → content 4 s ≡ ownAnswers (machineIn s .n) (machineIn s .k) U (content 3 s)
+  -- whatever the unit, if standard output begins as a pass does and the answers judged are the unit's own, it is the
+  -- line of a pass with some end state, and there is a renaming, which gives the unit's present state to that end state
+  pub judge-identity : serviceOf words ≡ OnSheet Judge → (U : Unit (machineIn s .n) (machineIn s .k))
+      → Passing (bench words s .out) → content 4 s ≡ ownAnswers (machineIn s .n) (machineIn s .k) U (content 3 s)
       → (size : ℕ) × (end : ℕ) × (bench words s .out ≡ passLine size end) × Renaming (machineIn s) U (content 3 s) end
   judge-identity e U passing own =
       let line = ap (λ (o : Output). o .out) (judge-words e) in

@@ -13,14 +13,16 @@ use Rattle.report.specs.Words.{helpText}
 use Rattle.bench.specs.declared.words.Lookup.{Lookup}
 use Rattle.bench.specs.declared.words.Service.{Service}
 use Rattle.bench.specs.declared.words.Service.the-variants.{Wrong}
-use Rattle.bench.specs.Words.{mostBytes, unlessUnfit, kindIn, kindOf, Row, services, named, counted, serviceOf, behindFirst, wordsOf}
+use Rattle.bench.specs.Words.{mostBytes, unlessUnfit, kindIn, kindOf, Row, services, named, counted, serviceOf}
+use Rattle.bench.specs.Words.{behindFirst, wordsOf}
 
 -- ---- the number of words, and the first two of them
 pub words-are : (ws : List (List ℕ)) → serviceOf (wordsOf (length ws) (getD ws 0 []) (getD ws 1 [])) ≡ serviceOf ws
 unfolding serviceOf wordsOf behindFirst
 words-are [] = refl
 words-are (w ∷ []) = refl
-words-are (w ∷ v ∷ ws) = ap (λ (n : ℕ). unlessUnfit w (counted (suc n) (named services w v))) (length-replicate {A = List ℕ} (length ws) [])
+words-are (w ∷ v ∷ ws) =
+    ap (λ (n : ℕ). unlessUnfit w (counted (suc n) (named services w v))) (length-replicate {A = List ℕ} (length ws) [])
 
 -- ---- the first bytes of a word, one more than a word may have
 abbrev pub cut : List ℕ → List ℕ
@@ -39,8 +41,11 @@ cut-word w f = go (ltb mostBytes (length w)) refl
     go : (t : Bool) → ltb mostBytes (length w) ≡ t → unlessUnfit (cut w) (f (cut w)) ≡ unlessUnfit w (f w)
     go true e =
         let l = ltb-true mostBytes (length w) e in
-        too-long (cut w) (f (cut w)) (omega (arith, length-take-le (mostBytes + 1) w (omega arith))) ∙ sym (too-long w (f w) l)
-    go false e = ap (λ (u : List ℕ). unlessUnfit u (f u)) (take-all (mostBytes + 1) w (omega (arith, ltb-false mostBytes (length w) e)))
+        too-long (cut w) (f (cut w)) (omega (arith, length-take-le (mostBytes + 1) w (omega arith)))
+        ∙ sym (too-long w (f w) l)
+    go false e =
+        ap (λ (u : List ℕ). unlessUnfit u (f u))
+        (take-all (mostBytes + 1) w (omega (arith, ltb-false mostBytes (length w) e)))
 
 cut-kind : (w : List ℕ) → kindOf (cut w) ≡ kindOf w
 unfolding kindOf
@@ -50,7 +55,8 @@ cut-named : (w v : List ℕ) → named services w (cut v) ≡ named services w v
 unfolding named services
 cut-named w v = rw (cut-kind v)
 
-pub words-cut : (n : ℕ) (first second : List ℕ) → serviceOf (wordsOf n (cut first) (cut second)) ≡ serviceOf (wordsOf n first second)
+pub words-cut : (n : ℕ) (first second : List ℕ)
+    → serviceOf (wordsOf n (cut first) (cut second)) ≡ serviceOf (wordsOf n first second)
 unfolding serviceOf wordsOf behindFirst
 words-cut zero first second = refl
 words-cut (suc zero) first second = cut-word first (λ w. counted 0 (named services w []))

@@ -1,5 +1,5 @@
--- The laws of cause 8: it is clear exactly where the table is strongly connected, and then every T(s) is there. The laws of the service stand
--- in Building.Service.
+-- The laws of cause 8: it is clear exactly where the table is strongly connected, and then every T(s) is there. The
+-- laws of the service stand in Building.Service.
 use Prim.Native.Nat.{ℕ, _<_}
 use mathlib.Core.Path.{_≡_, refl, sym, ap, _∙_}
 use mathlib.Core.Bool.{true, false}
@@ -10,7 +10,8 @@ use lib.ListN.{length, length-append}
 use Rattle.sheet.specs.declared.check.Check.{Check}
 use Rattle.sheet.specs.declared.check.Check.the-variants.{Clear, Refused}
 use Rattle.sheet.specs.Check.{refusal_with_if_, first}
-use Rattle.sheet.specs.Check.Laws.{absent, present, clear-absent, first-clear, first-clear-at, first-found, first-present, present-test}
+use Rattle.sheet.specs.Check.Laws.{absent, present, clear-absent, first-clear, first-clear-at, first-found}
+use Rattle.sheet.specs.Check.Laws.{first-present, present-test}
 use Rattle.machine.specs.Limits.{mostWord}
 use Rattle.machine.specs.Machine.{Mealy, run, Proper, Commands}
 use Rattle.machine.specs.Machine.Laws.{run-append, run-stays, low-append}
@@ -53,7 +54,8 @@ module _ (M : Mealy) (w : List ℕ) (proper : Proper M) (commands : Commands mos
   -- ---- where cause 8 is clear
   module _ (clear : cause8 M w ≡ Clear) where
     pub clear-transfer : (s : ℕ) → s < M .n → (t : List ℕ) × (B M w s ≡ some t)
-    clear-transfer s sl = there (B M w s) (clear-absent 8 s _ (first-clear-at (M .n) s (transferCause M w) (cause8-is M w ∙ clear) sl))
+    clear-transfer s sl =
+        there (B M w s) (clear-absent 8 s _ (first-clear-at (M .n) s (transferCause M w) (cause8-is M w ∙ clear) sl))
 
     is-shortest : (s : ℕ) (sl : s < M .n) → IsTransfer M (run M s w) (following (M .n) s) (clear-transfer s sl .0)
     is-shortest s sl = transfer-is M proper (run M s w) (following (M .n) s) (word-stays s sl) (clear-transfer s sl .1)
@@ -69,15 +71,27 @@ module _ (M : Mealy) (w : List ℕ) (proper : Proper M) (commands : Commands mos
       leads = λ s sl.
           ap (run M s) (T-splits s sl) ∙ run-append M s w (clear-transfer s sl .0) ∙ is-shortest s sl .leads .ends;
       begins = λ s sl. (clear-transfer s sl .0, T-splits s sl);
-      low = λ s sl. rw (T-splits s sl) (low-append (M .k) w (clear-transfer s sl .0) (commands .low) (is-shortest s sl .leads .commands));
+      low = λ s sl.
+          rw (T-splits s sl)
+          (low-append (M .k) w (clear-transfer s sl .0) (commands .low) (is-shortest s sl .leads .commands));
       short = λ s sl.
-          omega (arith, ap length (T-splits s sl), length-append w (clear-transfer s sl .0), transfer-below M (run M s w) (following (M .n) s) (clear-transfer s sl .1));
+          omega (
+            arith,
+            ap length (T-splits s sl),
+            length-append w (clear-transfer s sl .0),
+            transfer-below M (run M s w) (following (M .n) s) (clear-transfer s sl .1),
+          );
     }
 
     -- from a to b by way of the states between them, counted round
     pub clear-connected : StronglyConnected M
-    clear-connected a b al bl =
-        (approach M w (M .n) a b, record { commands = approach-low M w clear-blocks (M .n) a b al bl; ends = approach-reaches M w clear-blocks a b al bl })
+    clear-connected a b al bl = (
+      approach M w (M .n) a b,
+      record {
+        commands = approach-low M w clear-blocks (M .n) a b al bl;
+        ends = approach-reaches M w clear-blocks a b al bl;
+      },
+    )
 
   -- ---- where the table is strongly connected
   pub connected-clear : StronglyConnected M → cause8 M w ≡ Clear
@@ -86,7 +100,8 @@ module _ (M : Mealy) (w : List ℕ) (proper : Proper M) (commands : Commands mos
       ∙ first-clear (M .n) (transferCause M w)
       (λ s sl.
       let p = h (run M s w) (following (M .n) s) (word-stays s sl) (following-below (M .n) s sl) in
-      absent 8 s (ap noTransfer (leads-some M proper (run M s w) (following (M .n) s) (word-stays s sl) (p .0) (p .1) .1)))
+      absent 8 s
+      (ap noTransfer (leads-some M proper (run M s w) (following (M .n) s) (word-stays s sl) (p .0) (p .1) .1)))
 
   -- ---- the place of the refusal
   pub refused-unconnected : {a s : ℕ} → cause8 M w ≡ Refused a s → (a ≡ 8) × NotConnected M w s
@@ -95,10 +110,13 @@ module _ (M : Mealy) (w : List ℕ) (proper : Proper M) (commands : Commands mos
       let t = present-test 8 (p .place) (noTransfer (B M w (p .place))) (p .here) in
       let found : NotConnected M w (p .place) = record {
         state = p .inside;
-        none-leads-on = none-leads M proper (run M (p .place) w) (following (M .n) (p .place)) (word-stays (p .place) (p .inside)) (not-there _ (t .0));
+        none-leads-on =
+            none-leads M proper (run M (p .place) w) (following (M .n) (p .place)) (word-stays (p .place) (p .inside))
+            (not-there _ (t .0));
         least = λ q l.
             let ql : q < M .n = omega (arith, p .inside) in
-            let o = there (B M w q) (clear-absent 8 q _ (first-clear-at (p .place) q (transferCause M w) (p .before) l)) in
+            let o =
+            there (B M w q) (clear-absent 8 q _ (first-clear-at (p .place) q (transferCause M w) (p .before) l)) in
             (o .0, transfer-is M proper (run M q w) (following (M .n) q) (word-stays q ql) (o .1) .leads);
       } in
       (t .1 .0, rw (t .1 .1) found)
@@ -111,5 +129,6 @@ module _ (M : Mealy) (w : List ℕ) (proper : Proper M) (commands : Commands mos
       (λ t l.
       let u = h .least t l in
       let tl : t < M .n = omega (arith, h .state) in
-      absent 8 t (ap noTransfer (leads-some M proper (run M t w) (following (M .n) t) (word-stays t tl) (u .0) (u .1) .1))))
+      absent 8 t
+      (ap noTransfer (leads-some M proper (run M t w) (following (M .n) t) (word-stays t tl) (u .0) (u .1) .1))))
       (present 8 s (ap noTransfer (leads-none M (run M s w) (following (M .n) s) (h .none-leads-on))))

@@ -1,6 +1,6 @@
--- The starred cases of building (§10.3), computed from the definitions, of the bytes of their sheets and for
--- every room that is large enough; the collection of all starred cases takes them from here. What certifying answers to the built sequences comes
--- from certify's Certification.Twin.
+-- The starred cases of building (§10.3), computed from the definitions, of the bytes of their sheets and for every room
+-- that is large enough; the collection of all starred cases takes them from here. What certifying answers to the built
+-- sequences comes from certify's Certification.Twin.
 use Prim.Native.Nat.{ℕ, _≤_}
 use mathlib.Core.Path.{_≡_, refl, ap, ap₂, _∙_}
 use mathlib.Core.List.{List, [], _∷_, _++_}
@@ -11,19 +11,22 @@ use lib.ListN.{length, drop}
 use Rattle.sheet.specs.declared.check.Check.the-variants.{Clear}
 use Rattle.sheet.specs.Check.{refusal_with_if_, _else_, firstCause, first}
 use Rattle.sheet.specs.Check.Laws.{absent, else-end}
-use Rattle.sheet.specs.Format.{recordAt, offset, end, kindOf, cause1, cause2, causeAt, parseStep, parseFrom, parse, parsed, ofKind, _or_, find}
+use Rattle.sheet.specs.Format.{recordAt, offset, end, kindOf, cause1, cause2, causeAt, parseStep, parseFrom, parse}
+use Rattle.sheet.specs.Format.{parsed, ofKind, _or_, find}
 use Rattle.sheet.specs.Reader.{sheetCauses, when, needed, refusalOf, recordOf, part, bytes, content}
 use Rattle.sheet.specs.Writing.{written}
 use Rattle.machine.specs.House.{housePayload, house, houseWord}
 use Rattle.machine.specs.Machine.{machineOf, run, answers}
-use Rattle.machine.specs.Causes.{cause3, cause4, commandsCause, cause6, machineIn, machineCauses, wordCauses, loadCauses}
+use Rattle.machine.specs.Causes.{cause3, cause4, commandsCause, cause6, machineIn, machineCauses, wordCauses}
+use Rattle.machine.specs.Causes.{loadCauses}
 use Rattle.certify.specs.Marks.Twin.{twin, single}
 use Rattle.certify.specs.declared.answer.Answer.the-variants.{Certified}
 use Rattle.certify.specs.Certification.{cause9, outcome}
 use Rattle.certify.specs.Certification.Twin.{twin-built, single-built}
 use Rattle.build.specs.declared.service.Answer.the-variants.{Built, Refused}
 use Rattle.build.specs.Transfer.{guard, firstOf, firstPath, transfer}
-use Rattle.build.specs.Sequence.{following, T, nthState, firstBlocks, opening, approach, test, stateTests, tests, sequence, lengthBound}
+use Rattle.build.specs.Sequence.{following, T, nthState, firstBlocks, opening, approach, test, stateTests, tests}
+use Rattle.build.specs.Sequence.{sequence, lengthBound}
 use Rattle.build.specs.Building.{cause8, buildCauses, building, bufferAfter}
 use Rattle.build.specs.Building.Service.{building-clear, buffer-clear}
 
@@ -42,7 +45,8 @@ singleSheet answer = 4 ∷ 0 ∷ 0 ∷ 0 ∷ 1 ∷ 0 ∷ 1 ∷ 1 ∷ 0 ∷ answe
 
 -- ---- the twin's sequence
 pub twin-sequence : sequence twin (0 ∷ []) ≡ 0 ∷ 0 ∷ 0 ∷ 0 ∷ 0 ∷ 0 ∷ 1 ∷ 0 ∷ 0 ∷ 0 ∷ 1 ∷ 0 ∷ []
-unfolding sequence tests stateTests test approach opening firstBlocks nthState T following transfer firstPath firstOf orElse guard run twin machineOf
+unfolding sequence tests stateTests test approach opening firstBlocks nthState T following transfer firstPath firstOf
+    orElse guard run twin machineOf
 twin-sequence = refl
 
 -- it is certified, with 13 recognised places
@@ -51,14 +55,17 @@ twin-certified = ap (outcome twin (0 ∷ [])) twin-sequence ∙ twin-built
 
 -- the machine of the sheet is the twin, of which the two facts above speak
 pub twin-machine : machineIn twinSheet ≡ twin
-unfolding twin twinSheet machineOf machineIn content bytes part refusalOf sheetCauses firstCause _else_ refusal_with_if_ parsed parse parseFrom recordAt end kindOf cause1 cause2 causeAt parseStep find ofKind _or_ offset
+unfolding twin twinSheet machineOf machineIn content bytes part refusalOf sheetCauses firstCause _else_ refusal_with_if_
+    parsed parse parseFrom recordAt end kindOf cause1 cause2 causeAt parseStep find ofKind _or_ offset
 twin-machine = refl
 
 twin-word : content 2 twinSheet ≡ 0 ∷ []
-unfolding twinSheet machineOf machineIn content bytes part refusalOf sheetCauses firstCause _else_ refusal_with_if_ parsed parse parseFrom recordAt end kindOf cause1 cause2 causeAt parseStep find ofKind _or_ offset
+unfolding twinSheet machineOf machineIn content bytes part refusalOf sheetCauses firstCause _else_ refusal_with_if_
+    parsed parse parseFrom recordAt end kindOf cause1 cause2 causeAt parseStep find ofKind _or_ offset
 twin-word = refl
 
-twin-built-sequence : sequence (machineIn twinSheet) (content 2 twinSheet) ≡ 0 ∷ 0 ∷ 0 ∷ 0 ∷ 0 ∷ 0 ∷ 1 ∷ 0 ∷ 0 ∷ 0 ∷ 1 ∷ 0 ∷ []
+twin-built-sequence : sequence (machineIn twinSheet) (content 2 twinSheet)
+    ≡ 0 ∷ 0 ∷ 0 ∷ 0 ∷ 0 ∷ 0 ∷ 1 ∷ 0 ∷ 0 ∷ 0 ∷ 1 ∷ 0 ∷ []
 twin-built-sequence = ap₂ sequence twin-machine twin-word ∙ twin-sequence
 
 -- the cause 9 that is left where nothing else is present is absent in a room that is large enough
@@ -66,50 +73,73 @@ pub nine-clear : (room size : ℕ) → size ≤ room → ((refusal 9 with size i
 nine-clear room size l = else-end _ ∙ absent 9 size (le-ltb room size l)
 
 twin-clear : (room : ℕ) → 12 ≤ room → firstCause (buildCauses room twinSheet) ≡ Clear
-unfolding twinSheet refusal_with_if_ _else_ firstCause first recordAt offset end kindOf cause1 cause2 causeAt parseStep parseFrom parse parsed ofKind _or_ find sheetCauses when needed refusalOf recordOf part bytes content machineOf run answers cause3 cause4 commandsCause cause6 machineIn machineCauses wordCauses loadCauses cause9 guard orElse firstOf firstPath transfer following T nthState firstBlocks opening approach test stateTests tests sequence cause8 buildCauses
+unfolding twinSheet refusal_with_if_ _else_ firstCause first recordAt offset end kindOf cause1 cause2 causeAt parseStep
+    parseFrom parse parsed ofKind _or_ find sheetCauses when needed refusalOf recordOf part bytes content machineOf run
+    answers cause3 cause4 commandsCause cause6 machineIn machineCauses wordCauses loadCauses cause9 guard orElse firstOf
+    firstPath transfer following T nthState firstBlocks opening approach test stateTests tests sequence cause8
+    buildCauses
 twin-clear room l = nine-clear room 12 l
 
 pub twin-building : (room : ℕ) → 12 ≤ room → building room twinSheet ≡ Built 12
-twin-building room l = building-clear room twinSheet (twin-clear room l) ∙ ap (λ (xs : List ℕ). Built (length xs)) twin-built-sequence
+twin-building room l =
+    building-clear room twinSheet (twin-clear room l) ∙ ap (λ (xs : List ℕ). Built (length xs)) twin-built-sequence
 
-pub twin-buffer : (buffer : List ℕ) → 12 ≤ length buffer → bufferAfter twinSheet buffer ≡ (0 ∷ 0 ∷ 0 ∷ 0 ∷ 0 ∷ 0 ∷ 1 ∷ 0 ∷ 0 ∷ 0 ∷ 1 ∷ 0 ∷ []) ++ drop 12 buffer
-twin-buffer buffer l = buffer-clear twinSheet buffer (twin-clear (length buffer) l) ∙ ap (λ (xs : List ℕ). written xs buffer) twin-built-sequence
+pub twin-buffer : (buffer : List ℕ) → 12 ≤ length buffer
+    → bufferAfter twinSheet buffer ≡ (0 ∷ 0 ∷ 0 ∷ 0 ∷ 0 ∷ 0 ∷ 1 ∷ 0 ∷ 0 ∷ 0 ∷ 1 ∷ 0 ∷ []) ++ drop 12 buffer
+twin-buffer buffer l =
+    buffer-clear twinSheet buffer (twin-clear (length buffer) l)
+    ∙ ap (λ (xs : List ℕ). written xs buffer) twin-built-sequence
 
 -- ---- where entry (1, 0) goes to 1, cause 8 is present at 1, whatever the room
 pub disconnected-building : (room : ℕ) → building room disconnectedSheet ≡ Refused 8 1
-unfolding building disconnectedSheet refusal_with_if_ _else_ firstCause first recordAt offset end kindOf cause1 cause2 causeAt parseStep parseFrom parse parsed ofKind _or_ find sheetCauses when needed refusalOf recordOf part bytes content machineOf run answers cause3 cause4 commandsCause cause6 machineIn machineCauses wordCauses loadCauses cause9 guard orElse firstOf firstPath transfer following T nthState firstBlocks opening approach test stateTests tests sequence cause8 buildCauses
+unfolding building disconnectedSheet refusal_with_if_ _else_ firstCause first recordAt offset end kindOf cause1 cause2
+    causeAt parseStep parseFrom parse parsed ofKind _or_ find sheetCauses when needed refusalOf recordOf part bytes
+    content machineOf run answers cause3 cause4 commandsCause cause6 machineIn machineCauses wordCauses loadCauses
+    cause9 guard orElse firstOf firstPath transfer following T nthState firstBlocks opening approach test stateTests
+    tests sequence cause8 buildCauses
 disconnected-building room = refl
 
 -- ---- the sequence of one state and one command
 pub single-sequence : (answer : ℕ) → sequence (single answer) (0 ∷ []) ≡ 0 ∷ 0 ∷ 0 ∷ 0 ∷ []
-unfolding sequence tests stateTests test approach opening firstBlocks nthState T following transfer firstPath firstOf orElse guard run single machineOf
+unfolding sequence tests stateTests test approach opening firstBlocks nthState T following transfer firstPath firstOf
+    orElse guard run single machineOf
 single-sequence answer = refl
 
 pub single-certified : (answer : ℕ) → outcome (single answer) (0 ∷ []) (sequence (single answer) (0 ∷ [])) ≡ Certified 5
 single-certified answer = ap (outcome (single answer) (0 ∷ [])) (single-sequence answer) ∙ single-built answer
 
 single-machine : (answer : ℕ) → machineIn (singleSheet answer) ≡ single answer
-unfolding single singleSheet machineOf machineIn content bytes part refusalOf sheetCauses firstCause _else_ refusal_with_if_ parsed parse parseFrom recordAt end kindOf cause1 cause2 causeAt parseStep find ofKind _or_ offset
+unfolding single singleSheet machineOf machineIn content bytes part refusalOf sheetCauses firstCause _else_
+    refusal_with_if_ parsed parse parseFrom recordAt end kindOf cause1 cause2 causeAt parseStep find ofKind _or_ offset
 single-machine answer = refl
 
 single-word : (answer : ℕ) → content 2 (singleSheet answer) ≡ 0 ∷ []
-unfolding singleSheet machineOf machineIn content bytes part refusalOf sheetCauses firstCause _else_ refusal_with_if_ parsed parse parseFrom recordAt end kindOf cause1 cause2 causeAt parseStep find ofKind _or_ offset
+unfolding singleSheet machineOf machineIn content bytes part refusalOf sheetCauses firstCause _else_ refusal_with_if_
+    parsed parse parseFrom recordAt end kindOf cause1 cause2 causeAt parseStep find ofKind _or_ offset
 single-word answer = refl
 
-single-built-sequence : (answer : ℕ) → sequence (machineIn (singleSheet answer)) (content 2 (singleSheet answer)) ≡ 0 ∷ 0 ∷ 0 ∷ 0 ∷ []
+single-built-sequence : (answer : ℕ)
+    → sequence (machineIn (singleSheet answer)) (content 2 (singleSheet answer)) ≡ 0 ∷ 0 ∷ 0 ∷ 0 ∷ []
 single-built-sequence answer = ap₂ sequence (single-machine answer) (single-word answer) ∙ single-sequence answer
 
 single-clear : (answer room : ℕ) → 4 ≤ room → firstCause (buildCauses room (singleSheet answer)) ≡ Clear
-unfolding singleSheet refusal_with_if_ _else_ firstCause first recordAt offset end kindOf cause1 cause2 causeAt parseStep parseFrom parse parsed ofKind _or_ find sheetCauses when needed refusalOf recordOf part bytes content machineOf run answers cause3 cause4 commandsCause cause6 machineIn machineCauses wordCauses loadCauses cause9 guard orElse firstOf firstPath transfer following T nthState firstBlocks opening approach test stateTests tests sequence cause8 buildCauses
+unfolding singleSheet refusal_with_if_ _else_ firstCause first recordAt offset end kindOf cause1 cause2 causeAt
+    parseStep parseFrom parse parsed ofKind _or_ find sheetCauses when needed refusalOf recordOf part bytes content
+    machineOf run answers cause3 cause4 commandsCause cause6 machineIn machineCauses wordCauses loadCauses cause9 guard
+    orElse firstOf firstPath transfer following T nthState firstBlocks opening approach test stateTests tests sequence
+    cause8 buildCauses
 single-clear answer room l = nine-clear room 4 l
 
 pub single-building : (answer room : ℕ) → 4 ≤ room → building room (singleSheet answer) ≡ Built 4
 single-building answer room l =
-    building-clear room (singleSheet answer) (single-clear answer room l) ∙ ap (λ (xs : List ℕ). Built (length xs)) (single-built-sequence answer)
+    building-clear room (singleSheet answer) (single-clear answer room l)
+    ∙ ap (λ (xs : List ℕ). Built (length xs)) (single-built-sequence answer)
 
-pub single-buffer : (answer : ℕ) (buffer : List ℕ) → 4 ≤ length buffer → bufferAfter (singleSheet answer) buffer ≡ (0 ∷ 0 ∷ 0 ∷ 0 ∷ []) ++ drop 4 buffer
+pub single-buffer : (answer : ℕ) (buffer : List ℕ) → 4 ≤ length buffer
+    → bufferAfter (singleSheet answer) buffer ≡ (0 ∷ 0 ∷ 0 ∷ 0 ∷ []) ++ drop 4 buffer
 single-buffer answer buffer l =
-    buffer-clear (singleSheet answer) buffer (single-clear answer (length buffer) l) ∙ ap (λ (xs : List ℕ). written xs buffer) (single-built-sequence answer)
+    buffer-clear (singleSheet answer) buffer (single-clear answer (length buffer) l)
+    ∙ ap (λ (xs : List ℕ). written xs buffer) (single-built-sequence answer)
 
 -- the length formula is met there: no smaller one holds
 pub single-longest : (answer : ℕ) → length (sequence (single answer) (0 ∷ [])) ≡ lengthBound (single answer) (0 ∷ [])
@@ -118,7 +148,8 @@ single-longest answer = ap length (single-sequence answer)
 
 -- ---- the length of the house unit's sequence, and what the formula allows it (§10.1)
 pub house-length : length (sequence house houseWord) ≡ 203
-unfolding sequence tests stateTests test approach opening firstBlocks nthState T following transfer firstPath firstOf orElse guard run house machineOf housePayload
+unfolding sequence tests stateTests test approach opening firstBlocks nthState T following transfer firstPath firstOf
+    orElse guard run house machineOf housePayload
 house-length = refl
 
 pub house-bound : lengthBound house houseWord ≡ 361

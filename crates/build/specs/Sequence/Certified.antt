@@ -1,6 +1,6 @@
--- The prescribed sequence is certified. Each T(s) stands in the opening between two recognised places, so the end of every T(s) is
--- recognised by rule 2, its start by rule 1: each tested command lies between the end of one and the start of another. M is the machine, w the
--- word; a split of the sequence says where a block stands.
+-- The prescribed sequence is certified. Each T(s) stands in the opening between two recognised places, so the end of
+-- every T(s) is recognised by rule 2, its start by rule 1: each tested command lies between the end of one and the
+-- start of another. M is the machine, w the word; a split of the sequence says where a block stands.
 use Prim.Native.Nat.{ℕ, zero, suc, _+_, _-_, _≤_, _<_}
 use mathlib.Core.Path.{_≡_, refl, sym, ap, ap₂, _∙_}
 use mathlib.Core.Bool.{Bool, true, false}
@@ -17,9 +17,13 @@ use Rattle.machine.specs.Machine.{Mealy, run, stateAt}
 use Rattle.machine.specs.Machine.Laws.{run-none, run-append, run-cons, state-split}
 use Rattle.certify.specs.Recognition.{OccursAt, Recognised, Verified, Certified}
 use Rattle.certify.specs.Recognition.Laws.{by-rule1, by-rule2}
-use Rattle.build.specs.Sequence.{following, T, nthState, firstBlocks, opening, approach, test, stateTests, tests, sequence}
-use Rattle.build.specs.Sequence.Cycle.{following-below, gap, gap-below, nthState-next, nthState-at, nthState-below, nthState-start}
-use Rattle.build.specs.Sequence.Laws.{Blocks, first-blocks-none, first-blocks-more, test-is, approach-none, approach-here, approach-on, approach-reaches, first-blocks-lead, opening-is, state-tests-none, state-tests-more, tests-none, tests-more, sequence-is}
+use Rattle.build.specs.Sequence.{following, T, nthState, firstBlocks, opening, approach, test, stateTests, tests}
+use Rattle.build.specs.Sequence.{sequence}
+use Rattle.build.specs.Sequence.Cycle.{following-below, gap, gap-below, nthState-next, nthState-at}
+use Rattle.build.specs.Sequence.Cycle.{nthState-below, nthState-start}
+use Rattle.build.specs.Sequence.Laws.{Blocks, first-blocks-none, first-blocks-more, test-is, approach-none}
+use Rattle.build.specs.Sequence.Laws.{approach-here, approach-on, approach-reaches, first-blocks-lead, opening-is}
+use Rattle.build.specs.Sequence.Laws.{state-tests-none, state-tests-more, tests-none, tests-more, sequence-is}
 
 module _ (M : Mealy) (w : List ℕ) (h : Blocks M w) where
   -- ---- what is found in a beginning of the sequence, and stays in it when more follows
@@ -68,13 +72,20 @@ module _ (M : Mealy) (w : List ℕ) (h : Blocks M w) where
   }
 
   -- ---- the opening
-  split-blocks : (i j : ℕ) → (after : List ℕ) × (firstBlocks M w (suc (suc i) + j) ≡ firstBlocks M w i ++ (T M w (nthState M i) ++ (T M w (nthState M (suc i)) ++ after)))
-  split-blocks i zero = ([], rw (add-zero, first-blocks-more M w (suc i), first-blocks-more M w i, append-nil, append-assoc))
+  split-blocks : (i j : ℕ) → (after : List ℕ)
+      × (firstBlocks M w (suc (suc i) + j)
+      ≡ firstBlocks M w i ++ (T M w (nthState M i) ++ (T M w (nthState M (suc i)) ++ after)))
+  split-blocks i zero =
+      ([], rw (add-zero, first-blocks-more M w (suc i), first-blocks-more M w i, append-nil, append-assoc))
   split-blocks i (suc j) =
-      let o = split-blocks i j in
-      (o .0 ++ T M w (nthState M (suc (suc i) + j)), rw (add-suc, first-blocks-more M w (suc (suc i) + j), o .1, append-assoc, append-assoc, append-assoc))
+      let o = split-blocks i j in (
+        o .0 ++ T M w (nthState M (suc (suc i) + j)),
+        rw (add-suc, first-blocks-more M w (suc (suc i) + j), o .1, append-assoc, append-assoc, append-assoc),
+      )
 
-  opening-split : (i : ℕ) → i < M .n → (after : List ℕ) × (opening M w ≡ firstBlocks M w i ++ (T M w (nthState M i) ++ (T M w (nthState M (suc i)) ++ after)))
+  opening-split : (i : ℕ) → i < M .n
+      → (after : List ℕ)
+      × (opening M w ≡ firstBlocks M w i ++ (T M w (nthState M i) ++ (T M w (nthState M (suc i)) ++ after)))
   opening-split i l =
       let o = split-blocks i (M .n - suc i) in
       let e : suc (M .n) ≡ suc (suc i) + (M .n - suc i) = omega arith in
@@ -88,15 +99,22 @@ module _ (M : Mealy) (w : List ℕ) (h : Blocks M w) where
       record {
         before = firstBlocks M w i;
         after = o .0;
-        split = o .1 ∙ ap₂ (λ (x y : ℕ). firstBlocks M w i ++ (T M w x ++ (T M w y ++ o .0))) at (nthState-next M (h .proper) i ∙ ap (following (M .n)) at);
+        split =
+            o .1
+            ∙ ap₂ (λ (x y : ℕ). firstBlocks M w i ++ (T M w x ++ (T M w y ++ o .0))) at
+            (nthState-next M (h .proper) i ∙ ap (following (M .n)) at);
         state = first-blocks-lead M w h i ∙ at;
       }
 
   opening-begins : (after : List ℕ) × (opening M w ≡ T M w (M .start) ++ after)
   opening-begins =
       let o = opening-split 0 (h .proper .some-states) in
-      let after = T M w (nthState M 1) ++ o .0 in
-      (after, o .1 ∙ ap₂ (λ (xs : List ℕ) (s : ℕ). xs ++ (T M w s ++ after)) (first-blocks-none M w) (nthState-start M (h .proper)))
+      let after = T M w (nthState M 1) ++ o .0 in (
+        after,
+        o .1
+            ∙ ap₂ (λ (xs : List ℕ) (s : ℕ). xs ++ (T M w s ++ after)) (first-blocks-none M w)
+            (nthState-start M (h .proper)),
+      )
 
   opening-ended : Ended (opening M w)
   opening-ended = record {
@@ -128,13 +146,15 @@ module _ (M : Mealy) (w : List ℕ) (h : Blocks M w) where
   ended-here xs o e = rw (e, append-nil) o
 
   ended-by : (i : ℕ) (xs : List ℕ) (p s : ℕ) → Ended xs → (b : Bool) → eqb p s ≡ b
-      → ((p ≡ s → ⊥) → Ended (xs ++ T M w p ++ approach M w i (run M p (T M w p)) s)) → Ended (xs ++ approach M w (suc i) p s)
+      → ((p ≡ s → ⊥) → Ended (xs ++ T M w p ++ approach M w i (run M p (T M w p)) s))
+      → Ended (xs ++ approach M w (suc i) p s)
   ended-by i xs p s o true e on = ended-here xs o (rw (eqb-true p s e) (approach-here M w (suc i) s))
   ended-by i xs p s o false e on =
       let ne = eqb-false p s e in
       rw (approach-on M w i p s ne, ← append-assoc) (on ne)
 
-  ended-approach : (i : ℕ) (xs : List ℕ) (p s : ℕ) → Ended xs → run M (M .start) xs ≡ p → Ended (xs ++ approach M w i p s)
+  ended-approach : (i : ℕ) (xs : List ℕ) (p s : ℕ) → Ended xs → run M (M .start) xs ≡ p
+      → Ended (xs ++ approach M w i p s)
   ended-approach zero xs p s o e = ended-here xs o (approach-none M w p s)
   ended-approach (suc i) xs p s o e =
       ended-by i xs p s o (eqb p s) refl
@@ -159,7 +179,9 @@ module _ (M : Mealy) (w : List ℕ) (h : Blocks M w) where
 
     tested-is : xs ++ test M w p s c ≡ at-state ++ (c ∷ T M w (M .next s c))
     unfolding at-state
-    tested-is = ap (λ (l : List ℕ). xs ++ l) (test-is M w p s c) ∙ sym (append-assoc xs (approach M w (M .n) p s) (c ∷ T M w (M .next s c)))
+    tested-is =
+        ap (λ (l : List ℕ). xs ++ l) (test-is M w p s c)
+        ∙ sym (append-assoc xs (approach M w (M .n) p s) (c ∷ T M w (M .next s c)))
 
     test-tested : Tested (xs ++ test M w p s c) s c
     test-tested = record {
@@ -167,7 +189,10 @@ module _ (M : Mealy) (w : List ℕ) (h : Blocks M w) where
       last = at-ended .last;
       after = [];
       low = at-ended .low;
-      split = tested-is ∙ ap (λ (l : List ℕ). l ++ (c ∷ T M w (M .next s c))) (at-ended .split) ∙ (rw (append-nil, append-assoc));
+      split =
+          tested-is
+          ∙ ap (λ (l : List ℕ). l ++ (c ∷ T M w (M .next s c))) (at-ended .split)
+          ∙ (rw (append-nil, append-assoc));
       state = at-ended .state;
       reached = sym (ended-leads at-state at-ended) ∙ at-leads;
     }
@@ -178,7 +203,11 @@ module _ (M : Mealy) (w : List ℕ) (h : Blocks M w) where
       last = M .next s c;
       low = h .proper .stays s c sl cl;
       split = tested-is ∙ sym (append-assoc at-state (c ∷ []) (T M w (M .next s c)));
-      state = run-append M (M .start) at-state (c ∷ []) ∙ ap (λ (x : ℕ). run M x (c ∷ [])) at-leads ∙ run-cons M s c [] ∙ run-none M (M .next s c);
+      state =
+          run-append M (M .start) at-state (c ∷ [])
+          ∙ ap (λ (x : ℕ). run M x (c ∷ [])) at-leads
+          ∙ run-cons M s c []
+          ∙ run-none M (M .next s c);
     }
 
   -- the tests of a state's first entries
@@ -186,23 +215,32 @@ module _ (M : Mealy) (w : List ℕ) (h : Blocks M w) where
     ended : Ended xs
     tested : (c : ℕ) → c < k → Tested xs s c
 
-  state-more : (xs ys : List ℕ) (s k : ℕ) → StateTested xs s k → Ended (xs ++ ys) → Tested (xs ++ ys) s k → StateTested (xs ++ ys) s (suc k)
+  state-more : (xs ys : List ℕ) (s k : ℕ) → StateTested xs s k → Ended (xs ++ ys) → Tested (xs ++ ys) s k
+      → StateTested (xs ++ ys) s (suc k)
   state-more xs ys s k o e t = record {
     ended = e;
-    tested = λ c l. below-more (Tested (xs ++ ys) s) k (λ d q. longer-tested xs ys s d (o .tested d q)) t c (rw add-one l);
+    tested = λ c l.
+        below-more (Tested (xs ++ ys) s) k (λ d q. longer-tested xs ys s d (o .tested d q)) t c (rw add-one l);
   }
 
-  state-step : (xs ys : List ℕ) (p s k : ℕ) → run M (M .start) xs ≡ p → s < M .n → k < M .k → StateTested (xs ++ ys) s k → StateTested (xs ++ (ys ++ test M w (run M p ys) s k)) s (suc k)
+  state-step : (xs ys : List ℕ) (p s k : ℕ) → run M (M .start) xs ≡ p → s < M .n → k < M .k → StateTested (xs ++ ys) s k
+      → StateTested (xs ++ (ys ++ test M w (run M p ys) s k)) s (suc k)
   state-step xs ys p s k e sl kl so =
       let at = run-append M (M .start) xs ys ∙ ap (λ (x : ℕ). run M x ys) e in
       rw (← append-assoc)
-      (state-more (xs ++ ys) (test M w (run M p ys) s k) s k so (test-ended (xs ++ ys) (run M p ys) s k (so .ended) at sl kl)
+      (state-more (xs ++ ys) (test M w (run M p ys) s k) s k so
+      (test-ended (xs ++ ys) (run M p ys) s k (so .ended) at sl kl)
       (test-tested (xs ++ ys) (run M p ys) s k (so .ended) at sl kl))
 
-  state-tested : (xs : List ℕ) (p s k : ℕ) → Ended xs → run M (M .start) xs ≡ p → s < M .n → k ≤ M .k → StateTested (xs ++ stateTests M w p s k) s k
-  state-tested xs p s zero o e sl kl = record { ended = ended-here xs o (state-tests-none M w p s); tested = λ c l. absurd (not-suc-le-zero l) }
+  state-tested : (xs : List ℕ) (p s k : ℕ) → Ended xs → run M (M .start) xs ≡ p → s < M .n → k ≤ M .k
+      → StateTested (xs ++ stateTests M w p s k) s k
+  state-tested xs p s zero o e sl kl = record {
+    ended = ended-here xs o (state-tests-none M w p s);
+    tested = λ c l. absurd (not-suc-le-zero l);
+  }
   state-tested xs p s (suc k) o e sl kl =
-      rw (state-tests-more M w p s k) (state-step xs (stateTests M w p s k) p s k e sl kl (state-tested xs p s k o e sl (le-of-suc-le kl)))
+      rw (state-tests-more M w p s k)
+      (state-step xs (stateTests M w p s k) p s k e sl kl (state-tested xs p s k o e sl (le-of-suc-le kl)))
 
   -- the tests of the first states
   record AllTested (xs : List ℕ) (n : ℕ) : Type 0 where
@@ -212,18 +250,27 @@ module _ (M : Mealy) (w : List ℕ) (h : Blocks M w) where
   all-more : (xs ys : List ℕ) (n : ℕ) → AllTested xs n → StateTested (xs ++ ys) n (M .k) → AllTested (xs ++ ys) (suc n)
   all-more xs ys n o t = record {
     ended = t .ended;
-    tested = λ s c l cl. below-more (λ r. (d : ℕ) → d < M .k → Tested (xs ++ ys) r d) n (λ r q d dl. longer-tested xs ys r d (o .tested r d q dl)) (t .tested) s (rw add-one l) c cl;
+    tested = λ s c l cl.
+        below-more (λ r. (d : ℕ) → d < M .k → Tested (xs ++ ys) r d) n
+        (λ r q d dl. longer-tested xs ys r d (o .tested r d q dl)) (t .tested) s (rw add-one l) c cl;
   }
 
-  all-step : (xs ys : List ℕ) (p n : ℕ) → run M (M .start) xs ≡ p → n < M .n → AllTested (xs ++ ys) n → AllTested (xs ++ (ys ++ stateTests M w (run M p ys) n (M .k))) (suc n)
+  all-step : (xs ys : List ℕ) (p n : ℕ) → run M (M .start) xs ≡ p → n < M .n → AllTested (xs ++ ys) n
+      → AllTested (xs ++ (ys ++ stateTests M w (run M p ys) n (M .k))) (suc n)
   all-step xs ys p n e nl so =
       let at = run-append M (M .start) xs ys ∙ ap (λ (x : ℕ). run M x ys) e in
       rw (← append-assoc)
-      (all-more (xs ++ ys) (stateTests M w (run M p ys) n (M .k)) n so (state-tested (xs ++ ys) (run M p ys) n (M .k) (so .ended) at nl (le-refl (M .k))))
+      (all-more (xs ++ ys) (stateTests M w (run M p ys) n (M .k)) n so
+      (state-tested (xs ++ ys) (run M p ys) n (M .k) (so .ended) at nl (le-refl (M .k))))
 
-  all-tested : (xs : List ℕ) (p n : ℕ) → Ended xs → run M (M .start) xs ≡ p → n ≤ M .n → AllTested (xs ++ tests M w p n) n
-  all-tested xs p zero o e nl = record { ended = ended-here xs o (tests-none M w p); tested = λ s c l cl. absurd (not-suc-le-zero l) }
-  all-tested xs p (suc n) o e nl = rw (tests-more M w p n) (all-step xs (tests M w p n) p n e nl (all-tested xs p n o e (le-of-suc-le nl)))
+  all-tested : (xs : List ℕ) (p n : ℕ) → Ended xs → run M (M .start) xs ≡ p → n ≤ M .n
+      → AllTested (xs ++ tests M w p n) n
+  all-tested xs p zero o e nl = record {
+    ended = ended-here xs o (tests-none M w p);
+    tested = λ s c l cl. absurd (not-suc-le-zero l);
+  }
+  all-tested xs p (suc n) o e nl =
+      rw (tests-more M w p n) (all-step xs (tests M w p n) p n e nl (all-tested xs p n o e (le-of-suc-le nl)))
 
   -- ---- the whole sequence
   sequence-opened : (s : ℕ) → s < M .n → Opened (sequence M w) s
@@ -231,63 +278,80 @@ module _ (M : Mealy) (w : List ℕ) (h : Blocks M w) where
 
   sequence-tested : (s c : ℕ) → s < M .n → c < M .k → Tested (sequence M w) s c
   sequence-tested s c sl cl =
-      rw (sequence-is M w) (all-tested (opening M w) (run M (M .start) (opening M w)) (M .n) opening-ended refl (le-refl (M .n)) .tested s c sl cl)
+      rw (sequence-is M w)
+      (all-tested (opening M w) (run M (M .start) (opening M w)) (M .n) opening-ended refl
+      (le-refl (M .n)) .tested s c sl cl)
 
   sequence-begins : (after : List ℕ) × (sequence M w ≡ T M w (M .start) ++ after)
   sequence-begins =
       let o = opening-begins in
-      let rest = tests M w (run M (M .start) (opening M w)) (M .n) in
-      (o .0 ++ rest, sequence-is M w ∙ ap (λ (l : List ℕ). l ++ rest) (o .1) ∙ append-assoc (T M w (M .start)) (o .0) rest)
+      let rest = tests M w (run M (M .start) (opening M w)) (M .n) in (
+        o .0 ++ rest,
+        sequence-is M w ∙ ap (λ (l : List ℕ). l ++ rest) (o .1) ∙ append-assoc (T M w (M .start)) (o .0) rest,
+      )
 
   -- it is not empty
   pub sequence-some : 1 ≤ length (sequence M w)
   sequence-some =
       let b = sequence-begins in
       let t = h .begins (M .start) (h .proper .starts) in
-      let long : length (sequence M w) ≡ length (T M w (M .start)) + length (b .0) = ap length (b .1) ∙ length-append (T M w (M .start)) (b .0) in
+      let long : length (sequence M w) ≡ length (T M w (M .start)) + length (b .0) =
+      ap length (b .1) ∙ length-append (T M w (M .start)) (b .0) in
       let word : length (T M w (M .start)) ≡ length w + length (t .0) = ap length (t .1) ∙ length-append w (t .0) in
       omega (arith, h .some)
 
   -- ---- recognised places
   module _ (xs : List ℕ) where
     -- a block begins with the word
-    block-occurs : (before : List ℕ) (s : ℕ) (after : List ℕ) → s < M .n → xs ≡ before ++ (T M w s ++ after) → OccursAt w xs (length before)
+    block-occurs : (before : List ℕ) (s : ℕ) (after : List ℕ) → s < M .n → xs ≡ before ++ (T M w s ++ after)
+        → OccursAt w xs (length before)
     block-occurs before s after sl e =
         let b = h .begins s sl in
-        let whole : xs ≡ before ++ (w ++ (b .0 ++ after)) = e ∙ ap (λ (l : List ℕ). before ++ l) (ap (λ (l : List ℕ). l ++ after) (b .1) ∙ append-assoc w (b .0) after) in
-        let long : length xs ≡ length before + (length w + length (b .0 ++ after)) = ap length whole ∙ length-append before _ ∙ ap (λ (x : ℕ). length before + x) (length-append w _) in
+        let whole : xs ≡ before ++ (w ++ (b .0 ++ after)) =
+        e ∙ ap (λ (l : List ℕ). before ++ l) (ap (λ (l : List ℕ). l ++ after) (b .1) ∙ append-assoc w (b .0) after) in
+        let long : length xs ≡ length before + (length w + length (b .0 ++ after)) =
+        ap length whole ∙ length-append before _ ∙ ap (λ (x : ℕ). length before + x) (length-append w _) in
         record {
           inside = omega arith;
           commands = rw (whole, drop-append-seam before (w ++ (b .0 ++ after))) (take-append-seam w (b .0 ++ after));
         }
 
-    block-start : (before : List ℕ) (s : ℕ) (after : List ℕ) → s < M .n → xs ≡ before ++ (T M w s ++ after) → Recognised M w xs (length before)
+    block-start : (before : List ℕ) (s : ℕ) (after : List ℕ) → s < M .n → xs ≡ before ++ (T M w s ++ after)
+        → Recognised M w xs (length before)
     block-start before s after sl e = by-rule1 M w xs (length before) (block-occurs before s after sl e)
 
-    state-behind : (before after : List ℕ) → xs ≡ before ++ after → stateAt M xs (length before) ≡ run M (M .start) before
+    state-behind : (before after : List ℕ) → xs ≡ before ++ after
+        → stateAt M xs (length before) ≡ run M (M .start) before
     state-behind before after e = ap (λ (l : List ℕ). stateAt M l (length before)) e ∙ state-split M before after
 
-    commands-at : (before : List ℕ) (s : ℕ) (after : List ℕ) → xs ≡ before ++ (T M w s ++ after) → take (length (T M w s)) (drop (length before) xs) ≡ T M w s
+    commands-at : (before : List ℕ) (s : ℕ) (after : List ℕ) → xs ≡ before ++ (T M w s ++ after)
+        → take (length (T M w s)) (drop (length before) xs) ≡ T M w s
     commands-at before s after e = rw (e, drop-append-seam before (T M w s ++ after)) (take-append-seam (T M w s) after)
 
     -- the end of a block, by the same block in the opening
-    block-end : (before : List ℕ) (s : ℕ) (after : List ℕ) → s < M .n → xs ≡ before ++ (T M w s ++ after) → run M (M .start) before ≡ s → Opened xs s
-        → Recognised M w xs (length before + length (T M w s))
+    block-end : (before : List ℕ) (s : ℕ) (after : List ℕ) → s < M .n → xs ≡ before ++ (T M w s ++ after)
+        → run M (M .start) before ≡ s → Opened xs s → Recognised M w xs (length before + length (T M w s))
     block-end before s after sl e st o =
         let m = length (T M w s) in
         let p = length (o .before) in
         let q = length before in
         let b = h .begins s sl in
         let long : length (T M w s) ≡ length w + length (b .0) = ap length (b .1) ∙ length-append w (b .0) in
-        let next : xs ≡ (o .before ++ T M w s) ++ (T M w (following (M .n) s) ++ o .after) = o .split ∙ sym (append-assoc (o .before) (T M w s) _) in
-        let end : Recognised M w xs (p + m) = rw (← length-append (o .before) (T M w s)) (block-start (o .before ++ T M w s) (following (M .n) s) (o .after) (following-below (M .n) s sl) next) in
-        let whole : length xs ≡ q + (m + length after) = ap length e ∙ length-append before _ ∙ ap (λ (x : ℕ). q + x) (length-append (T M w s) after) in
-        by-rule2 M w xs p q m (omega (arith, h .some)) (block-start (o .before) s _ sl (o .split)) (block-start before s after sl e)
+        let next : xs ≡ (o .before ++ T M w s) ++ (T M w (following (M .n) s) ++ o .after) =
+        o .split ∙ sym (append-assoc (o .before) (T M w s) _) in
+        let end : Recognised M w xs (p + m) =
+        rw (← length-append (o .before) (T M w s))
+        (block-start (o .before ++ T M w s) (following (M .n) s) (o .after) (following-below (M .n) s sl) next) in
+        let whole : length xs ≡ q + (m + length after) =
+        ap length e ∙ length-append before _ ∙ ap (λ (x : ℕ). q + x) (length-append (T M w s) after) in
+        by-rule2 M w xs p q m (omega (arith, h .some)) (block-start (o .before) s _ sl (o .split))
+        (block-start before s after sl e)
         (state-behind (o .before) _ (o .split) ∙ o .state ∙ sym (state-behind before _ e ∙ st)) end (omega arith)
         (commands-at (o .before) s _ (o .split) ∙ sym (commands-at before s after e))
 
     -- a tested entry is verified
-    tested-verified : (s c : ℕ) → s < M .n → c < M .k → ((t : ℕ) → t < M .n → Opened xs t) → Tested xs s c → Verified M w xs s c
+    tested-verified : (s c : ℕ) → s < M .n → c < M .k → ((t : ℕ) → t < M .n → Opened xs t) → Tested xs s c
+        → Verified M w xs s c
     tested-verified s c sl cl o t =
         let u = t .before ++ T M w (t .last) in
         let behind = T M w (M .next s c) ++ t .after in
@@ -305,7 +369,9 @@ module _ (M : Mealy) (w : List ℕ) (h : Blocks M w) where
               ∙ h .leads (t .last) (t .low)
               ∙ t .reached;
           command = ap (λ (l : List ℕ). getD l (length u) 0) here ∙ getD-append-seam u c behind 0;
-          before = rw (length-append (t .before) (T M w (t .last))) (block-end (t .before) (t .last) _ (t .low) (t .split) (t .state) (o (t .last) (t .low)));
+          before =
+              rw (length-append (t .before) (T M w (t .last)))
+              (block-end (t .before) (t .last) _ (t .low) (t .split) (t .state) (o (t .last) (t .low)));
           after = rw (← at) (block-start (u ++ (c ∷ [])) (M .next s c) (t .after) (h .proper .stays s c sl cl) there);
         }
 

@@ -108,7 +108,9 @@ module _ (M : Mealy) (proper : Proper M) where
   state-is : (i : ℕ) → i ≤ M .n → Turned (M .n) (M .start) i (nthState M i)
   unfolding nthState
   state-is zero l = before-end (omega (arith, proper .starts)) (omega arith)
-  state-is (suc i) l = turned-on (proper .starts) (omega arith) (state-is i (omega arith)) (following-is (M .n) (nthState M i) (nthState-below i))
+  state-is (suc i) l =
+      turned-on (proper .starts) (omega arith) (state-is i (omega arith))
+      (following-is (M .n) (nthState M i) (nthState-below i))
 
   home-by : {t : ℕ} → Turned (M .n) (M .start) (M .n) t → t ≡ M .start
   home-by (before-end l e) = let z : ⊥ = omega arith in absurd z
@@ -134,7 +136,8 @@ module _ (M : Mealy) (proper : Proper M) where
   pub nthState-is : (i : ℕ) → M .start ≡ 0 → i < M .n → nthState M i ≡ i
   nthState-is i e l = is-by e l (state-is i (omega arith))
 
-  at-by : {s t : ℕ} → s < M .n → Gap (M .n) (M .start) s (gap (M .n) (M .start) s) → Turned (M .n) (M .start) (gap (M .n) (M .start) s) t → t ≡ s
+  at-by : {s t : ℕ} → s < M .n → Gap (M .n) (M .start) s (gap (M .n) (M .start) s)
+      → Turned (M .n) (M .start) (gap (M .n) (M .start) s) t → t ≡ s
   at-by sl (ahead l e) (before-end m f) = omega arith
   at-by sl (ahead l e) (past-end m f) = omega arith
   at-by sl (round-about l e) (before-end m f) = omega arith

@@ -10,11 +10,13 @@ use lib.Dec.{eqb}
 use lib.ListN.{length, getD}
 use Rattle.machine.specs.Machine.{Mealy, run, Proper}
 use Rattle.machine.specs.Machine.Laws.{run-none, run-append, run-cons}
-use Rattle.build.specs.Sequence.{following, B, T, nthState, firstBlocks, opening, approach, test, stateTests, tests, sequence, blockBound}
-use Rattle.build.specs.Sequence.Cycle.{following-below, gap, gap-below, gap-none, gap-step, nthState-below, nthState-home}
+use Rattle.build.specs.Sequence.{following, B, T, nthState, firstBlocks, opening, approach, test, stateTests}
+use Rattle.build.specs.Sequence.{tests, sequence, blockBound}
+use Rattle.build.specs.Sequence.Cycle.{following-below, gap, gap-below, gap-none, gap-step, nthState-below}
+use Rattle.build.specs.Sequence.Cycle.{nthState-home}
 
--- what the blocks T(s) have where every transfer is there: each leads to the state after its own, begins with the word, is of the machine's
--- commands and at most c long
+-- what the blocks T(s) have where every transfer is there: each leads to the state after its own, begins with the word,
+-- is of the machine's commands and at most c long
 pub record Blocks (M : Mealy) (w : List ℕ) : Type 0 where
   pub proper : Proper M
   pub some : 1 ≤ length w
@@ -41,7 +43,8 @@ module _ (M : Mealy) (w : List ℕ) where
   unfolding stateTests
   state-tests-none p s = refl
 
-  pub state-tests-more : (p s c : ℕ) → stateTests M w p s (suc c) ≡ stateTests M w p s c ++ test M w (run M p (stateTests M w p s c)) s c
+  pub state-tests-more : (p s c : ℕ)
+      → stateTests M w p s (suc c) ≡ stateTests M w p s c ++ test M w (run M p (stateTests M w p s c)) s c
   unfolding stateTests
   state-tests-more p s c = refl
 
@@ -73,13 +76,15 @@ module _ (M : Mealy) (w : List ℕ) where
   approach-here (suc i) s = rw (eq-eqb s s refl)
 
   -- else T of the present state, and on from where it leads
-  pub approach-on : (i p s : ℕ) → (p ≡ s → ⊥) → approach M w (suc i) p s ≡ T M w p ++ approach M w i (run M p (T M w p)) s
+  pub approach-on : (i p s : ℕ) → (p ≡ s → ⊥)
+      → approach M w (suc i) p s ≡ T M w p ++ approach M w i (run M p (T M w p)) s
   unfolding approach
   approach-on i p s ne = rw (ne-eqb p s ne)
 
 module _ (M : Mealy) (w : List ℕ) (h : Blocks M w) where
   -- T of a state p other than s, then the approach from the state after p
-  pub approach-step : (i p s : ℕ) → p < M .n → (p ≡ s → ⊥) → approach M w (suc i) p s ≡ T M w p ++ approach M w i (following (M .n) p) s
+  pub approach-step : (i p s : ℕ) → p < M .n → (p ≡ s → ⊥)
+      → approach M w (suc i) p s ≡ T M w p ++ approach M w i (following (M .n) p) s
   approach-step i p s pl ne = approach-on M w i p s ne ∙ ap (λ (x : ℕ). T M w p ++ approach M w i x s) (h .leads p pl)
 
   -- any number of times that is not below the gap is enough
@@ -87,13 +92,15 @@ module _ (M : Mealy) (w : List ℕ) (h : Blocks M w) where
   same-at i j s = approach-here M w i s ∙ sym (approach-here M w j s)
 
   same-by : (i j p s : ℕ) → p < M .n → (b : Bool) → eqb p s ≡ b
-      → ((p ≡ s → ⊥) → approach M w i (following (M .n) p) s ≡ approach M w j (following (M .n) p) s) → approach M w (suc i) p s ≡ approach M w (suc j) p s
+      → ((p ≡ s → ⊥) → approach M w i (following (M .n) p) s ≡ approach M w j (following (M .n) p) s)
+      → approach M w (suc i) p s ≡ approach M w (suc j) p s
   same-by i j p s pl true e on = rw (eqb-true p s e) (same-at (suc i) (suc j) s)
   same-by i j p s pl false e on =
       let ne = eqb-false p s e in
       approach-step i p s pl ne ∙ ap (λ (xs : List ℕ). T M w p ++ xs) (on ne) ∙ sym (approach-step j p s pl ne)
 
-  approach-same : (i j p s : ℕ) → p < M .n → s < M .n → gap (M .n) p s ≤ i → gap (M .n) p s ≤ j → approach M w i p s ≡ approach M w j p s
+  approach-same : (i j p s : ℕ) → p < M .n → s < M .n → gap (M .n) p s ≤ i → gap (M .n) p s ≤ j
+      → approach M w i p s ≡ approach M w j p s
   approach-same zero j p s pl sl li lj = rw (gap-none (M .n) p s pl (omega arith)) (same-at zero j s)
   approach-same (suc i) zero p s pl sl li lj = rw (gap-none (M .n) p s pl (omega arith)) (same-at (suc i) zero s)
   approach-same (suc i) (suc j) p s pl sl li lj =
@@ -102,7 +109,8 @@ module _ (M : Mealy) (w : List ℕ) (h : Blocks M w) where
       approach-same i j (following (M .n) p) s (following-below (M .n) p pl) sl (omega arith) (omega arith))
 
   -- the same, for the n times of the definition
-  pub approach-more : (p s : ℕ) → p < M .n → s < M .n → (p ≡ s → ⊥) → approach M w (M .n) p s ≡ T M w p ++ approach M w (M .n) (following (M .n) p) s
+  pub approach-more : (p s : ℕ) → p < M .n → s < M .n → (p ≡ s → ⊥)
+      → approach M w (M .n) p s ≡ T M w p ++ approach M w (M .n) (following (M .n) p) s
   approach-more p s pl sl ne =
       let g = gap-below (M .n) p s pl sl in
       let st = gap-step (M .n) p s pl sl ne in
@@ -113,7 +121,8 @@ module _ (M : Mealy) (w : List ℕ) (h : Blocks M w) where
   reached-at i s = ap (run M s) (approach-here M w i s) ∙ run-none M s
 
   reached-by : (i p s : ℕ) → p < M .n → (b : Bool) → eqb p s ≡ b
-      → ((p ≡ s → ⊥) → run M (following (M .n) p) (approach M w i (following (M .n) p) s) ≡ s) → run M p (approach M w (suc i) p s) ≡ s
+      → ((p ≡ s → ⊥) → run M (following (M .n) p) (approach M w i (following (M .n) p) s) ≡ s)
+      → run M p (approach M w (suc i) p s) ≡ s
   reached-by i p s pl true e on = rw (eqb-true p s e) (reached-at (suc i) s)
   reached-by i p s pl false e on =
       let ne = eqb-false p s e in
@@ -127,7 +136,9 @@ module _ (M : Mealy) (w : List ℕ) (h : Blocks M w) where
   reaches zero p s pl sl l = rw (gap-none (M .n) p s pl (omega arith)) (reached-at zero s)
   reaches (suc i) p s pl sl l =
       reached-by i p s pl (eqb p s) refl
-      (λ ne. let st = gap-step (M .n) p s pl sl ne in reaches i (following (M .n) p) s (following-below (M .n) p pl) sl (omega arith))
+      (λ ne.
+      let st = gap-step (M .n) p s pl sl ne in
+      reaches i (following (M .n) p) s (following-below (M .n) p pl) sl (omega arith))
 
   pub approach-reaches : (p s : ℕ) → p < M .n → s < M .n → run M p (approach M w (M .n) p s) ≡ s
   approach-reaches p s pl sl = let g = gap-below (M .n) p s pl sl in reaches (M .n) p s pl sl (omega arith)
@@ -147,11 +158,15 @@ module _ (M : Mealy) (w : List ℕ) (h : Blocks M w) where
 
   pub opening-leads : run M (M .start) (opening M w) ≡ following (M .n) (M .start)
   unfolding nthState
-  opening-leads = ap (run M (M .start)) opening-is ∙ first-blocks-lead (suc (M .n)) ∙ ap (following (M .n)) (nthState-home M (h .proper))
+  opening-leads =
+      ap (run M (M .start)) opening-is
+      ∙ first-blocks-lead (suc (M .n))
+      ∙ ap (following (M .n)) (nthState-home M (h .proper))
 
   -- ---- the tests
   -- a test leads to the state after the one that the entry leads to
-  pub test-leads : (p s c : ℕ) → p < M .n → s < M .n → c < M .k → run M p (test M w p s c) ≡ following (M .n) (M .next s c)
+  pub test-leads : (p s c : ℕ) → p < M .n → s < M .n → c < M .k
+      → run M p (test M w p s c) ≡ following (M .n) (M .next s c)
   unfolding test
   test-leads p s c pl sl cl =
       run-append M p (approach M w (M .n) p s) (c ∷ T M w (M .next s c))
@@ -160,7 +175,8 @@ module _ (M : Mealy) (w : List ℕ) (h : Blocks M w) where
       ∙ h .leads (M .next s c) (h .proper .stays s c sl cl)
 
   pub test-stays : (p s c : ℕ) → p < M .n → s < M .n → c < M .k → run M p (test M w p s c) < M .n
-  test-stays p s c pl sl cl = rw (test-leads p s c pl sl cl) (following-below (M .n) (M .next s c) (h .proper .stays s c sl cl))
+  test-stays p s c pl sl cl =
+      rw (test-leads p s c pl sl cl) (following-below (M .n) (M .next s c) (h .proper .stays s c sl cl))
 
   -- the tests of the first s + 1 states lead to the state after the one that the last entry leads to
   last-test : (p s c : ℕ) → p < M .n → s < M .n → c < M .k → (q : ℕ) → run M p (stateTests M w p s c) ≡ q → q < M .n
@@ -175,18 +191,22 @@ module _ (M : Mealy) (w : List ℕ) (h : Blocks M w) where
   pub state-tests-stay : (p s c : ℕ) → p < M .n → s < M .n → c ≤ M .k → run M p (stateTests M w p s c) < M .n
   state-tests-stay p s zero pl sl cl = rw (state-tests-none M w p s, run-none) pl
   state-tests-stay p s (suc c) pl sl cl =
-      rw (last-test p s c pl sl cl _ refl (state-tests-stay p s c pl sl (omega arith))) (following-below (M .n) (M .next s c) (h .proper .stays s c sl cl))
+      rw (last-test p s c pl sl cl _ refl (state-tests-stay p s c pl sl (omega arith)))
+      (following-below (M .n) (M .next s c) (h .proper .stays s c sl cl))
 
-  state-tests-lead : (p s c : ℕ) → p < M .n → s < M .n → c < M .k → run M p (stateTests M w p s (suc c)) ≡ following (M .n) (M .next s c)
+  state-tests-lead : (p s c : ℕ) → p < M .n → s < M .n → c < M .k
+      → run M p (stateTests M w p s (suc c)) ≡ following (M .n) (M .next s c)
   state-tests-lead p s c pl sl cl = last-test p s c pl sl cl _ refl (state-tests-stay p s c pl sl (omega arith))
 
   pub tests-stay : (p s : ℕ) → p < M .n → s ≤ M .n → run M p (tests M w p s) < M .n
   tests-stay p zero pl sl = rw (tests-none M w p, run-none) pl
   tests-stay p (suc s) pl sl =
-      rw (tests-more M w p s, run-append) (state-tests-stay (run M p (tests M w p s)) s (M .k) (tests-stay p s pl (omega arith)) sl (omega arith))
+      rw (tests-more M w p s, run-append)
+      (state-tests-stay (run M p (tests M w p s)) s (M .k) (tests-stay p s pl (omega arith)) sl (omega arith))
 
   -- the sequence ends in the state after the one that the last entry leads to
-  ends-by : (p s c : ℕ) → p < M .n → M .n ≡ suc s → M .k ≡ suc c → run M p (tests M w p (M .n)) ≡ following (M .n) (M .next s c)
+  ends-by : (p s c : ℕ) → p < M .n → M .n ≡ suc s → M .k ≡ suc c
+      → run M p (tests M w p (M .n)) ≡ following (M .n) (M .next s c)
   ends-by p s c pl ne ke =
       let q = run M p (tests M w p s) in
       ap (λ (x : ℕ). run M p (tests M w p x)) ne
@@ -201,4 +221,5 @@ module _ (M : Mealy) (w : List ℕ) (h : Blocks M w) where
       let pl : p < M .n = rw opening-leads (following-below (M .n) (M .start) (h .proper .starts)) in
       ap (run M (M .start)) (sequence-is M w)
       ∙ run-append M (M .start) (opening M w) (tests M w p (M .n))
-      ∙ ends-by p (M .n - 1) (M .k - 1) pl (omega (arith, h .proper .some-states)) (omega (arith, h .proper .some-commands))
+      ∙ ends-by p (M .n - 1) (M .k - 1) pl (omega (arith, h .proper .some-states))
+      (omega (arith, h .proper .some-commands))

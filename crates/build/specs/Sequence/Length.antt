@@ -1,5 +1,5 @@
--- The commands of the prescribed sequence are the machine's, and its length is within the length formula (§6.4), so never above the limit of a
--- sequence. M is the machine, w the word.
+-- The commands of the prescribed sequence are the machine's, and its length is within the length formula (§6.4), so
+-- never above the limit of a sequence. M is the machine, w the word.
 use Prim.Native.Nat.{ℕ, zero, suc, _+_, _*_, _≤_, _<_}
 use mathlib.Core.Path.{_≡_, refl}
 use mathlib.Core.Bool.{Bool, true, false}
@@ -13,9 +13,12 @@ use lib.ListN.{length, getD, length-append}
 use Rattle.machine.specs.Limits.{mostStates, mostEntries, mostWord, mostSequence}
 use Rattle.machine.specs.Machine.{Mealy, run, Proper}
 use Rattle.machine.specs.Machine.Laws.{run-none, run-append, low-append, proper-entries}
-use Rattle.build.specs.Sequence.{following, T, nthState, firstBlocks, opening, approach, test, stateTests, tests, sequence, blockBound, mostBlock, lengthBound}
+use Rattle.build.specs.Sequence.{following, T, nthState, firstBlocks, opening, approach, test, stateTests, tests}
+use Rattle.build.specs.Sequence.{sequence, blockBound, mostBlock, lengthBound}
 use Rattle.build.specs.Sequence.Cycle.{following-below, gap, gap-below, gap-step, nthState-below}
-use Rattle.build.specs.Sequence.Laws.{Blocks, test-is, approach-none, approach-here, approach-step, opening-is, opening-leads, first-blocks-none, first-blocks-more, test-stays, state-tests-none, state-tests-more, tests-none, tests-more, sequence-is}
+use Rattle.build.specs.Sequence.Laws.{Blocks, test-is, approach-none, approach-here, approach-step, opening-is}
+use Rattle.build.specs.Sequence.Laws.{opening-leads, first-blocks-none, first-blocks-more, test-stays}
+use Rattle.build.specs.Sequence.Laws.{state-tests-none, state-tests-more, tests-none, tests-more, sequence-is}
 
 -- ---- lists of commands below k and of at most m commands
 record Short (k m : ℕ) (xs : List ℕ) : Type 0 where
@@ -23,7 +26,10 @@ record Short (k m : ℕ) (xs : List ℕ) : Type 0 where
   few : length xs ≤ m
 
 short-append : {k m n : ℕ} (xs ys : List ℕ) → Short k m xs → Short k n ys → Short k (m + n) (xs ++ ys)
-short-append {k} xs ys a b = record { low = low-append k xs ys (a .low) (b .low); few = omega (arith, a .few, b .few, length-append xs ys) }
+short-append {k} xs ys a b = record {
+  low = low-append k xs ys (a .low) (b .low);
+  few = omega (arith, a .few, b .few, length-append xs ys);
+}
 
 short-none : (k : ℕ) {xs : List ℕ} → xs ≡ [] → Short k 0 xs
 short-none k e = rw e (record { low = λ i l. let z : ⊥ = omega arith in absurd z; few = omega arith })
@@ -45,26 +51,36 @@ module _ (M : Mealy) (w : List ℕ) (h : Blocks M w) where
 
   first-blocks-short : (i : ℕ) → Short (M .k) (i * block) (firstBlocks M w i)
   first-blocks-short zero = rw zero-mul (short-none (M .k) (first-blocks-none M w))
-  first-blocks-short (suc i) = rw (suc-mul, first-blocks-more M w i) (short-append (firstBlocks M w i) (T M w (nthState M i)) (first-blocks-short i) (block-short (nthState M i) (nthState-below M (h .proper) i)))
+  first-blocks-short (suc i) =
+      rw (suc-mul, first-blocks-more M w i)
+      (short-append (firstBlocks M w i) (T M w (nthState M i)) (first-blocks-short i)
+      (block-short (nthState M i) (nthState-below M (h .proper) i)))
 
   opening-short : Short (M .k) ((M .n + 1) * block) (opening M w)
   opening-short = rw (opening-is M w h, add-one) (first-blocks-short (suc (M .n)))
 
   -- at most one block for each state of the gap
-  approach-by : (i p s : ℕ) → p < M .n → (b : Bool) → eqb p s ≡ b → {g : ℕ} → ((p ≡ s → ⊥) → (d : ℕ) × (g ≡ suc d) × Short (M .k) (d * block) (approach M w i (following (M .n) p) s))
+  approach-by : (i p s : ℕ) → p < M .n → (b : Bool) → eqb p s ≡ b → {g : ℕ}
+      → ((p ≡ s → ⊥) → (d : ℕ) × (g ≡ suc d) × Short (M .k) (d * block) (approach M w i (following (M .n) p) s))
       → Short (M .k) (g * block) (approach M w (suc i) p s)
-  approach-by i p s pl true e on = rw (eqb-true p s e) (short-within (omega arith) (short-none (M .k) (approach-here M w (suc i) s)))
+  approach-by i p s pl true e on =
+      rw (eqb-true p s e) (short-within (omega arith) (short-none (M .k) (approach-here M w (suc i) s)))
   approach-by i p s pl false e on =
       let ne = eqb-false p s e in
       let o = on ne in
-      rw (o .1, suc-mul, approach-step M w h i p s pl ne) (short-within (omega arith) (short-append (T M w p) (approach M w i (following (M .n) p) s) (block-short p pl) (o .2)))
+      rw (o .1, suc-mul, approach-step M w h i p s pl ne)
+      (short-within (omega arith)
+      (short-append (T M w p) (approach M w i (following (M .n) p) s) (block-short p pl) (o .2)))
 
   approach-short : (i p s : ℕ) → p < M .n → s < M .n → Short (M .k) (gap (M .n) p s * block) (approach M w i p s)
   approach-short zero p s pl sl = short-within (omega arith) (short-none (M .k) (approach-none M w p s))
   approach-short (suc i) p s pl sl =
       approach-by i p s pl (eqb p s) refl
-      (λ ne. let st = gap-step (M .n) p s pl sl ne in
-      (gap (M .n) (following (M .n) p) s, omega arith, approach-short i (following (M .n) p) s (following-below (M .n) p pl) sl))
+      (λ ne. let st = gap-step (M .n) p s pl sl ne in (
+        gap (M .n) (following (M .n) p) s,
+        omega arith,
+        approach-short i (following (M .n) p) s (following-below (M .n) p pl) sl,
+      ))
 
   -- the length of a test at most
   testLength : ℕ
@@ -74,9 +90,12 @@ module _ (M : Mealy) (w : List ℕ) (h : Blocks M w) where
   unfolding testLength
   test-short p s c pl sl cl =
       let g = gap-below (M .n) p s pl sl in
-      let rest = short-append (c ∷ []) (T M w (M .next s c)) (short-one (M .k) c cl) (block-short (M .next s c) (h .proper .stays s c sl cl)) in
+      let rest =
+      short-append (c ∷ []) (T M w (M .next s c)) (short-one (M .k) c cl)
+      (block-short (M .next s c) (h .proper .stays s c sl cl)) in
       rw (test-is M w p s c)
-      (short-within (omega (arith, suc-mul (gap (M .n) p s) block, mul-le-mul-right {m = suc (gap (M .n) p s)} {n = M .n} block g))
+      (short-within
+      (omega (arith, suc-mul (gap (M .n) p s) block, mul-le-mul-right {m = suc (gap (M .n) p s)} {n = M .n} block g))
       (short-append (approach M w (M .n) p s) (c ∷ T M w (M .next s c)) (approach-short (M .n) p s pl sl) rest))
 
   -- a part from a state p, and where it leads
@@ -85,7 +104,10 @@ module _ (M : Mealy) (w : List ℕ) (h : Blocks M w) where
     stays : run M p xs < M .n
 
   part-append : {p m n : ℕ} (xs ys : List ℕ) → Part p m xs → Part (run M p xs) n ys → Part p (m + n) (xs ++ ys)
-  part-append {p} xs ys a b = record { short = short-append xs ys (a .short) (b .short); stays = rw (run-append M p xs ys) (b .stays) }
+  part-append {p} xs ys a b = record {
+    short = short-append xs ys (a .short) (b .short);
+    stays = rw (run-append M p xs ys) (b .stays);
+  }
 
   part-none : (p : ℕ) {xs : List ℕ} → p < M .n → xs ≡ [] → Part p 0 xs
   part-none p pl e = record { short = short-none (M .k) e; stays = rw (e, run-none) pl }
@@ -96,7 +118,8 @@ module _ (M : Mealy) (w : List ℕ) (h : Blocks M w) where
       let o = state-tests-part p s c pl sl (omega arith) in
       let q = run M p (stateTests M w p s c) in
       rw (suc-mul, state-tests-more M w p s c)
-      (part-append (stateTests M w p s c) (test M w q s c) o (record { short = test-short q s c (o .stays) sl cl; stays = test-stays M w h q s c (o .stays) sl cl }))
+      (part-append (stateTests M w p s c) (test M w q s c) o
+      (record { short = test-short q s c (o .stays) sl cl; stays = test-stays M w h q s c (o .stays) sl cl }))
 
   tests-part : (p s : ℕ) → p < M .n → s ≤ M .n → Part p (s * (M .k * testLength)) (tests M w p s)
   tests-part p zero pl sl = rw zero-mul (part-none p pl (tests-none M w p))
@@ -104,21 +127,25 @@ module _ (M : Mealy) (w : List ℕ) (h : Blocks M w) where
       let o = tests-part p s pl (omega arith) in
       let q = run M p (tests M w p s) in
       rw (suc-mul, tests-more M w p s)
-      (part-append (tests M w p s) (stateTests M w q s (M .k)) o (state-tests-part q s (M .k) (o .stays) sl (omega arith)))
+      (part-append (tests M w p s) (stateTests M w q s (M .k)) o
+      (state-tests-part q s (M .k) (o .stays) sl (omega arith)))
 
   -- ---- the lengths of the parts
-  pub approach-length : (i p s : ℕ) → p < M .n → s < M .n → length (approach M w i p s) ≤ gap (M .n) p s * blockBound M w
+  pub approach-length : (i p s : ℕ) → p < M .n → s < M .n
+      → length (approach M w i p s) ≤ gap (M .n) p s * blockBound M w
   unfolding block
   approach-length i p s pl sl = approach-short i p s pl sl .few
 
-  pub approach-low : (i p s : ℕ) → p < M .n → s < M .n → (j : ℕ) → j < length (approach M w i p s) → getD (approach M w i p s) j 0 < M .k
+  pub approach-low : (i p s : ℕ) → p < M .n → s < M .n → (j : ℕ) → j < length (approach M w i p s)
+      → getD (approach M w i p s) j 0 < M .k
   approach-low i p s pl sl = approach-short i p s pl sl .low
 
   pub test-length : (p s c : ℕ) → p < M .n → s < M .n → c < M .k → length (test M w p s c) ≤ M .n * blockBound M w + 1
   unfolding block testLength
   test-length p s c pl sl cl = test-short p s c pl sl cl .few
 
-  pub state-tests-length : (p s c : ℕ) → p < M .n → s < M .n → c ≤ M .k → length (stateTests M w p s c) ≤ c * (M .n * blockBound M w + 1)
+  pub state-tests-length : (p s c : ℕ) → p < M .n → s < M .n → c ≤ M .k
+      → length (stateTests M w p s c) ≤ c * (M .n * blockBound M w + 1)
   unfolding block testLength
   state-tests-length p s c pl sl cl = state-tests-part p s c pl sl cl .short .few
 
@@ -132,7 +159,8 @@ module _ (M : Mealy) (w : List ℕ) (h : Blocks M w) where
   sequence-short =
       let p = run M (M .start) (opening M w) in
       let pl : p < M .n = rw (opening-leads M w h) (following-below (M .n) (M .start) (h .proper .starts)) in
-      rw (sequence-is M w, mul-assoc) (short-append (opening M w) (tests M w p (M .n)) opening-short (tests-part p (M .n) pl (omega arith) .short))
+      rw (sequence-is M w, mul-assoc)
+      (short-append (opening M w) (tests M w p (M .n)) opening-short (tests-part p (M .n) pl (omega arith) .short))
 
   -- the length formula bounds the length
   pub sequence-length : length (sequence M w) ≤ lengthBound M w

@@ -1,4 +1,5 @@
--- The laws of transfers: what `transfer` computes is the transfer of §6.1, and it is there wherever a string of any length leads.
+-- The laws of transfers: what `transfer` computes is the transfer of §6.1, and it is there wherever a
+-- string of any length leads.
 use Prim.Native.Nat.{ℕ, zero, suc, _≤_, _<_}
 use mathlib.Core.Path.{_≡_, refl, sym, ap, ap₂, _∙_}
 use mathlib.Core.Bool.{Bool, true, false}
@@ -12,8 +13,9 @@ use Rattle.machine.specs.Machine.{Mealy, run, Proper}
 use Rattle.machine.specs.Machine.Laws.{run-append, run-stays, low-append, low-take, low-drop}
 use Rattle.machine.specs.Pigeonhole.{pigeonhole}
 use Rattle.build.specs.Transfer.{Leads, Before, IsTransfer, firstPath, transfer}
-use Rattle.build.specs.Transfer.Paths.{some-none, Seen, nothing, string, seen, first-some, least-first, some-first, none-first}
-use Rattle.build.specs.Transfer.Paths.{Step, path-step, path-length, path-leads, leads-path, leads-first, leads-rest}
+use Rattle.build.specs.Transfer.Paths.{some-none, Seen, nothing, string, seen, first-some, least-first}
+use Rattle.build.specs.Transfer.Paths.{some-first, none-first, Step, path-step, path-length, path-leads}
+use Rattle.build.specs.Transfer.Paths.{leads-path, leads-first, leads-rest}
 
 -- ---- byte order
 -- a lower first command
@@ -22,7 +24,12 @@ before-head c d u v l = record { place = 0; inside = omega arith; same = refl; l
 
 -- the same first command, and an order behind it
 before-tail : (c d : ℕ) (u v : List ℕ) → c ≡ d → Before u v → Before (c ∷ u) (d ∷ v)
-before-tail c d u v e h = record { place = suc (h .place); inside = omega (arith, h .inside); same = ap₂ _∷_ e (h .same); lower = h .lower }
+before-tail c d u v e h = record {
+  place = suc (h .place);
+  inside = omega (arith, h .inside);
+  same = ap₂ _∷_ e (h .same);
+  lower = h .lower;
+}
 
 -- one of the two
 data First-lower (c d : ℕ) (u v : List ℕ) : Type 0 where
@@ -32,7 +39,8 @@ data First-lower (c d : ℕ) (u v : List ℕ) : Type 0 where
 before-cons : (c d : ℕ) (u v : List ℕ) → Before (c ∷ u) (d ∷ v) → First-lower c d u v
 before-cons c d u v h = go (h .place) (h .inside) (h .same) (h .lower)
   where
-    go : (p : ℕ) → p < length (c ∷ u) → take p (c ∷ u) ≡ take p (d ∷ v) → getD (c ∷ u) p 0 < getD (d ∷ v) p 0 → First-lower c d u v
+    go : (p : ℕ) → p < length (c ∷ u) → take p (c ∷ u) ≡ take p (d ∷ v) → getD (c ∷ u) p 0 < getD (d ∷ v) p 0
+        → First-lower c d u v
     go zero i e l = head l
     go (suc p) i e l = tail (cc) (record { place = p; inside = omega arith; same = cc; lower = l })
 
@@ -45,7 +53,8 @@ neither-before (c ∷ u) (d ∷ v) e p q =
     let below : c < d → ⊥ = λ l. p (before-head c d u v l) in
     let above : d < c → ⊥ = λ l. q (before-head d c v u l) in
     let s : c ≡ d = omega arith in
-    ap₂ _∷_ s (neither-before u v (omega arith) (λ h. p (before-tail c d u v s h)) (λ h. q (before-tail d c v u (sym s) h)))
+    ap₂ _∷_ s
+    (neither-before u v (omega arith) (λ h. p (before-tail c d u v s h)) (λ h. q (before-tail d c v u (sym s) h)))
 
 -- no string of its length that leads to b comes before a path
 pub path-first : (M : Mealy) (b : ℕ) → Proper M → (m a : ℕ) {t : List ℕ} → firstPath M b m a ≡ some t → a < M .n
@@ -59,19 +68,31 @@ path-first M b p (suc m) a {t} e l (c ∷ u) h k f =
     let il = p .stays a c l cl in
     let rest = leads-rest M b a c u h in
     let um : length u ≡ m = omega arith in
-    go s il rest um (before-cons c (s .command) u (s .rest) (rw (s .string) at f)) (path-first M b p m (M .next a (s .command)) (s .found))
+    go s il rest um (before-cons c (s .command) u (s .rest) (rw (s .string) at f))
+    (path-first M b p m (M .next a (s .command)) (s .found))
   where
-    go : (s : Step M b m a t) → M .next a c < M .n → Leads M (M .next a c) b u → length u ≡ m → First-lower c (s .command) u (s .rest)
-        → (M .next a (s .command) < M .n → (v : List ℕ) → Leads M (M .next a (s .command)) b v → length v ≡ m → Before v (s .rest) → ⊥) → ⊥
-    go s il rest um (head x) again = let r = leads-path M b p u (M .next a c) il rest in some-none (r .1) (rw um (s .passed c x))
+    go : (s : Step M b m a t) → M .next a c < M .n → Leads M (M .next a c) b u → length u ≡ m
+        → First-lower c (s .command) u (s .rest)
+        → (M .next a (s .command) < M .n → (v : List ℕ) → Leads M (M .next a (s .command)) b v → length v ≡ m
+        → Before v (s .rest) → ⊥) → ⊥
+    go s il rest um (head x) again =
+        let r = leads-path M b p u (M .next a c) il rest in
+        some-none (r .1) (rw um (s .passed c x))
     go s il rest um (tail x y) again = again (rw (← x) il) u (rw (← x) rest) um y
 
 -- ---- cutting a string that leads
 -- a string without what lies between two places of the same state leads to the same state
-pub leads-cut : (M : Mealy) (a b i j : ℕ) (u : List ℕ) → Leads M a b u → run M a (take i u) ≡ run M a (take j u) → Leads M a b (take i u ++ drop j u)
+pub leads-cut : (M : Mealy) (a b i j : ℕ) (u : List ℕ) → Leads M a b u → run M a (take i u) ≡ run M a (take j u)
+    → Leads M a b (take i u ++ drop j u)
 leads-cut M a b i j u h e = record {
-  commands = low-append (M .k) (take i u) (drop j u) (low-take (M .k) i u (h .commands)) (low-drop (M .k) j u (h .commands));
-  ends = run-append M a (take i u) (drop j u) ∙ ap (λ (s : ℕ). run M s (drop j u)) e ∙ sym (run-append M a (take j u) (drop j u)) ∙ ap (run M a) (take-append-drop j u) ∙ h .ends;
+  commands =
+      low-append (M .k) (take i u) (drop j u) (low-take (M .k) i u (h .commands)) (low-drop (M .k) j u (h .commands));
+  ends =
+      run-append M a (take i u) (drop j u)
+      ∙ ap (λ (s : ℕ). run M s (drop j u)) e
+      ∙ sym (run-append M a (take j u) (drop j u))
+      ∙ ap (run M a) (take-append-drop j u)
+      ∙ h .ends;
 }
 
 -- it is shorter
@@ -79,17 +100,20 @@ pub cut-length : (i j : ℕ) (u : List ℕ) → i < j → j ≤ length u → len
 cut-length i j u l k = simp (length-append, length-take, length-drop) (omega arith)
 
 -- where a string leads, one of less than n commands does
-pub leads-short : (M : Mealy) (a b : ℕ) → Proper M → a < M .n → (most : ℕ) (u : List ℕ) → length u ≤ most → Leads M a b u
-    → (v : List ℕ) × (length v < M .n) × (Leads M a b v)
+pub leads-short : (M : Mealy) (a b : ℕ) → Proper M → a < M .n → (most : ℕ) (u : List ℕ) → length u ≤ most
+    → Leads M a b u → (v : List ℕ) × (length v < M .n) × (Leads M a b v)
 leads-short M a b p l zero u k h = (u, omega arith, h)
 leads-short M a b p l (suc most) u k h = go (ltb (length u) (M .n)) refl (λ v. leads-short M a b p l most v)
   where
-    go : (t : Bool) → ltb (length u) (M .n) ≡ t → ((v : List ℕ) → length v ≤ most → Leads M a b v → (w : List ℕ) × (length w < M .n) × (Leads M a b w))
+    go : (t : Bool) → ltb (length u) (M .n) ≡ t
+        → ((v : List ℕ) → length v ≤ most → Leads M a b v → (w : List ℕ) × (length w < M .n) × (Leads M a b w))
         → (v : List ℕ) × (length v < M .n) × (Leads M a b v)
     go true e again = (u, ltb-true (length u) (M .n) e, h)
     go false e again =
         let long = ltb-false (length u) (M .n) e in
-        let r = pigeonhole (M .n) (λ i. run M a (take i u)) (λ i _. run-stays M p a (take i u) l (low-take (M .k) i u (h .commands))) in
+        let r =
+        pigeonhole (M .n) (λ i. run M a (take i u))
+        (λ i _. run-stays M p a (take i u) l (low-take (M .k) i u (h .commands))) in
         let inside : r .1 ≤ length u = omega (arith, r .3) in
         again (take (r .0) u ++ drop (r .1) u) (omega (arith, cut-length (r .0) (r .1) u (r .2) inside))
         (leads-cut M a b (r .0) (r .1) u h (r .4))
@@ -112,7 +136,9 @@ transfer-path M a b e =
 -- and such a path is the transfer
 pub path-transfer : (M : Mealy) (a b : ℕ) {t : List ℕ} → Shortest M a b t → transfer M a b ≡ some t
 unfolding transfer
-path-transfer M a b {t} s = least-first (M .n) (λ m. firstPath M b m a) (record { m = length t; low = s .few; found = s .found; passed = s .passed })
+path-transfer M a b {t} s =
+    least-first (M .n) (λ m. firstPath M b m a)
+    (record { m = length t; low = s .few; found = s .found; passed = s .passed })
 
 -- where there is no path of less than n commands there is no transfer
 pub none-transfer : (M : Mealy) (a b : ℕ) → ((m : ℕ) → m < M .n → firstPath M b m a ≡ none) → transfer M a b ≡ none
@@ -124,17 +150,22 @@ pub transfer-below : (M : Mealy) (a b : ℕ) {t : List ℕ} → transfer M a b �
 transfer-below M a b e = transfer-path M a b e .few
 
 -- it leads there; none shorter does; none of its length that leads there comes before it in byte order
-pub transfer-is : (M : Mealy) → Proper M → (a b : ℕ) → a < M .n → {t : List ℕ} → transfer M a b ≡ some t → IsTransfer M a b t
+pub transfer-is : (M : Mealy) → Proper M → (a b : ℕ) → a < M .n → {t : List ℕ} → transfer M a b ≡ some t
+    → IsTransfer M a b t
 transfer-is M p a b l {t} e =
     let s = transfer-path M a b e in
     record {
       leads = path-leads M b (length t) a (s .found);
-      shortest = λ u h. let r = leads-path M b p u a l h in let n : length u < length t → ⊥ = λ k. some-none (r .1) (s .passed (length u) k) in omega arith;
+      shortest = λ u h.
+          let r = leads-path M b p u a l h in
+          let n : length u < length t → ⊥ = λ k. some-none (r .1) (s .passed (length u) k) in
+          omega arith;
       first = λ u h k. path-first M b p (length t) a (s .found) l u h k;
     }
 
 -- where a string of any length leads there is a transfer
-pub leads-some : (M : Mealy) → Proper M → (a b : ℕ) → a < M .n → (u : List ℕ) → Leads M a b u → (t : List ℕ) × (transfer M a b ≡ some t)
+pub leads-some : (M : Mealy) → Proper M → (a b : ℕ) → a < M .n → (u : List ℕ) → Leads M a b u
+    → (t : List ℕ) × (transfer M a b ≡ some t)
 unfolding transfer
 leads-some M p a b l u h =
     let v = leads-short M a b p l (length u) u (omega arith) h in
@@ -142,7 +173,8 @@ leads-some M p a b l u h =
     some-first (M .n) (λ m. firstPath M b m a) (length (v .0)) (v .1) (r .1)
 
 -- where there is no transfer no string leads
-pub none-leads : (M : Mealy) → Proper M → (a b : ℕ) → a < M .n → transfer M a b ≡ none → (u : List ℕ) → Leads M a b u → ⊥
+pub none-leads : (M : Mealy) → Proper M → (a b : ℕ) → a < M .n → transfer M a b ≡ none → (u : List ℕ)
+    → Leads M a b u → ⊥
 none-leads M p a b l e u h = some-none (leads-some M p a b l u h .1) e
 
 -- where no string leads there is no transfer
@@ -154,7 +186,8 @@ leads-none M a b h = go (seen (transfer M a b))
     go (string t e) = absurd (h t (path-leads M b (length t) a (transfer-path M a b e .found)))
 
 -- and a transfer is the one that is computed
-pub is-transfer : (M : Mealy) → Proper M → (a b : ℕ) → a < M .n → {t : List ℕ} → IsTransfer M a b t → transfer M a b ≡ some t
+pub is-transfer : (M : Mealy) → Proper M → (a b : ℕ) → a < M .n → {t : List ℕ} → IsTransfer M a b t
+    → transfer M a b ≡ some t
 is-transfer M p a b l {t} h =
     let r = leads-some M p a b l t (h .leads) in
     let k = transfer-is M p a b l (r .1) in

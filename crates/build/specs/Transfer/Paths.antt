@@ -3,7 +3,8 @@ use Prim.Native.Nat.{ℕ, zero, suc, _≤_, _<_}
 use mathlib.Core.Path.{_≡_, refl, sym, ap, _∙_}
 use mathlib.Core.Bool.{Bool, true, false, _&&_}
 use mathlib.Core.List.{List, [], _∷_}
-use mathlib.Core.Option.{Option, none, some, Option·map, Option·some-ne-none, mem-unique, map-eq-none-iff, map-eq-some-iff, orElse}
+use mathlib.Core.Option.{Option, none, some, Option·map, Option·some-ne-none, mem-unique, map-eq-none-iff}
+use mathlib.Core.Option.{map-eq-some-iff, orElse}
 use native.Mathlib.Omega.{arith}
 use lib.Dec.{ltb, eqb}
 use lib.ListN.{length, getD}
@@ -39,9 +40,11 @@ pub data First (n : ℕ) (f : ℕ → Option (List ℕ)) (o : Option (List ℕ))
   nowhere : ((i : ℕ) → i < n → f i ≡ none) → o ≡ none → First n f o
   at : (m : ℕ) (t : List ℕ) → m < n → f m ≡ some t → ((i : ℕ) → i < m → f i ≡ none) → o ≡ some t → First n f o
 
-first-step : (n : ℕ) (f : ℕ → Option (List ℕ)) (o : Option (List ℕ)) → First n f o → Seen (f n) → First (suc n) f (orElse o (f n))
+first-step : (n : ℕ) (f : ℕ → Option (List ℕ)) (o : Option (List ℕ)) → First n f o → Seen (f n)
+    → First (suc n) f (orElse o (f n))
 unfolding orElse
-first-step n f o (nowhere h e) (nothing p) = nowhere (λ i l. below-more (λ j. f j ≡ none) n h p i (omega arith)) (rw e p)
+first-step n f o (nowhere h e) (nothing p) =
+    nowhere (λ i l. below-more (λ j. f j ≡ none) n h p i (omega arith)) (rw e p)
 first-step n f o (nowhere h e) (string t p) = at n t (omega arith) p h (rw e p)
 first-step n f o (at m t l e h q) s = at m t (omega arith) e h (rw q)
 
@@ -160,22 +163,32 @@ module _ (M : Mealy) (b : ℕ) where
       }
 
   -- a command before a path of m commands gives a path of m + 1 commands
-  pub some-path : (m a c : ℕ) {u : List ℕ} → a < M .n → c < M .k → firstPath M b m (M .next a c) ≡ some u → Some (firstPath M b (suc m) a)
+  pub some-path : (m a c : ℕ) {u : List ℕ} → a < M .n → c < M .k → firstPath M b m (M .next a c) ≡ some u
+      → Some (firstPath M b (suc m) a)
   unfolding firstPath
   some-path m a c {u} l k e =
-      let r = some-first (M .k) (λ c. Option·map (_∷_ c) (firstPath M b m (M .next a c))) c k (ap (Option·map (_∷_ c)) e) in
-      (r .0, guard-true (firstOf (M .k) (λ c. Option·map (_∷_ c) (firstPath M b m (M .next a c)))) (lt-ltb a (M .n) l) ∙ r .1)
+      let r =
+      some-first (M .k) (λ c. Option·map (_∷_ c) (firstPath M b m (M .next a c))) c k (ap (Option·map (_∷_ c)) e) in (
+        r .0,
+        guard-true (firstOf (M .k) (λ c. Option·map (_∷_ c) (firstPath M b m (M .next a c)))) (lt-ltb a (M .n) l)
+            ∙ r .1,
+      )
 
   -- where no command has a path of m commands behind it there is none of m + 1 commands
-  pub none-path : (m a : ℕ) → ((c : ℕ) → c < M .k → firstPath M b m (M .next a c) ≡ none) → firstPath M b (suc m) a ≡ none
+  pub none-path : (m a : ℕ) → ((c : ℕ) → c < M .k → firstPath M b m (M .next a c) ≡ none)
+      → firstPath M b (suc m) a ≡ none
   unfolding firstPath
-  none-path m a h = guard-none (ltb a (M .n)) (none-first (M .k) (λ c. Option·map (_∷_ c) (firstPath M b m (M .next a c))) (λ c k. ap (Option·map (_∷_ c)) (h c k)))
+  none-path m a h =
+      guard-none (ltb a (M .n))
+      (none-first (M .k) (λ c. Option·map (_∷_ c) (firstPath M b m (M .next a c)))
+      (λ c k. ap (Option·map (_∷_ c)) (h c k)))
 
   -- what is no state has no path
   pub path-outside : (m a : ℕ) → M .n ≤ a → firstPath M b m a ≡ none
   unfolding firstPath
   path-outside zero a l = guard-false (some []) (rw (le-ltb a (M .n) l))
-  path-outside (suc m) a l = guard-false (firstOf (M .k) (λ c. Option·map (_∷_ c) (firstPath M b m (M .next a c)))) (le-ltb a (M .n) l)
+  path-outside (suc m) a l =
+      guard-false (firstOf (M .k) (λ c. Option·map (_∷_ c) (firstPath M b m (M .next a c)))) (le-ltb a (M .n) l)
 
   -- a path starts at a state
   pub path-inside : (m a : ℕ) {t : List ℕ} → firstPath M b m a ≡ some t → a < M .n
@@ -185,7 +198,9 @@ module _ (M : Mealy) (b : ℕ) where
   -- a path has its length
   pub path-length : (m a : ℕ) {t : List ℕ} → firstPath M b m a ≡ some t → length t ≡ m
   path-length zero a e = ap length (path-zero a e .2)
-  path-length (suc m) a e = let s = path-step m a e in ap length (s .string) ∙ ap suc (path-length m (M .next a (s .command)) (s .found))
+  path-length (suc m) a e =
+      let s = path-step m a e in
+      ap length (s .string) ∙ ap suc (path-length m (M .next a (s .command)) (s .found))
 
   -- ---- strings that lead to b
   -- the empty string leads from b
@@ -206,7 +221,10 @@ module _ (M : Mealy) (b : ℕ) where
 
   -- and the rest leads on
   pub leads-rest : (a c : ℕ) (u : List ℕ) → Leads M a b (c ∷ u) → Leads M (M .next a c) b u
-  leads-rest a c u h = record { commands = λ i l. h .commands (suc i) (omega arith); ends = sym (run-cons M a c u) ∙ h .ends }
+  leads-rest a c u h = record {
+    commands = λ i l. h .commands (suc i) (omega arith);
+    ends = sym (run-cons M a c u) ∙ h .ends;
+  }
 
   -- a path leads to b
   pub path-leads : (m a : ℕ) {t : List ℕ} → firstPath M b m a ≡ some t → Leads M a b t

@@ -1,5 +1,5 @@
--- The values of certifying's answer are small: places of refusals lie inside the longest sheet, counts at most N+1, open numbers at most n·k. So the
--- capture rig's number holds each of them in its own bits.
+-- The values of certifying's answer are small: places of refusals lie inside the longest sheet, counts at most N+1,
+-- open numbers at most n·k. So the capture rig's number holds each of them in its own bits.
 use Prim.Native.Nat.{ℕ, _+_, _≤_}
 use mathlib.Core.Path.{_≡_, refl}
 use mathlib.Core.Bool.{Bool, false}
@@ -25,23 +25,29 @@ use Rattle.certify.specs.Recognition.Laws.{open-small}
 use Rattle.certify.specs.Marks.{marks}
 use Rattle.certify.specs.Marks.Laws.{count-most}
 use Rattle.certify.specs.Marks.Agreement.{marks-length}
-use Rattle.certify.specs.Certification.{sequenceNeeds, cause7, cause9, markBytes, sequenceCauses, certifyCauses, certification, valuesOf}
+use Rattle.certify.specs.Certification.{sequenceNeeds, cause7, cause9, markBytes, sequenceCauses, certifyCauses}
+use Rattle.certify.specs.Certification.{certification, valuesOf}
 use Rattle.certify.specs.Certification.Laws.{room-refused, sequence-causes-are, load-clear, sequence-commands}
 use Rattle.certify.specs.Certification.Contract.{number-is, certification-says}
 
 -- ---- refusals
 -- of causes 1 to 7 and 9, for a service that certifies, whether it needs the answers or not
-pub sequence-small : (answers : Bool) (room : ℕ) (s : List ℕ) → WhereRefused Small (firstCause (sequenceCauses answers room s))
+pub sequence-small : (answers : Bool) (room : ℕ) (s : List ℕ)
+    → WhereRefused Small (firstCause (sequenceCauses answers room s))
 sequence-small answers room s =
     let xs = content 3 s in
     let needs = sequenceNeeds answers in
     place-of Small (sequence-causes-are answers room s)
-    (place-else Small (firstCause (loadCauses needs s)) (cause7 (machineIn s .k) (recordOf 3 s) xs else cause9 room (markBytes xs)) (load-small needs s)
+    (place-else Small (firstCause (loadCauses needs s))
+    (cause7 (machineIn s .k) (recordOf 3 s) xs else cause9 room (markBytes xs)) (load-small needs s)
     (λ q. place-else Small (cause7 (machineIn s .k) (recordOf 3 s) xs) (cause9 room (markBytes xs))
     (commands-small s (load-short needs s q) 7 mostSequence (machineIn s .k) 3 (omega arith))
     (λ t n p e.
     let h = room-refused room (markBytes xs) e in
-    record { number = omega (arith, h .0); place = omega (arith, h .1 .0, clear-commands 7 mostSequence (machineIn s .k) (recordOf 3 s) xs t .few) })))
+    record {
+      number = omega (arith, h .0);
+      place = omega (arith, h .1 .0, clear-commands 7 mostSequence (machineIn s .k) (recordOf 3 s) xs t .few);
+    })))
 
 -- ---- results, where nothing is refused
 -- the recognised places are at most N+1
@@ -52,8 +58,10 @@ number-small M w xs h = omega (arith, number-is M w xs h, count-most (marks M w 
 pub certification-fits : (room : ℕ) (s : List ℕ) → Fits (valuesOf (certification room s))
 certification-fits room s = go (certification room s) refl
   where
-    few : {n : ℕ} → firstCause (certifyCauses room s) ≡ Clear → RecognisedNumber (machineIn s) (content 2 s) (content 3 s) n → n ≤ mostSequence + 1
-    few e h = omega (arith, number-small (machineIn s) (content 2 s) (content 3 s) h, sequence-commands false room s e .few)
+    few : {n : ℕ} → firstCause (certifyCauses room s) ≡ Clear
+        → RecognisedNumber (machineIn s) (content 2 s) (content 3 s) n → n ≤ mostSequence + 1
+    few e h =
+        omega (arith, number-small (machineIn s) (content 2 s) (content 3 s) h, sequence-commands false room s e .few)
 
     go : (x : Answer) → certification room s ≡ x → Fits (valuesOf (certification room s))
     go (Certified n) e =
@@ -65,7 +73,15 @@ certification-fits room s = go (certification room s) refl
         rw e (record {
           place = omega (arith, few (h .clear) (h .number));
           a = omega arith;
-          b = omega (arith, open-small (machineIn s) (content 2 s) (content 3 s) v (h .open-number), proper-entries (machineIn s) proper);
+          b = omega (
+            arith,
+            open-small (machineIn s) (content 2 s) (content 3 s) v (h .open-number),
+            proper-entries (machineIn s) proper,
+          );
         })
     go (RefusedAnswer n p) e =
-        rw e (record { place = omega (arith, sequence-small false room s n p (certification-says room s .refused n p .0 e) .place); a = omega arith; b = omega arith })
+        rw e (record {
+          place = omega (arith, sequence-small false room s n p (certification-says room s .refused n p .0 e) .place);
+          a = omega arith;
+          b = omega arith;
+        })

@@ -16,13 +16,18 @@ use Rattle.sheet.specs.Reader.{content}
 use Rattle.machine.specs.Machine.{Mealy, stateAt}
 use Rattle.machine.specs.Causes.{machineIn}
 use Rattle.certify.specs.declared.answer.Answer.{Answer}
-use Rattle.certify.specs.declared.answer.Answer.the-variants.{Certified as CertifiedAnswer, Open, Refused as RefusedAnswer}
+use Rattle.certify.specs.declared.answer.Answer.the-variants.{Certified as CertifiedAnswer, Open}
+use Rattle.certify.specs.declared.answer.Answer.the-variants.{Refused as RefusedAnswer}
 use Rattle.certify.specs.Recognition.{OccursAt, MarksOf, RecognisedNumber}
 use Rattle.certify.specs.Recognition.Laws.{closure-recognised, recognised-closure}
 use Rattle.certify.specs.Marks.{count, marks}
-use Rattle.certify.specs.Marks.Agreement.{Exact, marks-unique, marks-length, marks-bits, marked-recognised, recognised-marked}
-use Rattle.certify.specs.Certification.{markBytes, certifyCauses, openIn, answerOf, outcome, certification, kept, marksAfter, keptIn, valuesOf, CertifiedWith, OpenWith, Says, Certifies}
-use Rattle.certify.specs.Certification.Laws.{clear-certified, certified-clear, refused-open, open-refused, outcome-clear, outcome-open, certification-refused, certification-clear, after-refused, after-clear}
+use Rattle.certify.specs.Marks.Agreement.{Exact, marks-unique, marks-length, marks-bits, marked-recognised}
+use Rattle.certify.specs.Marks.Agreement.{recognised-marked}
+use Rattle.certify.specs.Certification.{markBytes, certifyCauses, openIn, answerOf, outcome, certification, kept}
+use Rattle.certify.specs.Certification.{marksAfter, keptIn, valuesOf, CertifiedWith, OpenWith, Says, Certifies}
+use Rattle.certify.specs.Certification.Laws.{clear-certified, certified-clear, refused-open, open-refused}
+use Rattle.certify.specs.Certification.Laws.{outcome-clear, outcome-open, certification-refused}
+use Rattle.certify.specs.Certification.Laws.{certification-clear, after-refused, after-clear}
 
 -- ---- the marks and their number, as the rules say them
 bit-not-one : (n : ℕ) → n ≤ 1 → (n ≡ 1 → ⊥) → n ≡ 0
@@ -58,12 +63,14 @@ module _ (M : Mealy) (w xs : List ℕ) where
   number-is h = h .number ∙ ap count (marks-unique M w xs (h .marks) (of-exact (h .marks) (h .are)))
 
 -- ---- what an answer says
-certified-by : (c d : Check) (m n : ℕ) → refusedOr RefusedAnswer c (answerOf d m) ≡ CertifiedAnswer n → (c ≡ Clear) × ((d ≡ Clear) × (n ≡ m))
+certified-by : (c d : Check) (m n : ℕ) → refusedOr RefusedAnswer c (answerOf d m) ≡ CertifiedAnswer n
+    → (c ≡ Clear) × ((d ≡ Clear) × (n ≡ m))
 certified-by Clear Clear m n e = (refl, (refl, cc))
 certified-by Clear (Refused a b) m n e = let z : _≡_ {A = ℕ} 0 1 = cc in absurd (omega arith)
 certified-by (Refused a b) d m n e = let z : _≡_ {A = ℕ} 0 1 = cc in absurd (omega arith)
 
-open-by : (c d : Check) (m n v : ℕ) → refusedOr RefusedAnswer c (answerOf d m) ≡ Open n v → (c ≡ Clear) × (((a : ℕ) × (d ≡ Refused a v)) × (n ≡ m))
+open-by : (c d : Check) (m n v : ℕ) → refusedOr RefusedAnswer c (answerOf d m) ≡ Open n v
+    → (c ≡ Clear) × (((a : ℕ) × (d ≡ Refused a v)) × (n ≡ m))
 open-by Clear Clear m n v e = let z : _≡_ {A = ℕ} 0 1 = cc in absurd (omega arith)
 open-by Clear (Refused a b) m n v e = (refl, ((a, cc), cc))
 open-by (Refused a b) d m n v e = let z : _≡_ {A = ℕ} 0 1 = cc in absurd (omega arith)
@@ -113,7 +120,8 @@ module _ (room : ℕ) (s : List ℕ) where
       certification-clear room s (h .clear) ∙ outcome-open M w xs (open-refused M w xs (h .open-number))
       ∙ ap (λ (m : ℕ). Open m v) (sym (number-is M w xs (h .number)))
 
-  answer-refused : (n p : ℕ) → certification room s ≡ RefusedAnswer n p → firstCause (certifyCauses room s) ≡ Refused n p
+  answer-refused : (n p : ℕ) → certification room s ≡ RefusedAnswer n p
+      → firstCause (certifyCauses room s) ≡ Refused n p
   unfolding certification outcome
   answer-refused n p e = refused-by (firstCause (certifyCauses room s)) (openIn M w xs) _ n p e
 
@@ -128,7 +136,9 @@ module _ (room : ℕ) (s : List ℕ) where
 module _ (M : Mealy) (w xs buffer : List ℕ) where
   kept-marked : MarksOf M w xs (keptIn xs (kept (marks M w xs) buffer))
   unfolding kept keptIn
-  kept-marked = rw (← marks-length M w xs, take-append-seam (marks M w xs) (drop (length (marks M w xs)) buffer)) (marks-of M w xs)
+  kept-marked =
+      rw (← marks-length M w xs, take-append-seam (marks M w xs) (drop (length (marks M w xs)) buffer))
+      (marks-of M w xs)
 
   kept-later : drop (markBytes xs) (kept (marks M w xs) buffer) ≡ drop (markBytes xs) buffer
   unfolding kept
@@ -155,5 +165,6 @@ module _ (s before : List ℕ) where
   }
 
   -- the two equations show the whole contract
-  pub certifies : {after : List ℕ} {a : Answer} → a ≡ certification (length before) s → after ≡ marksAfter s before → Certifies s before after a
+  pub certifies : {after : List ℕ} {a : Answer} → a ≡ certification (length before) s → after ≡ marksAfter s before
+      → Certifies s before after a
   certifies ae fe = rw (ae, fe) holds

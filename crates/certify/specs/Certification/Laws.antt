@@ -1,4 +1,5 @@
--- The laws of certifying: certified and open by the computed cause, in both directions, its answer and buffer by the first cause, and the causes.
+-- The laws of certifying: certified and open by the computed cause, in both directions, its answer and buffer by the
+-- first cause, and the causes.
 use Prim.Native.Nat.{ℕ, _+_, _*_, _≤_, _<_}
 use mathlib.Core.Path.{_≡_, refl, sym, ap, ap₂, _∙_}
 use mathlib.Core.Bool.{Bool, true, false, true≢false, not}
@@ -10,7 +11,9 @@ use Rattle.sheet.specs.Tests.{both-true}
 use Rattle.sheet.specs.declared.check.Check.{Check}
 use Rattle.sheet.specs.declared.check.Check.the-variants.{Clear, Refused}
 use Rattle.sheet.specs.Check.{refusal_with_if_, _else_, firstCause, first}
-use Rattle.sheet.specs.Check.Laws.{cause-two, cause-append, absent, present, clear-absent, both-clear, else-clear, else-refused, first-clear, first-clear-at, first-found, Present, first-present, present-test}
+use Rattle.sheet.specs.Check.Laws.{cause-two, cause-append, absent, present, clear-absent, both-clear, else-clear}
+use Rattle.sheet.specs.Check.Laws.{else-refused, first-clear, first-clear-at, first-found, Present, first-present}
+use Rattle.sheet.specs.Check.Laws.{present-test}
 use Rattle.sheet.specs.Reader.{recordOf, content}
 use Rattle.sheet.specs.Writing.{written}
 use Rattle.machine.specs.Limits.{mostSequence}
@@ -18,12 +21,15 @@ use Rattle.machine.specs.Machine.{Mealy, stateAt, Commands}
 use Rattle.machine.specs.Causes.{machineIn, loadCauses}
 use Rattle.machine.specs.Causes.Laws.{clear-commands}
 use Rattle.machine.specs.Causes.Lists.{load-without-answers}
-use Rattle.certify.specs.declared.answer.Answer.the-variants.{Certified as CertifiedAnswer, Open, Refused as RefusedAnswer}
+use Rattle.certify.specs.declared.answer.Answer.the-variants.{Certified as CertifiedAnswer, Open}
+use Rattle.certify.specs.declared.answer.Answer.the-variants.{Refused as RefusedAnswer}
 use Rattle.certify.specs.Recognition.{Recognised, Verified, Certified, OpenNumber, start-open, entry-open}
 use Rattle.certify.specs.Marks.{marked, count, marks}
 use Rattle.certify.specs.Marks.Laws.{any-found, any-holds, marked-true, true-marked}
 use Rattle.certify.specs.Marks.Agreement.{marked-recognised, recognised-marked}
-use Rattle.certify.specs.Certification.{sequenceNeeds, cause7, cause9, markBytes, sequenceCauses, certifyCauses, verified, entryCause, openCause, openIn, answerOf, outcome, certification, kept, marksAfter}
+use Rattle.certify.specs.Certification.{sequenceNeeds, cause7, cause9, markBytes, sequenceCauses, certifyCauses}
+use Rattle.certify.specs.Certification.{verified, entryCause, openCause, openIn, answerOf, outcome, certification}
+use Rattle.certify.specs.Certification.{kept, marksAfter}
 
 -- ---- verified entries, by any marks
 -- an entry verified by marks, with its place
@@ -89,14 +95,17 @@ module _ (M : Mealy) (w xs : List ℕ) where
       record {
         start = marked-recognised M w xs 0 (marked-true (marks M w xs) 0 (not-false _ (clear-absent 11 0 _ (h .0))));
         entries = λ s c ls lc.
-            verified-true s c (not-false _ (clear-absent 11 _ _ (first-clear-at (M .k) c _ (first-clear-at (M .n) s _ (h .1) ls) lc)));
+            verified-true s c
+            (not-false _ (clear-absent 11 _ _ (first-clear-at (M .k) c _ (first-clear-at (M .n) s _ (h .1) ls) lc)));
       }
 
   pub certified-clear : Certified M w xs → openIn M w xs ≡ Clear
   unfolding openIn openCause
   certified-clear h =
       rw (absent 11 0 (ap not (true-marked (marks M w xs) 0 (recognised-marked M w xs 0 (h .start)))))
-      (else-clear _ ∙ first-clear (M .n) _ (λ s ls. first-clear (M .k) _ (λ c lc. absent 11 _ (ap not (true-verified s c (h .entries s c ls lc))))))
+      (else-clear _
+      ∙ first-clear (M .n) _
+      (λ s ls. first-clear (M .k) _ (λ c lc. absent 11 _ (ap not (true-verified s c (h .entries s c ls lc))))))
 
 -- ---- the open number
 module _ (M : Mealy) (w xs : List ℕ) where
@@ -112,26 +121,31 @@ module _ (M : Mealy) (w xs : List ℕ) where
   in-row s ls r before h =
       let t = present-test 11 _ _ (h .here) in (
         t .1 .0,
-        entry-open s (h .place) ls (h .inside) r (λ v. true≢false (sym (true-verified M w xs s (h .place) v) ∙ not-true _ (t .0))) before
+        entry-open s (h .place) ls (h .inside) r
+            (λ v. true≢false (sym (true-verified M w xs s (h .place) v) ∙ not-true _ (t .0))) before
             (λ d l. clear-verified s d (first-clear-at (h .place) d (entry s) (h .before) l)) (t .1 .1),
       )
 
-  in-rows : Recognised M w xs 0 → {a v : ℕ} → Present (M .n) (λ s. first (M .k) (entry s)) a v → (a ≡ 11) × OpenNumber M w xs v
+  in-rows : Recognised M w xs 0 → {a v : ℕ} → Present (M .n) (λ s. first (M .k) (entry s)) a v
+      → (a ≡ 11) × OpenNumber M w xs v
   in-rows r h =
       in-row (h .place) (h .inside) r
-      (λ t d lt ld. clear-verified t d (first-clear-at (M .k) d (entry t) (first-clear-at (h .place) t (λ s. first (M .k) (entry s)) (h .before) lt) ld))
+      (λ t d lt ld. clear-verified t d
+      (first-clear-at (M .k) d (entry t) (first-clear-at (h .place) t (λ s. first (M .k) (entry s)) (h .before) lt) ld))
       (first-present (M .k) (entry (h .place)) (h .here))
 
   rows : Check
   rows = first (M .n) (λ s. first (M .k) (entry s))
 
-  open-by : (b : Bool) → marked (marks M w xs) 0 ≡ b → {a v : ℕ} → ((refusal 11 with 0 if not b) else rows) ≡ Refused a v → (a ≡ 11) × OpenNumber M w xs v
+  open-by : (b : Bool) → marked (marks M w xs) 0 ≡ b → {a v : ℕ}
+      → ((refusal 11 with 0 if not b) else rows) ≡ Refused a v → (a ≡ 11) × OpenNumber M w xs v
   unfolding rows
   open-by true m {a} {v} e =
       let on : rows ≡ Refused a v = sym (ap (λ (c : Check). c else rows) (absent 11 0 refl) ∙ else-clear rows) ∙ e in
       in-rows (marked-recognised M w xs 0 (marked-true (marks M w xs) 0 m)) (first-present (M .n) _ on)
   open-by false m {a} {v} e =
-      let zero : Refused 11 0 ≡ Refused a v = sym (ap (λ (c : Check). c else rows) (present 11 0 refl) ∙ else-refused 11 0 rows) ∙ e in
+      let zero : Refused 11 0 ≡ Refused a v =
+      sym (ap (λ (c : Check). c else rows) (present 11 0 refl) ∙ else-refused 11 0 rows) ∙ e in
       (cc, start-open (λ r. true≢false (sym (true-marked (marks M w xs) 0 (recognised-marked M w xs 0 r)) ∙ m)) (cc))
 
   pub refused-open : {a v : ℕ} → openIn M w xs ≡ Refused a v → (a ≡ 11) × OpenNumber M w xs v
@@ -143,7 +157,8 @@ module _ (M : Mealy) (w xs : List ℕ) where
   unmarked true e h = absurd (h (marked-recognised M w xs 0 (marked-true (marks M w xs) 0 e)))
   unmarked false e h = e
 
-  unverified : (s c : ℕ) (b : Bool) → verified M xs (marks M w xs) s c ≡ b → (Verified M w xs s c → ⊥) → verified M xs (marks M w xs) s c ≡ false
+  unverified : (s c : ℕ) (b : Bool) → verified M xs (marks M w xs) s c ≡ b → (Verified M w xs s c → ⊥)
+      → verified M xs (marks M w xs) s c ≡ false
   unverified s c true e h = absurd (h (verified-true M w xs s c e))
   unverified s c false e h = e
 
@@ -153,37 +168,47 @@ module _ (M : Mealy) (w xs : List ℕ) where
   entry-refused : (s c : ℕ) → (Verified M w xs s c → ⊥) → entry s c ≡ Refused 11 (1 + (s * M .k + c))
   entry-refused s c h = present 11 _ (ap not (unverified s c _ refl h))
 
-  rows-refused : (s c : ℕ) → s < M .n → c < M .k → (Verified M w xs s c → ⊥) → ((t d : ℕ) → t < s → d < M .k → Verified M w xs t d)
-      → ((d : ℕ) → d < c → Verified M w xs s d) → rows ≡ Refused 11 (1 + (s * M .k + c))
+  rows-refused : (s c : ℕ) → s < M .n → c < M .k → (Verified M w xs s c → ⊥)
+      → ((t d : ℕ) → t < s → d < M .k → Verified M w xs t d) → ((d : ℕ) → d < c → Verified M w xs s d)
+      → rows ≡ Refused 11 (1 + (s * M .k + c))
   unfolding rows
   rows-refused s c ls lc h before row =
-      first-found (M .n) s (λ t. first (M .k) (entry t)) ls (first-clear s _ (λ t lt. first-clear (M .k) (entry t) (λ d ld. verified-clear t d (before t d lt ld))))
-      (first-found (M .k) c (entry s) lc (first-clear c (entry s) (λ d ld. verified-clear s d (row d ld))) (entry-refused s c h))
+      first-found (M .n) s (λ t. first (M .k) (entry t)) ls
+      (first-clear s _ (λ t lt. first-clear (M .k) (entry t) (λ d ld. verified-clear t d (before t d lt ld))))
+      (first-found (M .k) c (entry s) lc (first-clear c (entry s) (λ d ld. verified-clear s d (row d ld)))
+      (entry-refused s c h))
 
   pub open-refused : {v : ℕ} → OpenNumber M w xs v → openIn M w xs ≡ Refused 11 v
   unfolding openIn openCause rows
   open-refused (start-open h e) =
-      ap (λ (c : Check). c else rows) (present 11 0 (ap not (unmarked _ refl h))) ∙ else-refused 11 0 rows ∙ ap (Refused 11) (sym e)
+      ap (λ (c : Check). c else rows) (present 11 0 (ap not (unmarked _ refl h)))
+      ∙ else-refused 11 0 rows
+      ∙ ap (Refused 11) (sym e)
   open-refused (entry-open s c ls lc r h before row e) =
-      ap (λ (d : Check). d else rows) (absent 11 0 (ap not (true-marked (marks M w xs) 0 (recognised-marked M w xs 0 r))))
+      ap (λ (d : Check). d else rows)
+      (absent 11 0 (ap not (true-marked (marks M w xs) 0 (recognised-marked M w xs 0 r))))
       ∙ else-clear rows ∙ rows-refused s c ls lc h before row ∙ ap (Refused 11) (sym e)
 
 -- ---- the outcome
 -- the outcome, once the marks are known
-pub outcome-of : (M : Mealy) (w xs : List ℕ) {ms : List ℕ} → marks M w xs ≡ ms → outcome M w xs ≡ answerOf (openCause M xs ms) (count ms)
+pub outcome-of : (M : Mealy) (w xs : List ℕ) {ms : List ℕ} → marks M w xs ≡ ms
+    → outcome M w xs ≡ answerOf (openCause M xs ms) (count ms)
 unfolding outcome openIn
 outcome-of M w xs e = ap (λ (ms : List ℕ). answerOf (openCause M xs ms) (count ms)) e
 
-pub outcome-clear : (M : Mealy) (w xs : List ℕ) → openIn M w xs ≡ Clear → outcome M w xs ≡ CertifiedAnswer (count (marks M w xs))
+pub outcome-clear : (M : Mealy) (w xs : List ℕ) → openIn M w xs ≡ Clear
+    → outcome M w xs ≡ CertifiedAnswer (count (marks M w xs))
 unfolding outcome
 outcome-clear M w xs e = rw e
 
-pub outcome-open : (M : Mealy) (w xs : List ℕ) {a v : ℕ} → openIn M w xs ≡ Refused a v → outcome M w xs ≡ Open (count (marks M w xs)) v
+pub outcome-open : (M : Mealy) (w xs : List ℕ) {a v : ℕ} → openIn M w xs ≡ Refused a v
+    → outcome M w xs ≡ Open (count (marks M w xs)) v
 unfolding outcome
 outcome-open M w xs e = rw e
 
 -- ---- the service's answer and buffer, by the first cause
-pub certification-refused : (room : ℕ) (s : List ℕ) {n p : ℕ} → firstCause (certifyCauses room s) ≡ Refused n p → certification room s ≡ RefusedAnswer n p
+pub certification-refused : (room : ℕ) (s : List ℕ) {n p : ℕ} → firstCause (certifyCauses room s) ≡ Refused n p
+    → certification room s ≡ RefusedAnswer n p
 unfolding certification
 certification-refused room s e = rw e
 
@@ -192,7 +217,8 @@ pub certification-clear : (room : ℕ) (s : List ℕ) → firstCause (certifyCau
 unfolding certification
 certification-clear room s e = rw e
 
-pub after-refused : (s buffer : List ℕ) {n p : ℕ} → firstCause (certifyCauses (length buffer) s) ≡ Refused n p → marksAfter s buffer ≡ buffer
+pub after-refused : (s buffer : List ℕ) {n p : ℕ} → firstCause (certifyCauses (length buffer) s) ≡ Refused n p
+    → marksAfter s buffer ≡ buffer
 unfolding marksAfter
 after-refused s buffer e = rw e
 
@@ -215,12 +241,16 @@ pub clear-room : (room bytes : ℕ) → cause9 room bytes ≡ Clear → bytes �
 unfolding cause9
 clear-room room bytes e = ltb-false room bytes (clear-absent 9 bytes (ltb room bytes) e)
 
-pub room-refused : (room bytes : ℕ) {a b : ℕ} → cause9 room bytes ≡ Refused a b → (a ≡ 9) × ((b ≡ bytes) × (room < bytes))
+pub room-refused : (room bytes : ℕ) {a b : ℕ} → cause9 room bytes ≡ Refused a b
+    → (a ≡ 9) × ((b ≡ bytes) × (room < bytes))
 unfolding cause9
-room-refused room bytes e = let t = present-test 9 bytes (ltb room bytes) e in (t .1 .0, (t .1 .1, ltb-true room bytes (t .0)))
+room-refused room bytes e =
+    let t = present-test 9 bytes (ltb room bytes) e in
+    (t .1 .0, (t .1 .1, ltb-true room bytes (t .0)))
 
 pub sequence-causes-are : (answers : Bool) (room : ℕ) (s : List ℕ) → firstCause (sequenceCauses answers room s)
-    ≡ (firstCause (loadCauses (sequenceNeeds answers) s) else (cause7 (machineIn s .k) (recordOf 3 s) (content 3 s) else cause9 room (markBytes (content 3 s))))
+    ≡ (firstCause (loadCauses (sequenceNeeds answers) s)
+    else (cause7 (machineIn s .k) (recordOf 3 s) (content 3 s) else cause9 room (markBytes (content 3 s))))
 unfolding sequenceCauses
 sequence-causes-are answers room s =
     let seven = cause7 (machineIn s .k) (recordOf 3 s) (content 3 s) in
@@ -237,13 +267,15 @@ module _ (answers : Bool) (room : ℕ) (s : List ℕ) (e : firstCause (sequenceC
   load-clear = both-parts .0
 
   pub sequence-commands : Commands mostSequence (machineIn s .k) (content 3 s)
-  sequence-commands = clear-commands 7 mostSequence (machineIn s .k) (recordOf 3 s) (content 3 s) (both-clear _ _ (both-parts .1) .0)
+  sequence-commands =
+      clear-commands 7 mostSequence (machineIn s .k) (recordOf 3 s) (content 3 s) (both-clear _ _ (both-parts .1) .0)
 
   pub room-enough : markBytes (content 3 s) ≤ room
   room-enough = clear-room _ _ (both-clear _ _ (both-parts .1) .1)
 
 -- certifying refuses no sheet that a service which needs the answers takes
-pub certify-without-answers : (room : ℕ) (s : List ℕ) → firstCause (sequenceCauses true room s) ≡ Clear → firstCause (certifyCauses room s) ≡ Clear
+pub certify-without-answers : (room : ℕ) (s : List ℕ) → firstCause (sequenceCauses true room s) ≡ Clear
+    → firstCause (certifyCauses room s) ≡ Clear
 certify-without-answers room s e =
     let h = both-clear _ _ (sym (sequence-causes-are true room s) ∙ e) in
     sequence-causes-are false room s ∙ ap₂ _else_ (load-without-answers true true s (h .0)) (h .1) ∙ else-clear Clear

@@ -1,5 +1,5 @@
--- What the program's own functions need besides: the open number by a table of known entries, and answers and values by their cases. Nothing
--- here has to be believed: the service's contract does not name it.
+-- What the program's own functions need besides: the open number by a table of known entries, and answers and values by
+-- their cases. Nothing here has to be believed: the service's contract does not name it.
 use Prim.Native.Nat.{ℕ, _+_, _*_, _<_}
 use mathlib.Core.Path.{_≡_, sym, ap, _∙_}
 use mathlib.Core.Bool.{Bool, true, false, true≢false, not}
@@ -16,7 +16,8 @@ use Rattle.sheet.specs.Check.Laws.{first-same, first-rows}
 use Rattle.sheet.specs.Values.{refusalValues}
 use Rattle.machine.specs.Machine.{Mealy}
 use Rattle.certify.specs.declared.answer.Answer.{Answer}
-use Rattle.certify.specs.declared.answer.Answer.the-variants.{Certified as CertifiedAnswer, Open, Refused as RefusedAnswer}
+use Rattle.certify.specs.declared.answer.Answer.the-variants.{Certified as CertifiedAnswer, Open}
+use Rattle.certify.specs.declared.answer.Answer.the-variants.{Refused as RefusedAnswer}
 use Rattle.certify.specs.Marks.{marked}
 use Rattle.certify.specs.Certification.{verified, openCause, answerOf, valuesOf}
 
@@ -38,14 +39,17 @@ unfolding openCause
 open-known M xs ms known sound all =
     ap (λ (c : Check). (refusal 11 with 0 if not (marked ms 0)) else c)
     (sym (first-rows (M .n) (M .k) (unknownAt known))
-    ∙ first-same (M .n) _ _ (λ s ls. first-same (M .k) _ _ (λ c lc. ap (λ (b : Bool). refusal 11 with 1 + (s * M .k + c) if b) (test s c ls lc))))
+    ∙ first-same (M .n) _ _
+    (λ s ls. first-same (M .k) _ _
+    (λ c lc. ap (λ (b : Bool). refusal 11 with 1 + (s * M .k + c) if b) (test s c ls lc))))
   where
     test : (s c : ℕ) → s < M .n → c < M .k → eqb (getD known (s * M .k + c) 0) 0 ≡ not (verified M xs ms s c)
     test s c ls lc =
         ⊎-elim (λ (e : verified M xs ms s c ≡ true). ne-eqb _ _ (all s c ls lc e) ∙ sym (ap not e))
         (λ (e : verified M xs ms s c ≡ false).
         ⊎-elim (λ (z : eqb (getD known (s * M .k + c) 0) 0 ≡ true). z ∙ sym (ap not e))
-        (λ (z : eqb (getD known (s * M .k + c) 0) 0 ≡ false). absurd (true≢false (sym (sound s c ls lc (eqb-false _ _ z)) ∙ e)))
+        (λ (z : eqb (getD known (s * M .k + c) 0) 0 ≡ false).
+        absurd (true≢false (sym (sound s c ls lc (eqb-false _ _ z)) ∙ e)))
         (true-or-false (eqb (getD known (s * M .k + c) 0) 0)))
         (true-or-false (verified M xs ms s c))
 
@@ -56,11 +60,14 @@ answer-of-clear n e = rw e
 pub answer-of-open : (n : ℕ) {c : Check} {number place : ℕ} → c ≡ Refused number place → Open n place ≡ answerOf c n
 answer-of-open n e = rw e
 
-pub values-certified : {a : Answer} {n : ℕ} → a ≡ CertifiedAnswer n → record { class = 110; place = n; a = 0; b = 0 } ≡ valuesOf a
+pub values-certified : {a : Answer} {n : ℕ} → a ≡ CertifiedAnswer n
+    → record { class = 110; place = n; a = 0; b = 0 } ≡ valuesOf a
 values-certified e = rw e
 
-pub values-open : {a : Answer} {n number : ℕ} → a ≡ Open n number → record { class = 111; place = n; a = 0; b = number } ≡ valuesOf a
+pub values-open : {a : Answer} {n number : ℕ} → a ≡ Open n number
+    → record { class = 111; place = n; a = 0; b = number } ≡ valuesOf a
 values-open e = rw e
 
-pub values-refused : {a : Answer} {number place : ℕ} → a ≡ RefusedAnswer number place → refusalValues number place ≡ valuesOf a
+pub values-refused : {a : Answer} {number place : ℕ} → a ≡ RefusedAnswer number place
+    → refusalValues number place ≡ valuesOf a
 values-refused e = rw e

@@ -1,5 +1,5 @@
--- The starred sequences (§10.3), of the twin and of a machine of one state, computed from the
--- definitions: what is certified, what is open, and with which numbers. The collection of all starred cases takes them from here.
+-- The starred sequences (§10.3), of the twin and of a machine of one state, computed from the definitions: what is
+-- certified, what is open, and with which numbers. The collection of all starred cases takes them from here.
 use Prim.Native.Nat.{ℕ}
 use mathlib.Core.Path.{_≡_}
 use mathlib.Core.List.{[], _∷_}
@@ -7,7 +7,8 @@ use Rattle.sheet.specs.Check.{refusal_with_if_, _else_, first}
 use Rattle.machine.specs.Machine.{machineOf, stateAt, run}
 use Rattle.certify.specs.declared.answer.Answer.the-variants.{Certified, Open}
 use Rattle.certify.specs.Marks.{any, count}
-use Rattle.certify.specs.Marks.Twin.{twin, single, marks-built, marks-mutual, marks-longer, marks-one, marks-late, marks-three, marks-single-pair, marks-single-short, marks-single-built}
+use Rattle.certify.specs.Marks.Twin.{twin, single, marks-built, marks-mutual, marks-longer, marks-one, marks-late}
+use Rattle.certify.specs.Marks.Twin.{marks-three, marks-single-pair, marks-single-short, marks-single-built}
 use Rattle.certify.specs.Certification.{verified, openCause, outcome}
 use Rattle.certify.specs.Certification.Laws.{outcome-of}
 

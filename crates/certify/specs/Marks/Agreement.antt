@@ -1,4 +1,5 @@
--- The marks are those of the recognised places, and no other list is: the executable definition and the rules agree at every place.
+-- The marks are those of the recognised places, and no other list is: the executable definition and the
+-- rules agree at every place.
 use Prim.Native.Nat.{ℕ, zero, suc, _+_, _-_, _≤_}
 use mathlib.Core.Path.{_≡_, sym, ap, _∙_}
 use mathlib.Core.Bool.{Bool, true, false}
@@ -16,7 +17,9 @@ use Rattle.machine.specs.Causes.Separation.{same-refl, same-equal}
 use Rattle.certify.specs.Recognition.{OccursAt, Closure, rule1, rule2, Recognised}
 use Rattle.certify.specs.Recognition.Laws.{closure-recognised, recognised-closure, recognised-inside}
 use Rattle.certify.specs.Marks.{marksBy, Bits, marked, count, occursAt, byRule2, grown, settled, closure, marks}
-use Rattle.certify.specs.Marks.Laws.{any-found, any-holds, marked-true, true-marked, marked-inside, marks-by-length, marks-by-bits, marks-by-one, marks-by-true, count-most, count-below, count-same}
+use Rattle.certify.specs.Marks.Laws.{any-found, any-holds, marked-true, true-marked, marked-inside}
+use Rattle.certify.specs.Marks.Laws.{marks-by-length, marks-by-bits, marks-by-one, marks-by-true, count-most}
+use Rattle.certify.specs.Marks.Laws.{count-below, count-same}
 
 -- ---- rule 1
 pub occurs-true : (w xs : List ℕ) (p : ℕ) → occursAt w xs p ≡ true → OccursAt w xs p
@@ -31,7 +34,8 @@ true-occurs w xs p h = rw (le-leb _ _ (h .inside), h .commands) (same-refl w)
 
 pub occurs-fails : (w xs : List ℕ) (p : ℕ) → (OccursAt w xs p → ⊥) → false ≡ occursAt w xs p
 occurs-fails w xs p n =
-    ⊎-elim (λ (e : occursAt w xs p ≡ true). absurd (n (occurs-true w xs p e))) (λ (e : occursAt w xs p ≡ false). sym e) (true-or-false (occursAt w xs p))
+    ⊎-elim (λ (e : occursAt w xs p ≡ true). absurd (n (occurs-true w xs p e))) (λ (e : occursAt w xs p ≡ false). sym e)
+    (true-or-false (occursAt w xs p))
 
 -- ---- rule 2
 module _ (xs : List ℕ) (state : ℕ → ℕ) (ms : List ℕ) where
@@ -78,7 +82,13 @@ module _ (xs : List ℕ) (state : ℕ → ℕ) (ms : List ℕ) where
       let e : r - h .q ≡ h .m = omega arith in
       let inside = marked-inside ms (h .p + h .m) (h .end-marked) in
       any-holds _ _ (h .p) (omega (arith, inside)) (any-holds _ _ (h .q) (omega arith) (rw e
-      (rw (true-marked ms (h .p) (h .p-marked), true-marked ms (h .q) (h .q-marked), eq-eqb _ _ (h .states), true-marked ms (h .p + h .m) (h .end-marked), h .commands) (same-refl (take (h .m) (drop (h .q) xs))))))
+      (rw (
+        true-marked ms (h .p) (h .p-marked),
+        true-marked ms (h .q) (h .q-marked),
+        eq-eqb _ _ (h .states),
+        true-marked ms (h .p + h .m) (h .end-marked),
+        h .commands,
+      ) (same-refl (take (h .m) (drop (h .q) xs))))))
 
   grown-length : length (grown xs state ms) ≡ length xs + 1
   unfolding grown
@@ -109,21 +119,25 @@ Stable : List ℕ → (ℕ → ℕ) → List ℕ → Type 0
 Stable xs state ms = (p : ℕ) → getD (grown xs state ms) p 0 ≡ 1 → getD ms p 0 ≡ 1
 
 module _ (xs : List ℕ) (state : ℕ → ℕ) where
-  settled-ends : (f : ℕ) (ms : List ℕ) → eqb (count (grown xs state ms)) (count ms) ≡ true → settled (suc f) xs state ms ≡ ms
+  settled-ends : (f : ℕ) (ms : List ℕ) → eqb (count (grown xs state ms)) (count ms) ≡ true
+      → settled (suc f) xs state ms ≡ ms
   unfolding settled
   settled-ends f ms e = rw (settled, e)
 
-  settled-on : (f : ℕ) (ms : List ℕ) → eqb (count (grown xs state ms)) (count ms) ≡ false → settled (suc f) xs state ms ≡ settled f xs state (grown xs state ms)
+  settled-on : (f : ℕ) (ms : List ℕ) → eqb (count (grown xs state ms)) (count ms) ≡ false
+      → settled (suc f) xs state ms ≡ settled f xs state (grown xs state ms)
   unfolding settled
   settled-on f ms e = rw (settled, e)
 
   -- what holds of a list and goes on to the grown one holds in the end
-  settled-has : (P : List ℕ → Type 0) → ((ms : List ℕ) → P ms → P (grown xs state ms)) → (f : ℕ) (ms : List ℕ) → P ms → P (settled f xs state ms)
+  settled-has : (P : List ℕ → Type 0) → ((ms : List ℕ) → P ms → P (grown xs state ms)) → (f : ℕ) (ms : List ℕ) → P ms
+      → P (settled f xs state ms)
   unfolding settled
   settled-has P on zero ms h = h
   settled-has P on (suc f) ms h =
       ⊎-elim (λ (e : eqb (count (grown xs state ms)) (count ms) ≡ true). rw (settled-ends f ms e) h)
-      (λ (e : eqb (count (grown xs state ms)) (count ms) ≡ false). rw (settled-on f ms e) (settled-has P on f (grown xs state ms) (on ms h)))
+      (λ (e : eqb (count (grown xs state ms)) (count ms) ≡ false).
+      rw (settled-on f ms e) (settled-has P on f (grown xs state ms) (on ms h)))
       (true-or-false (eqb (count (grown xs state ms)) (count ms)))
 
   module _ (ms : List ℕ) (long : length ms ≡ length xs + 1) where
@@ -135,16 +149,19 @@ module _ (xs : List ℕ) (state : ℕ → ℕ) where
     full-stable h = count-same ms (grown xs state ms) (omega (arith, grown-length xs state ms)) grown-above h
 
   -- as many turns as there are places are enough
-  settled-stable : (f : ℕ) (ms : List ℕ) → length ms ≡ length xs + 1 → length xs + 1 ≤ f + count ms → Stable xs state (settled f xs state ms)
+  settled-stable : (f : ℕ) (ms : List ℕ) → length ms ≡ length xs + 1 → length xs + 1 ≤ f + count ms
+      → Stable xs state (settled f xs state ms)
   unfolding settled
-  settled-stable zero ms long enough = full-stable ms long (omega (arith, count-most (grown xs state ms), grown-length xs state ms))
+  settled-stable zero ms long enough =
+      full-stable ms long (omega (arith, count-most (grown xs state ms), grown-length xs state ms))
   settled-stable (suc f) ms long enough =
       ⊎-elim (λ (e : eqb (count (grown xs state ms)) (count ms) ≡ true).
       rw (settled-ends f ms e) (full-stable ms long (omega (arith, eqb-true (count (grown xs state ms)) (count ms) e))))
       (λ (e : eqb (count (grown xs state ms)) (count ms) ≡ false).
       let more = grown-length xs state ms in
       let rise = count-below ms (grown xs state ms) (omega arith) (grown-above ms long) in
-      rw (settled-on f ms e) (settled-stable f (grown xs state ms) more (omega (arith, eqb-false (count (grown xs state ms)) (count ms) e))))
+      rw (settled-on f ms e)
+      (settled-stable f (grown xs state ms) more (omega (arith, eqb-false (count (grown xs state ms)) (count ms) e))))
       (true-or-false (eqb (count (grown xs state ms)) (count ms)))
 
 -- ---- the smallest set, as marks
@@ -156,7 +173,8 @@ pub record Exact (xs : List ℕ) (state : ℕ → ℕ) (Base : ℕ → Type 0) (
   pub complete : (p : ℕ) → p ≤ length xs → Closure xs state Base p → getD ms p 0 ≡ 1
 
 -- the m commands from p are as many as those from q, so that p + m is a place where q + m is
-equal-inside : (xs : List ℕ) (p q m : ℕ) → 1 ≤ m → q + m ≤ length xs → take m (drop p xs) ≡ take m (drop q xs) → p + m ≤ length xs
+equal-inside : (xs : List ℕ) (p q m : ℕ) → 1 ≤ m → q + m ≤ length xs → take m (drop p xs) ≡ take m (drop q xs)
+    → p + m ≤ length xs
 equal-inside xs p q m l i e =
     let a = simp (length-take, length-drop) at (ap length e) in
     omega (arith, a)
@@ -208,9 +226,11 @@ module _ (xs : List ℕ) (state : ℕ → ℕ) (Base : ℕ → Type 0) where
       sound : (p : ℕ) → getD ms p 0 ≡ 1 → Closure xs state Base p
       holds : (p : ℕ) → p ≤ length xs → Base p → getD ms p 0 ≡ 1
 
-    by-rule2-sound : (ms : List ℕ) (r : ℕ) → r ≤ length xs → ((p : ℕ) → getD ms p 0 ≡ 1 → Closure xs state Base p) → ByRule2 xs state ms r → Closure xs state Base r
+    by-rule2-sound : (ms : List ℕ) (r : ℕ) → r ≤ length xs → ((p : ℕ) → getD ms p 0 ≡ 1 → Closure xs state Base p)
+        → ByRule2 xs state ms r → Closure xs state Base r
     by-rule2-sound ms r l h s =
-        rule2 (s .p) (s .q) (s .m) (s .some) (h _ (s .p-marked)) (h _ (s .q-marked)) (s .states) (h _ (s .end-marked)) (omega arith) (s .commands) (s .at)
+        rule2 (s .p) (s .q) (s .m) (s .some) (h _ (s .p-marked)) (h _ (s .q-marked)) (s .states) (h _ (s .end-marked))
+        (omega arith) (s .commands) (s .at)
 
     grows : (ms : List ℕ) → Growing ms → Growing (grown xs state ms)
     grows ms h = record {
@@ -218,7 +238,8 @@ module _ (xs : List ℕ) (state : ℕ → ℕ) (Base : ℕ → Type 0) where
       bits = grown-bits xs state ms;
       sound = λ p e.
           ⊎-elim (h .sound p)
-          (by-rule2-sound ms p (omega (arith, marked-inside (grown xs state ms) p e, grown-length xs state ms)) (h .sound))
+          (by-rule2-sound ms p (omega (arith, marked-inside (grown xs state ms) p e, grown-length xs state ms))
+          (h .sound))
           (grown-from xs state ms p e);
       holds = λ p l b. grown-keeps xs state ms p l (h .holds p l b);
     }

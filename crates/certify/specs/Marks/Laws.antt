@@ -104,11 +104,15 @@ count-append [] b = omega arith
 count-append (m ∷ a) b = omega (arith, count-append a b)
 
 -- of the first places, one by one
-pub count-next : (a : List ℕ) (i : ℕ) → i < length a → count (take (i + 1) a) ≡ count (take i a) + mark (eqb (getD a i 0) 1)
+pub count-next : (a : List ℕ) (i : ℕ) → i < length a
+    → count (take (i + 1) a) ≡ count (take i a) + mark (eqb (getD a i 0) 1)
 unfolding count
 count-next a i l =
-    ap (λ (j : ℕ). count (take j a)) (add-one i) ∙ ap count (take-suc a i 0 l) ∙ count-append (take i a) (getD a i 0 ∷ [])
-    ∙ (let z : count (getD a i 0 ∷ []) ≡ mark (eqb (getD a i 0) 1) = omega arith in ap (λ (n : ℕ). count (take i a) + n) z)
+    ap (λ (j : ℕ). count (take j a)) (add-one i)
+    ∙ ap count (take-suc a i 0 l)
+    ∙ count-append (take i a) (getD a i 0 ∷ [])
+    ∙ (let z : count (getD a i 0 ∷ []) ≡ mark (eqb (getD a i 0) 1) = omega arith in
+    ap (λ (n : ℕ). count (take i a) + n) z)
 
 pub count-none : (a : List ℕ) → count (take 0 a) ≡ 0
 unfolding count
@@ -116,7 +120,8 @@ count-none a = refl
 
 -- of two lists of one length, the second marked wherever the first is
 module _ where
-  shifted : (m : ℕ) (a : List ℕ) (n : ℕ) (b : List ℕ) → ((p : ℕ) → getD (m ∷ a) p 0 ≡ 1 → getD (n ∷ b) p 0 ≡ 1) → (p : ℕ) → getD a p 0 ≡ 1 → getD b p 0 ≡ 1
+  shifted : (m : ℕ) (a : List ℕ) (n : ℕ) (b : List ℕ) → ((p : ℕ) → getD (m ∷ a) p 0 ≡ 1 → getD (n ∷ b) p 0 ≡ 1)
+      → (p : ℕ) → getD a p 0 ≡ 1 → getD b p 0 ≡ 1
   shifted m a n b h p e = h (suc p) e
 
   mark-below : (m n : ℕ) → (m ≡ 1 → n ≡ 1) → mark (eqb m 1) ≤ mark (eqb n 1)
@@ -126,7 +131,8 @@ module _ where
       go true e = rw (e, eq-eqb n 1 (h (eqb-true m 1 e))) (omega arith)
       go false e = rw e (omega arith)
 
-  pub count-below : (a b : List ℕ) → length a ≡ length b → ((p : ℕ) → getD a p 0 ≡ 1 → getD b p 0 ≡ 1) → count a ≤ count b
+  pub count-below : (a b : List ℕ) → length a ≡ length b → ((p : ℕ) → getD a p 0 ≡ 1 → getD b p 0 ≡ 1)
+      → count a ≤ count b
   unfolding count
   count-below [] b l h = omega arith
   count-below (m ∷ a) [] l h = let z : ⊥ = omega arith in absurd z
@@ -134,8 +140,8 @@ module _ where
       let k : length a ≡ length b = omega arith in
       omega (arith, mark-below m n (h 0), count-below a b k (shifted m a n b h))
 
-  pub count-same : (a b : List ℕ) → length a ≡ length b → ((p : ℕ) → getD a p 0 ≡ 1 → getD b p 0 ≡ 1) → count b ≤ count a
-      → (p : ℕ) → getD b p 0 ≡ 1 → getD a p 0 ≡ 1
+  pub count-same : (a b : List ℕ) → length a ≡ length b → ((p : ℕ) → getD a p 0 ≡ 1 → getD b p 0 ≡ 1)
+      → count b ≤ count a → (p : ℕ) → getD b p 0 ≡ 1 → getD a p 0 ≡ 1
   unfolding count
   count-same [] [] l h c p e = e
   count-same [] (n ∷ b) l h c p e = let z : ⊥ = omega arith in absurd z

@@ -1,5 +1,6 @@
--- The values of judging's answer are small, of a sheet of bytes: places of refusals lie inside the longest sheet, places of answers are at most N, the
--- end state is one of the machine's, and answers are bytes. So the capture rig's number holds each of them in its own bits.
+-- The values of judging's answer are small, of a sheet of bytes: places of refusals lie inside the longest sheet,
+-- places of answers are at most N, the end state is one of the machine's, and answers are bytes. So the capture rig's
+-- number holds each of them in its own bits.
 use Prim.Native.Nat.{ℕ, _<_}
 use mathlib.Core.Path.{_≡_, refl, sym}
 use mathlib.Core.Bool.{true}
@@ -26,16 +27,22 @@ use Rattle.judge.specs.declared.answer.Answer.{Answer}
 use Rattle.judge.specs.declared.answer.Answer.the-variants.{Pass}
 use Rattle.judge.specs.Judging.{cause10, judgeCauses, judgement, valuesOf}
 use Rattle.judge.specs.Judging.Verdict.{Judged, passed, wrong, unfinished}
-use Rattle.judge.specs.Judging.Laws.{cause10-is, judge-causes-are, few-answers, judged-proper, judged-commands, Result, refused, not-certified, judged, judgement-result}
+use Rattle.judge.specs.Judging.Laws.{cause10-is, judge-causes-are, few-answers, judged-proper, judged-commands}
+use Rattle.judge.specs.Judging.Laws.{Result, refused, not-certified, judged, judgement-result}
 
 -- ---- refusals
 -- of causes 1 to 7, 9 and 10
 pub judge-small : (room : ℕ) (s : List ℕ) → WhereRefused Small (firstCause (judgeCauses room s))
 judge-small room s =
     place-of Small (judge-causes-are room s)
-    (place-else Small (firstCause (sequenceCauses true room s)) (cause10 (recordOf 4 s) (content 3 s) (content 4 s)) (sequence-small true room s)
-    (λ q. place-of Small (sym (cause10-is (recordOf 4 s) (content 3 s) (content 4 s))) (place-cause Small 10 (recordOf 4 s .start) _
-    (λ t. record { number = omega arith; place = omega (arith, record-inside 4 s, load-short (sequenceNeeds true) s (load-clear true room s q)) }))))
+    (place-else Small (firstCause (sequenceCauses true room s)) (cause10 (recordOf 4 s) (content 3 s) (content 4 s))
+    (sequence-small true room s)
+    (λ q. place-of Small (sym (cause10-is (recordOf 4 s) (content 3 s) (content 4 s)))
+    (place-cause Small 10 (recordOf 4 s .start) _
+    (λ t. record {
+      number = omega arith;
+      place = omega (arith, record-inside 4 s, load-short (sequenceNeeds true) s (load-clear true room s q));
+    }))))
 
 -- ---- the values
 module _ (room : ℕ) (s : List ℕ) (bytes : Bytes s) where
@@ -50,21 +57,35 @@ module _ (room : ℕ) (s : List ℕ) (bytes : Bytes s) where
     judged-fits (passed y n t) = record {
       place = omega (arith, commands .few);
       a = omega arith;
-      b = omega (arith, proper .few-states, state-stays (machineIn s) proper (content 3 s) (commands .low) (length (content 3 s)));
+      b = omega (
+        arith,
+        proper .few-states,
+        state-stays (machineIn s) proper (content 3 s) (commands .low) (length (content 3 s)),
+      );
     }
     judged-fits (wrong {place = p} l r d x y) =
         let inside : p < length (content 3 s) = omega (arith, few-answers room s e) in
         record {
           place = omega (arith, commands .few);
-          a = rw (x, answer-at (machineIn s) (content 3 s) p inside) (answer-byte s bytes (stateAt (machineIn s) (content 3 s) p) (getD (content 3 s) p 0));
+          a =
+              rw (x, answer-at (machineIn s) (content 3 s) p inside)
+              (answer-byte s bytes (stateAt (machineIn s) (content 3 s) p) (getD (content 3 s) p 0));
           b = rw y (content-bytes 4 s bytes p);
         }
     judged-fits (unfinished y l r) = record { place = omega (arith, commands .few); a = omega arith; b = omega arith }
 
   result-fits : {a : Answer} → Result room s a → Fits (valuesOf a)
-  result-fits (refused {p = p} e) = record { place = omega (arith, judge-small room s _ p e .place); a = omega arith; b = omega arith }
+  result-fits (refused {p = p} e) = record {
+    place = omega (arith, judge-small room s _ p e .place);
+    a = omega arith;
+    b = omega arith;
+  }
   result-fits (not-certified e o) = record {
-    place = omega (arith, open-small (machineIn s) (content 2 s) (content 3 s) _ o, proper-entries (machineIn s) (proper e));
+    place = omega (
+      arith,
+      open-small (machineIn s) (content 2 s) (content 3 s) _ o,
+      proper-entries (machineIn s) (proper e),
+    );
     a = omega arith;
     b = omega arith;
   }
@@ -74,15 +95,20 @@ module _ (room : ℕ) (s : List ℕ) (bytes : Bytes s) where
   judgement-fits = result-fits (judgement-result room s)
 
 -- ---- class 100 is pass, and no refusal's number
-judged-pass : (M : Mealy) (xs ys : List ℕ) {a : Answer} → Judged M xs ys a → valuesOf a .class ≡ 100 → (size : ℕ) × (a ≡ Pass size (valuesOf a .b))
+judged-pass : (M : Mealy) (xs ys : List ℕ) {a : Answer} → Judged M xs ys a → valuesOf a .class ≡ 100
+    → (size : ℕ) × (a ≡ Pass size (valuesOf a .b))
 judged-pass M xs ys (passed {size = size} y n t) c = (size, refl)
 judged-pass M xs ys (wrong l r d x y) c = let z : ⊥ = omega arith in absurd z
 judged-pass M xs ys (unfinished y l r) c = let z : ⊥ = omega arith in absurd z
 
-result-pass : (room : ℕ) (s : List ℕ) {a : Answer} → Result room s a → valuesOf a .class ≡ 100 → (size : ℕ) × (a ≡ Pass size (valuesOf a .b))
-result-pass room s (refused {n = n} {p = p} e) c = let z : ⊥ = omega (arith, judge-small room s n p e .number) in absurd z
+result-pass : (room : ℕ) (s : List ℕ) {a : Answer} → Result room s a → valuesOf a .class ≡ 100
+    → (size : ℕ) × (a ≡ Pass size (valuesOf a .b))
+result-pass room s (refused {n = n} {p = p} e) c =
+    let z : ⊥ = omega (arith, judge-small room s n p e .number) in
+    absurd z
 result-pass room s (not-certified e o) c = let z : ⊥ = omega arith in absurd z
 result-pass room s (judged e h j) c = judged-pass (machineIn s) (content 3 s) (content 4 s) j c
 
-pub class-pass : (room : ℕ) (s : List ℕ) → valuesOf (judgement room s) .class ≡ 100 → (size : ℕ) × (judgement room s ≡ Pass size (valuesOf (judgement room s) .b))
+pub class-pass : (room : ℕ) (s : List ℕ) → valuesOf (judgement room s) .class ≡ 100
+    → (size : ℕ) × (judgement room s ≡ Pass size (valuesOf (judgement room s) .b))
 class-pass room s c = result-pass room s (judgement-result room s) c

@@ -1,5 +1,5 @@
--- The laws of judging a sheet: its causes, its answer and buffer by the first cause, what each answer says, both directions, and the identity
--- claim.
+-- The laws of judging a sheet: its causes, its answer and buffer by the first cause, what each answer says, both
+-- directions, and the identity claim.
 use Prim.Native.Nat.{ℕ, _≤_}
 use mathlib.Core.Path.{_≡_, refl, sym, ap, ap₂, _∙_}
 use mathlib.Core.Bool.{true}
@@ -20,9 +20,11 @@ use Rattle.machine.specs.Machine.{Mealy, answers, stateAt, Separates, Proper, B
 use Rattle.machine.specs.Causes.{machineIn, loadCauses}
 use Rattle.machine.specs.Causes.Lists.{load-proper, word-distinguishes}
 use Rattle.certify.specs.declared.answer.Answer.{Answer as Certification}
-use Rattle.certify.specs.declared.answer.Answer.the-variants.{Certified as CertifiedAnswer, Open, Refused as RefusedThere}
+use Rattle.certify.specs.declared.answer.Answer.the-variants.{Certified as CertifiedAnswer, Open}
+use Rattle.certify.specs.declared.answer.Answer.the-variants.{Refused as RefusedThere}
 use Rattle.certify.specs.Recognition.{Certified, OpenNumber, MarksOf, RecognisedNumber}
-use Rattle.certify.specs.Certification.{sequenceNeeds, markBytes, sequenceCauses, certifyCauses, certification, marksAfter, keptIn, Says}
+use Rattle.certify.specs.Certification.{sequenceNeeds, markBytes, sequenceCauses, certifyCauses, certification}
+use Rattle.certify.specs.Certification.{marksAfter, keptIn, Says}
 use Rattle.certify.specs.Certification.Laws.{load-clear, sequence-commands, certify-without-answers}
 use Rattle.certify.specs.Certification.Contract.{certification-says, certifies}
 use Rattle.judge.specs.declared.answer.Answer.{Answer}
@@ -34,18 +36,22 @@ use Rattle.judge.specs.Judging.{cause10, judgeCauses, cause11, verdict, 
 use Rattle.judge.specs.Judging.Verdict.{Judged, passed, wrong, unfinished, judged-verdict, verdict-judged}
 
 -- ---- the causes
-pub cause10-is : (r : Record) (xs ys : List ℕ) → (refusal 10 with r .start if ltb (length xs) (length ys)) ≡ cause10 r xs ys
+pub cause10-is : (r : Record) (xs ys : List ℕ)
+    → (refusal 10 with r .start if ltb (length xs) (length ys)) ≡ cause10 r xs ys
 unfolding cause10
 cause10-is r xs ys = refl
 
-pub judge-causes-are : (room : ℕ) (s : List ℕ) → firstCause (judgeCauses room s) ≡ (firstCause (sequenceCauses true room s) else cause10 (recordOf 4 s) (content 3 s) (content 4 s))
+pub judge-causes-are : (room : ℕ) (s : List ℕ) → firstCause (judgeCauses room s)
+    ≡ (firstCause (sequenceCauses true room s) else cause10 (recordOf 4 s) (content 3 s) (content 4 s))
 unfolding judgeCauses
 judge-causes-are room s =
     let ten = cause10 (recordOf 4 s) (content 3 s) (content 4 s) in
-    cause-append (sequenceCauses true room s) (ten ∷ []) ∙ ap (λ (c : Check). firstCause (sequenceCauses true room s) else c) (cause-one ten)
+    cause-append (sequenceCauses true room s) (ten ∷ [])
+    ∙ ap (λ (c : Check). firstCause (sequenceCauses true room s) else c) (cause-one ten)
 
 module _ (room : ℕ) (s : List ℕ) (e : firstCause (judgeCauses room s) ≡ Clear) where
-  both-parts : (firstCause (sequenceCauses true room s) ≡ Clear) × (cause10 (recordOf 4 s) (content 3 s) (content 4 s) ≡ Clear)
+  both-parts : (firstCause (sequenceCauses true room s) ≡ Clear)
+      × (cause10 (recordOf 4 s) (content 3 s) (content 4 s) ≡ Clear)
   both-parts = both-clear _ _ (sym (judge-causes-are room s) ∙ e)
 
   pub marking-clear : firstCause (sequenceCauses true room s) ≡ Clear
@@ -56,11 +62,13 @@ module _ (room : ℕ) (s : List ℕ) (e : firstCause (judgeCauses room s) ≡ Cl
   certifying-clear = certify-without-answers room s marking-clear
 
   pub few-answers : length (content 4 s) ≤ length (content 3 s)
-  few-answers = ltb-false _ _ (clear-absent 10 _ _ (cause10-is (recordOf 4 s) (content 3 s) (content 4 s) ∙ both-parts .1))
+  few-answers =
+      ltb-false _ _ (clear-absent 10 _ _ (cause10-is (recordOf 4 s) (content 3 s) (content 4 s) ∙ both-parts .1))
 
 -- ---- the answer and the buffer, by the first cause
 module _ (room : ℕ) (s : List ℕ) where
-  pub judgement-refused : {n p : ℕ} → firstCause (judgeCauses room s) ≡ Refused n p → judgement room s ≡ RefusedAnswer n p
+  pub judgement-refused : {n p : ℕ} → firstCause (judgeCauses room s) ≡ Refused n p
+      → judgement room s ≡ RefusedAnswer n p
   unfolding judgement
   judgement-refused e = rw e
 
@@ -69,9 +77,12 @@ module _ (room : ℕ) (s : List ℕ) where
       → judgement room s ≡ refusedOr RefusedAnswer (cause11 b) (verdict (machineIn s) (content 3 s) (content 4 s))
   unfolding judgement
   judgement-by e f =
-      ap₂ (refusedOr RefusedAnswer) e (ap (λ (b : Certification). refusedOr RefusedAnswer (cause11 b) (verdict (machineIn s) (content 3 s) (content 4 s))) f)
+      ap₂ (refusedOr RefusedAnswer) e
+      (ap (λ (b : Certification).
+      refusedOr RefusedAnswer (cause11 b) (verdict (machineIn s) (content 3 s) (content 4 s))) f)
 
-  judgement-open : firstCause (judgeCauses room s) ≡ Clear → {n v : ℕ} → certification room s ≡ Open n v → judgement room s ≡ RefusedAnswer 11 v
+  judgement-open : firstCause (judgeCauses room s) ≡ Clear → {n v : ℕ} → certification room s ≡ Open n v
+      → judgement room s ≡ RefusedAnswer 11 v
   unfolding cause11
   judgement-open e f = judgement-by e f
 
@@ -80,29 +91,34 @@ module _ (room : ℕ) (s : List ℕ) where
   unfolding cause11
   judgement-verdict e f = judgement-by e f
 
-pub judged-refused : (s buffer : List ℕ) {n p : ℕ} → firstCause (judgeCauses (length buffer) s) ≡ Refused n p → judgedMarks s buffer ≡ buffer
+pub judged-refused : (s buffer : List ℕ) {n p : ℕ} → firstCause (judgeCauses (length buffer) s) ≡ Refused n p
+    → judgedMarks s buffer ≡ buffer
 unfolding judgedMarks
 judged-refused s buffer e = ap (λ (c : Check). unlessRefused c (marksAfter s buffer) buffer) e
 
-pub judged-clear : (s buffer : List ℕ) → firstCause (judgeCauses (length buffer) s) ≡ Clear → judgedMarks s buffer ≡ marksAfter s buffer
+pub judged-clear : (s buffer : List ℕ) → firstCause (judgeCauses (length buffer) s) ≡ Clear
+    → judgedMarks s buffer ≡ marksAfter s buffer
 unfolding judgedMarks
 judged-clear s buffer e = ap (λ (c : Check). unlessRefused c (marksAfter s buffer) buffer) e
 
 -- so marks 0 to N are those of the recognised places, and later bytes stay as they were
 pub judged-marked : (s buffer : List ℕ) → firstCause (judgeCauses (length buffer) s) ≡ Clear
     → MarksOf (machineIn s) (content 2 s) (content 3 s) (keptIn (content 3 s) (judgedMarks s buffer))
-judged-marked s buffer e = rw (judged-clear s buffer e) (certifies s buffer refl refl .marked (certifying-clear (length buffer) s e))
+judged-marked s buffer e =
+    rw (judged-clear s buffer e) (certifies s buffer refl refl .marked (certifying-clear (length buffer) s e))
 
 pub judged-later : (s buffer : List ℕ) → firstCause (judgeCauses (length buffer) s) ≡ Clear
     → drop (markBytes (content 3 s)) (judgedMarks s buffer) ≡ drop (markBytes (content 3 s)) buffer
-judged-later s buffer e = ap (drop (markBytes (content 3 s))) (judged-clear s buffer e) ∙ certifies s buffer refl refl .later
+judged-later s buffer e =
+    ap (drop (markBytes (content 3 s))) (judged-clear s buffer e) ∙ certifies s buffer refl refl .later
 
 -- ---- what each answer says
--- the results where nothing is refused and the sequence is certified; a refusal with the number and place of the first cause, or, where only that the
--- sequence is certified is missing, 11 and the open number
+-- the results where nothing is refused and the sequence is certified; a refusal with the number and place of the first
+-- cause, or, where only that the sequence is certified is missing, 11 and the open number
 pub data Result (room : ℕ) (s : List ℕ) : Answer → Type 0 where
   refused : {n p : ℕ} → firstCause (judgeCauses room s) ≡ Refused n p → Result room s (RefusedAnswer n p)
-  not-certified : {v : ℕ} → firstCause (judgeCauses room s) ≡ Clear → OpenNumber (machineIn s) (content 2 s) (content 3 s) v → Result room s (RefusedAnswer 11 v)
+  not-certified : {v : ℕ} → firstCause (judgeCauses room s) ≡ Clear
+      → OpenNumber (machineIn s) (content 2 s) (content 3 s) v → Result room s (RefusedAnswer 11 v)
   judged : {a : Answer} → firstCause (judgeCauses room s) ≡ Clear → Certified (machineIn s) (content 2 s) (content 3 s)
       → Judged (machineIn s) (content 3 s) (content 4 s) a → Result room s a
 
@@ -121,17 +137,21 @@ module _ (room : ℕ) (s : List ℕ) where
   result-judgement (refused e) = sym (judgement-refused room s e)
   result-judgement (not-certified {v = v} e o) =
       let r = numbered e (certification room s) refl in
-      sym (judgement-open room s e (says .opened (r .0) v .1 (record { clear = certifying-clear room s e; open-number = o; number = r .1 })))
+      sym (judgement-open room s e
+      (says .opened (r .0) v .1 (record { clear = certifying-clear room s e; open-number = o; number = r .1 })))
   result-judgement (judged e c h) =
       let r = numbered e (certification room s) refl in
       judged-verdict (machineIn s) (content 3 s) (content 4 s) (few-answers room s e) h
-      ∙ sym (judgement-verdict room s e (says .certified (r .0) .1 (record { clear = certifying-clear room s e; certified = c; number = r .1 })))
+      ∙ sym (judgement-verdict room s e
+      (says .certified (r .0) .1 (record { clear = certifying-clear room s e; certified = c; number = r .1 })))
 
-  result-by : (c : Check) (b : Certification) → firstCause (judgeCauses room s) ≡ c → certification room s ≡ b → Result room s (judgement room s)
+  result-by : (c : Check) (b : Certification) → firstCause (judgeCauses room s) ≡ c → certification room s ≡ b
+      → Result room s (judgement room s)
   result-by (Refused n p) b e f = rw (judgement-refused room s e) (refused e)
   result-by Clear (CertifiedAnswer n) e f =
       rw (judgement-verdict room s e f)
-      (judged e (says .certified n .0 f .certified) (verdict-judged (machineIn s) (content 3 s) (content 4 s) (few-answers room s e)))
+      (judged e (says .certified n .0 f .certified)
+      (verdict-judged (machineIn s) (content 3 s) (content 4 s) (few-answers room s e)))
   result-by Clear (Open n v) e f = rw (judgement-open room s e f) (not-certified e (says .opened n v .0 f .open-number))
   result-by Clear (RefusedThere n p) e f = clear-refused (certifying-clear room s e) (says .refused n p .0 f)
 
@@ -145,7 +165,8 @@ result-not-refused M xs ys (wrong l r d x y) q = let z : _≡_ {A = ℕ} 0 1 = c
 result-not-refused M xs ys (unfinished y l r) q = let z : _≡_ {A = ℕ} 0 1 = cc in omega arith
 
 -- a refusal other than judging's 11 writes nothing
-pub refused-marks : (s buffer : List ℕ) {n p : ℕ} → judgement (length buffer) s ≡ RefusedAnswer n p → (n ≡ 11 → ⊥) → judgedMarks s buffer ≡ buffer
+pub refused-marks : (s buffer : List ℕ) {n p : ℕ} → judgement (length buffer) s ≡ RefusedAnswer n p → (n ≡ 11 → ⊥)
+    → judgedMarks s buffer ≡ buffer
 refused-marks s buffer {n} {p} e other = go (judgement-result (length buffer) s) e
   where
     go : {a : Answer} → Result (length buffer) s a → a ≡ RefusedAnswer n p → judgedMarks s buffer ≡ buffer
@@ -161,7 +182,8 @@ pub record Passes (room : ℕ) (s : List ℕ) (size end : ℕ) : Type 0 where
   pub long : size ≡ length (content 3 s)
   pub ends : end ≡ stateAt (machineIn s) (content 3 s) (length (content 3 s))
 
-result-passes : (room : ℕ) (s : List ℕ) {a : Answer} {size end : ℕ} → Result room s a → a ≡ Pass size end → Passes room s size end
+result-passes : (room : ℕ) (s : List ℕ) {a : Answer} {size end : ℕ} → Result room s a → a ≡ Pass size end
+    → Passes room s size end
 result-passes room s (refused e) q = let z : _≡_ {A = ℕ} 0 1 = cc in absurd (omega arith)
 result-passes room s (not-certified e o) q = let z : _≡_ {A = ℕ} 0 1 = cc in absurd (omega arith)
 result-passes room s {size = size} {end = end} (judged e c h) q = go h q
@@ -173,7 +195,13 @@ result-passes room s {size = size} {end = end} (judged e c h) q = go h q
     same-end p = cc
 
     go : {a : Answer} → Judged (machineIn s) (content 3 s) (content 4 s) a → a ≡ Pass size end → Passes room s size end
-    go (passed y n t) p = record { clear = e; certified = c; complete = y; long = same-size p ∙ n; ends = same-end p ∙ t }
+    go (passed y n t) p = record {
+      clear = e;
+      certified = c;
+      complete = y;
+      long = same-size p ∙ n;
+      ends = same-end p ∙ t;
+    }
     go (wrong l r d x y) p = let z : _≡_ {A = ℕ} 0 1 = cc in absurd (omega arith)
     go (unfinished y l r) p = let z : _≡_ {A = ℕ} 0 1 = cc in absurd (omega arith)
 
@@ -181,7 +209,8 @@ pub pass-passes : (room : ℕ) (s : List ℕ) {size end : ℕ} → judgement roo
 pass-passes room s e = result-passes room s (judgement-result room s) e
 
 pub passes-pass : (room : ℕ) (s : List ℕ) {size end : ℕ} → Passes room s size end → judgement room s ≡ Pass size end
-passes-pass room s h = sym (result-judgement room s (judged (h .clear) (h .certified) (passed (h .complete) (h .long) (h .ends))))
+passes-pass room s h =
+    sym (result-judgement room s (judged (h .clear) (h .certified) (passed (h .complete) (h .long) (h .ends))))
 
 -- ---- the identity claim
 module _ (room : ℕ) (s : List ℕ) (e : firstCause (judgeCauses room s) ≡ Clear) where
@@ -201,21 +230,36 @@ pub pass-identity : (room : ℕ) (s : List ℕ) {a : Answer} → a ≡ judgement
 pass-identity room s ae U size end pass own =
     let h = pass-passes room s (sym ae ∙ pass) in
     rw (h .ends)
-    (identity (machineIn s) (content 2 s) (content 3 s) (judged-proper room s (h .clear)) (judged-commands room s (h .clear)) (word-separates room s (h .clear))
+    (identity (machineIn s) (content 2 s) (content 3 s) (judged-proper room s (h .clear))
+    (judged-commands room s (h .clear)) (word-separates room s (h .clear))
     (h .certified) U (sym (h .complete) ∙ own))
 
--- after a pass, whatever further commands of the sheet go in, the unit answers each as the machine does from the end state on
-pub pass-after : (room : ℕ) (s : List ℕ) (U : Unit (machineIn s .n) (machineIn s .k)) (size end : ℕ) → judgement room s ≡ Pass size end
-    → content 4 s ≡ ownAnswers (machineIn s .n) (machineIn s .k) U (content 3 s) → (ys : List ℕ) → Below (machineIn s .k) ys
-    → answers (tableOf (machineIn s .n) (machineIn s .k) U) (presentState (machineIn s .n) (machineIn s .k) U (content 3 s)) ys ≡ answers (machineIn s) end ys
+-- after a pass, whatever further commands of the sheet go in, the unit answers each as the machine
+-- does from the end state on
+pub pass-after : (room : ℕ) (s : List ℕ) (U : Unit (machineIn s .n) (machineIn s .k)) (size end : ℕ)
+    → judgement room s ≡ Pass size end → content 4 s ≡ ownAnswers (machineIn s .n) (machineIn s .k) U (content 3 s)
+    → (ys : List ℕ) → Below (machineIn s .k) ys
+    → answers (tableOf (machineIn s .n) (machineIn s .k) U)
+    (presentState (machineIn s .n) (machineIn s .k) U (content 3 s)) ys
+    ≡ answers (machineIn s) end ys
 pass-after room s U size end pass own ys below =
     let clear = pass-passes room s pass .clear in
-    end-alike (machineIn s) (judged-proper room s clear) U (content 3 s) end (pass-identity room s (sym pass) U size end refl own)
+    end-alike (machineIn s) (judged-proper room s clear) U (content 3 s) end
+    (pass-identity room s (sym pass) U size end refl own)
     (judged-commands room s clear) ys below
 
--- the claim speaks of something: the specified machine itself is a unit, and where judging passes the answers are its own
+-- the claim speaks of something: the specified machine itself is a unit, and where judging passes
+-- the answers are its own
 pub itself : (M : Mealy) → Proper M → Unit (M .n) (M .k)
-itself M h = record { m = M .n; few = le-refl (M .n); u = M .start; u-low = h .starts; next = M .next; answer = M .answer; stays = h .stays }
+itself M h = record {
+  m = M .n;
+  few = le-refl (M .n);
+  u = M .start;
+  u-low = h .starts;
+  next = M .next;
+  answer = M .answer;
+  stays = h .stays;
+}
 
 pub pass-own : (room : ℕ) (s : List ℕ) {size end : ℕ} → judgement room s ≡ Pass size end → (h : Proper (machineIn s))
     → content 4 s ≡ ownAnswers (machineIn s .n) (machineIn s .k) (itself (machineIn s) h) (content 3 s)

@@ -24,7 +24,12 @@ pub record Agreed (xs ys : List ℕ) (p : ℕ) : Type 0 where
   pub here : p < length xs → p < length ys → getD xs p 0 ≡ getD ys p 0 → ⊥
 
 agreed-none : (xs ys : List ℕ) → (0 < length xs → 0 < length ys → getD xs 0 0 ≡ getD ys 0 0 → ⊥) → Agreed xs ys 0
-agreed-none xs ys h = record { in-first = omega arith; in-second = omega arith; before = λ i l. absurd (omega arith); here = h }
+agreed-none xs ys h = record {
+  in-first = omega arith;
+  in-second = omega arith;
+  before = λ i l. absurd (omega arith);
+  here = h;
+}
 
 agreed-more : (x y : ℕ) (xs ys : List ℕ) (p : ℕ) → x ≡ y → Agreed xs ys p → Agreed (x ∷ xs) (y ∷ ys) (suc p)
 agreed-more x y xs ys p e h = record {
@@ -44,7 +49,8 @@ agreed-holds [] ys = agreed-none [] ys (λ k l q. omega arith)
 agreed-holds (x ∷ xs) [] = agreed-none (x ∷ xs) [] (λ k l q. omega arith)
 agreed-holds (x ∷ xs) (y ∷ ys) = go (agreed-holds xs ys) (eqb x y) refl
   where
-    go : Agreed xs ys (agreed xs ys) → (t : Bool) → eqb x y ≡ t → Agreed (x ∷ xs) (y ∷ ys) (elim t [ true ↦ suc (agreed xs ys) | false ↦ 0 ])
+    go : Agreed xs ys (agreed xs ys) → (t : Bool) → eqb x y ≡ t
+        → Agreed (x ∷ xs) (y ∷ ys) (elim t [ true ↦ suc (agreed xs ys) | false ↦ 0 ])
     go h true e = agreed-more x y xs ys (agreed xs ys) (eqb-true x y e) h
     go h false e = agreed-none (x ∷ xs) (y ∷ ys) (λ k l q. eqb-false x y e q)
 
@@ -54,7 +60,8 @@ agreed-one xs ys p q h k l = h .here (omega (arith, k .in-first)) (omega (arith,
 
 pub agreed-is : (xs ys : List ℕ) (p : ℕ) → Agreed xs ys p → p ≡ agreed xs ys
 agreed-is xs ys p h =
-    equal (agreed-one xs ys p (agreed xs ys) h (agreed-holds xs ys)) (agreed-one xs ys (agreed xs ys) p (agreed-holds xs ys) h)
+    equal (agreed-one xs ys p (agreed xs ys) h (agreed-holds xs ys))
+    (agreed-one xs ys (agreed xs ys) p (agreed-holds xs ys) h)
   where
     equal : (p < agreed xs ys → ⊥) → (agreed xs ys < p → ⊥) → p ≡ agreed xs ys
     equal a b = omega arith
@@ -66,12 +73,15 @@ Right M xs ys p = (i : ℕ) → i < p → getD (answers M (M .start) xs) i 0 ≡
 
 pub data Judged (M : Mealy) (xs ys : List ℕ) : Answer → Type 0 where
   -- pass: every answer was given, and each is the specified one
-  passed : {size end : ℕ} → ys ≡ answers M (M .start) xs → size ≡ length xs → end ≡ stateAt M xs (length xs) → Judged M xs ys (Pass size end)
+  passed : {size end : ℕ} → ys ≡ answers M (M .start) xs → size ≡ length xs → end ≡ stateAt M xs (length xs)
+      → Judged M xs ys (Pass size end)
   -- wrong: the answers before the place are right, and the one there is not
   wrong : {place specified given : ℕ} → place < length ys → Right M xs ys place → (specified ≡ given → ⊥)
-      → specified ≡ getD (answers M (M .start) xs) place 0 → given ≡ getD ys place 0 → Judged M xs ys (Wrong place specified given)
+      → specified ≡ getD (answers M (M .start) xs) place 0 → given ≡ getD ys place 0
+      → Judged M xs ys (Wrong place specified given)
   -- unfinished: some answers are missing, and those that were given are right
-  unfinished : {number : ℕ} → number ≡ length ys → number < length xs → Right M xs ys number → Judged M xs ys (Unfinished number)
+  unfinished : {number : ℕ} → number ≡ length ys → number < length xs → Right M xs ys number
+      → Judged M xs ys (Unfinished number)
 
 module _ (M : Mealy) (xs ys : List ℕ) (few : length ys ≤ length xs) where
   abbrev specified : List ℕ
@@ -88,7 +98,8 @@ module _ (M : Mealy) (xs ys : List ℕ) (few : length ys ≤ length xs) where
   unfolding resultAt
   at-wrong l = if-true _ _ (lt-ltb _ _ l)
 
-  at-last : {p : ℕ} → length ys ≤ p → resultAt M xs ys p ≡ cond (ltb p (length xs)) (Unfinished p) (Pass (length xs) (stateAt M xs (length xs)))
+  at-last : {p : ℕ} → length ys ≤ p
+      → resultAt M xs ys p ≡ cond (ltb p (length xs)) (Unfinished p) (Pass (length xs) (stateAt M xs (length xs)))
   unfolding resultAt
   at-last l = if-false _ _ (le-ltb _ _ l)
 
@@ -127,18 +138,23 @@ module _ (M : Mealy) (xs ys : List ℕ) (few : length ys ≤ length xs) where
       sym (verdict-at h ∙ at-unfinished (omega arith) l)
 
   -- ---- and from the verdict to what holds
-  judged-by : {p : ℕ} → Agreed specified ys p → (t u : Bool) → ltb p (length ys) ≡ t → ltb p (length xs) ≡ u → Judged M xs ys (resultAt M xs ys p)
+  judged-by : {p : ℕ} → Agreed specified ys p → (t u : Bool) → ltb p (length ys) ≡ t → ltb p (length xs) ≡ u
+      → Judged M xs ys (resultAt M xs ys p)
   judged-by {p} h true u e k =
       let l = ltb-true p (length ys) e in
       rw (at-wrong l) (wrong l (h .before) (h .here (omega (arith, many)) l) refl refl)
   judged-by {p} h false true e k =
-      rw (at-unfinished (ltb-false p _ e) (ltb-true p _ k)) (unfinished {number = p} (omega (arith, ltb-false p _ e, h .in-second)) (ltb-true p _ k) (h .before))
+      rw (at-unfinished (ltb-false p _ e) (ltb-true p _ k))
+      (unfinished {number = p} (omega (arith, ltb-false p _ e, h .in-second)) (ltb-true p _ k) (h .before))
   judged-by {p} h false false e k =
       let l = ltb-false p _ e in
       let m = ltb-false p _ k in
-      rw (at-passed l m) (passed (sym (ext-getD 0 specified ys (omega (arith, many, h .in-second)) (λ i il. h .before i (omega (arith, many))))) refl refl)
+      rw (at-passed l m)
+      (passed (sym (ext-getD 0 specified ys (omega (arith, many, h .in-second))
+      (λ i il. h .before i (omega (arith, many))))) refl refl)
 
   pub verdict-judged : Judged M xs ys (verdict M xs ys)
   verdict-judged =
       let h = agreed-holds specified ys in
-      rw (verdict-at h) (judged-by h (ltb (agreed specified ys) (length ys)) (ltb (agreed specified ys) (length xs)) refl refl)
+      rw (verdict-at h)
+      (judged-by h (ltb (agreed specified ys) (length ys)) (ltb (agreed specified ys) (length xs)) refl refl)

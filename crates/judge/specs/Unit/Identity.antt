@@ -1,6 +1,7 @@
--- The identity claim over any certified sequence: a unit that gives the specified answers to it is the specified machine, its states renamed. Of
--- certification it uses what a certified sequence has (`Certified`, `Verified`) and the induction over recognised places (`smallest`); of the word one
--- fact, that two places where it stands have one state of the sheet if the unit is in one state there (`alike`).
+-- The identity claim over any certified sequence: a unit that gives the specified answers to it is the specified
+-- machine, its states renamed. Of certification it uses what a certified sequence has (`Certified`, `Verified`) and the
+-- induction over recognised places (`smallest`); of the word one fact, that two places where it stands have one state
+-- of the sheet if the unit is in one state there (`alike`).
 use Prim.Native.Nat.{ℕ, zero, suc, _+_, _≤_, _<_}
 use mathlib.Core.Path.{_≡_, refl, sym, ap, ap₂, _∙_}
 use mathlib.Core.List.{List}
@@ -9,15 +10,17 @@ use native.Mathlib.Numerals.{add-one}
 use lib.ListN.{length, getD, take, drop}
 use Rattle.machine.specs.Limits.{mostSequence}
 use Rattle.machine.specs.Machine.{Mealy, answers, stateAt, Separates, Proper, Commands}
-use Rattle.machine.specs.Machine.Laws.{answers-part, answer-at, state-start, state-next, state-end, states-agree, state-closed, state-stays}
+use Rattle.machine.specs.Machine.Laws.{answers-part, answer-at, state-start, state-next, state-end, states-agree}
+use Rattle.machine.specs.Machine.Laws.{state-closed, state-stays}
 use Rattle.machine.specs.Numbers.{choice}
 use Rattle.machine.specs.Pigeonhole.{onto}
 use Rattle.certify.specs.Recognition.{OccursAt, Recognised, Certified}
 use Rattle.certify.specs.Recognition.Laws.{smallest}
 use Rattle.judge.specs.Unit.{Unit, tableOf, ownAnswers, presentState, Renaming}
 
-module _ (M : Mealy) (w xs : List ℕ) (proper : Proper M) (commands : Commands mostSequence (M .k) xs) (separates : Separates M w)
-    (certified : Certified M w xs) (U : Unit (M .n) (M .k)) (same : answers M (M .start) xs ≡ ownAnswers (M .n) (M .k) U xs) where
+module _ (M : Mealy) (w xs : List ℕ) (proper : Proper M) (commands : Commands mostSequence (M .k) xs)
+    (separates : Separates M w) (certified : Certified M w xs) (U : Unit (M .n) (M .k))
+    (same : answers M (M .start) xs ≡ ownAnswers (M .n) (M .k) U xs) where
   -- the unit as a machine
   abbrev unit : Mealy
   unit = tableOf (M .n) (M .k) U
@@ -34,7 +37,8 @@ module _ (M : Mealy) (w xs : List ℕ) (proper : Proper M) (commands : Commands 
   state-low : (p : ℕ) → stateAt M xs p < M .n
   state-low p = state-stays M proper xs (commands .low) p
 
-  alike : (p q : ℕ) → OccursAt w xs p → OccursAt w xs q → stateAt unit xs p ≡ stateAt unit xs q → stateAt M xs p ≡ stateAt M xs q
+  alike : (p q : ℕ) → OccursAt w xs p → OccursAt w xs q → stateAt unit xs p ≡ stateAt unit xs q
+      → stateAt M xs p ≡ stateAt M xs q
   alike p q hp hq e =
       separates (stateAt M xs p) (stateAt M xs q) (state-low p) (state-low q)
       (word-answers p hp ∙ ap (λ (x : ℕ). answers unit x w) e ∙ sym (word-answers q hq))
@@ -96,7 +100,9 @@ module _ (M : Mealy) (w xs : List ℕ) (proper : Proper M) (commands : Commands 
   recognised-met =
       smallest M w xs Met word-met
       (λ p q m ml rp hp rq hq e rm hm i equal.
-      states-agree unit xs q p m (hq ∙ ap given (sym e) ∙ sym hp) (sym equal) ∙ hm ∙ ap given (states-agree M xs p q m e equal))
+      states-agree unit xs q p m (hq ∙ ap given (sym e) ∙ sym hp) (sym equal)
+      ∙ hm
+      ∙ ap given (states-agree M xs p q m e equal))
 
   -- ---- verified entries
   given-answers : (s c : ℕ) → s < M .n → c < M .k → unit .answer (given s) c ≡ M .answer s c

@@ -1,5 +1,5 @@
--- The places of causes 3 to 6 lie inside the longest sheet, and so do those of cause 7, which is stated with 5. The answers of a sheet's machine
--- are bytes.
+-- The places of causes 3 to 6 lie inside the longest sheet, and so do those of cause 7, which is stated with 5. The
+-- answers of a sheet's machine are bytes.
 use Prim.Native.Nat.{ℕ, _+_, _*_, _≤_, _<_}
 use mathlib.Core.Path.{_≡_, sym, _∙_}
 use mathlib.Core.Bool.{Bool, true, false}
@@ -18,46 +18,59 @@ use Rattle.sheet.specs.Reader.Laws.{record-inside}
 use Rattle.sheet.specs.Reader.Bounds.{Small, sheet-small, sheet-short, offset-inside, Bytes, content-bytes}
 use Rattle.machine.specs.Limits.{mostStates, mostWord}
 use Rattle.machine.specs.Machine.{Mealy, pairAt, machineOf}
-use Rattle.machine.specs.Causes.{outside, cause3, cause4, commandsCause, cause5, cause6, machineIn, machineCauses, wordCauses, loadCauses}
+use Rattle.machine.specs.Causes.{outside, cause3, cause4, commandsCause, cause5, cause6, machineIn, machineCauses}
+use Rattle.machine.specs.Causes.{wordCauses, loadCauses}
 use Rattle.machine.specs.Causes.Laws.{Shape, clear-shape}
-use Rattle.machine.specs.Causes.Lists.{machine-causes-are, word-causes-are, word-causes-none, load-causes-are, machine-proper, clear-table}
+use Rattle.machine.specs.Causes.Lists.{machine-causes-are, word-causes-are, word-causes-none, load-causes-are}
+use Rattle.machine.specs.Causes.Lists.{machine-proper, clear-table}
 
 -- ---- each cause, on a sheet that is not too long
 module _ (s : List ℕ) (short : length s ≤ longest) where
   cause3-small : WhereRefused Small (cause3 (recordOf 1 s) (content 1 s))
   unfolding cause3
-  cause3-small = place-cause Small 3 (recordOf 1 s .start) _ (λ t. record { number = omega arith; place = omega (arith, record-inside 1 s) })
+  cause3-small =
+      place-cause Small 3 (recordOf 1 s .start) _
+      (λ t. record { number = omega arith; place = omega (arith, record-inside 1 s) })
 
   cause4-small : Shape (content 1 s) → WhereRefused Small (cause4 (recordOf 1 s) (content 1 s))
   unfolding cause4
   cause4-small h =
       place-first Small (getD (content 1 s) 0 0 * getD (content 1 s) 1 0) _
       (λ e l. place-cause Small 4 (offset (recordOf 1 s) (pairAt e)) _
-      (λ t. record { number = omega arith; place = omega (arith, offset-inside 1 s (pairAt e) (omega (arith, h .long))) }))
+      (λ t. record {
+        number = omega arith;
+        place = omega (arith, offset-inside 1 s (pairAt e) (omega (arith, h .long)));
+      }))
 
   -- causes 5 and 7, of the record of any kind
-  pub commands-small : (number most k kind : ℕ) → number < 100 → WhereRefused Small (commandsCause number most k (recordOf kind s) (content kind s))
+  pub commands-small : (number most k kind : ℕ) → number < 100
+      → WhereRefused Small (commandsCause number most k (recordOf kind s) (content kind s))
   unfolding commandsCause
   commands-small number most k kind low =
       place-else Small (refusal number with recordOf kind s .start if outside 1 most (length (content kind s)))
-      (first (length (content kind s)) (λ i. refusal number with offset (recordOf kind s) i if leb k (getD (content kind s) i 0)))
-      (place-cause Small number (recordOf kind s .start) _ (λ t. record { number = low; place = omega (arith, record-inside kind s) }))
+      (first (length (content kind s))
+      (λ i. refusal number with offset (recordOf kind s) i if leb k (getD (content kind s) i 0)))
+      (place-cause Small number (recordOf kind s .start) _
+      (λ t. record { number = low; place = omega (arith, record-inside kind s) }))
       (λ q. place-first Small (length (content kind s)) _
-      (λ i l. place-cause Small number (offset (recordOf kind s) i) _ (λ t. record { number = low; place = omega (arith, offset-inside kind s i l) })))
+      (λ i l. place-cause Small number (offset (recordOf kind s) i) _
+      (λ t. record { number = low; place = omega (arith, offset-inside kind s i l) })))
 
 -- 16i+j of two states
 cause6-small : (M : Mealy) (w : List ℕ) → M .n ≤ mostStates → WhereRefused Small (cause6 M w)
 unfolding cause6
 cause6-small M w h =
     place-first Small (M .n) _
-    (λ i il. place-first Small (M .n) _ (λ j jl. place-cause Small 6 (16 * i + j) _ (λ t. record { number = omega arith; place = omega arith })))
+    (λ i il. place-first Small (M .n) _
+    (λ j jl. place-cause Small 6 (16 * i + j) _ (λ t. record { number = omega arith; place = omega arith })))
 
 -- ---- the lists
 module _ (n : Needs) (s : List ℕ) where
   machine-small : WhereRefused Small (firstCause (machineCauses n s))
   machine-small =
       place-of Small (machine-causes-are n s)
-      (place-else Small (firstCause (sheetCauses (needed n) s)) (cause3 (recordOf 1 s) (content 1 s) else cause4 (recordOf 1 s) (content 1 s))
+      (place-else Small (firstCause (sheetCauses (needed n) s))
+      (cause3 (recordOf 1 s) (content 1 s) else cause4 (recordOf 1 s) (content 1 s))
       (sheet-small (needed n) s)
       (λ q.
       let l : length s ≤ longest = sheet-short (needed n) s q in
@@ -79,7 +92,8 @@ module _ (n : Needs) (s : List ℕ) where
   pub load-small : WhereRefused Small (firstCause (loadCauses n s))
   load-small =
       place-of Small (load-causes-are n s)
-      (place-else Small (firstCause (machineCauses n s)) (firstCause (wordCauses (n .word) s)) machine-small (λ q. word-small q (n .word)))
+      (place-else Small (firstCause (machineCauses n s)) (firstCause (wordCauses (n .word) s)) machine-small
+      (λ q. word-small q (n .word)))
 
   -- a sheet that is loaded is no longer than the longest
   pub load-short : firstCause (loadCauses n s) ≡ Clear → length s ≤ longest

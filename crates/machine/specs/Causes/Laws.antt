@@ -21,27 +21,34 @@ use Rattle.machine.specs.Machine.{pairAt, Commands}
 use Rattle.machine.specs.Causes.{outside, cause3, cause4, byteCause, commandsCause}
 
 -- cause 3, of the bytes and tests as the code has them
-pub cause3-is : (r : Record) (p : List ℕ) {n k : ℕ} → n ≡ getD p 0 0 → k ≡ getD p 1 0 → {a b : Bool} → a ≡ outside 1 mostStates n → b ≡ outside 1 mostCommands k
+pub cause3-is : (r : Record) (p : List ℕ) {n k : ℕ} → n ≡ getD p 0 0 → k ≡ getD p 1 0 → {a b : Bool}
+    → a ≡ outside 1 mostStates n → b ≡ outside 1 mostCommands k
     → (refusal 3 with r .start if (a || b || not (eqb (length p) (2 + 2 * (n * k))))) ≡ cause3 r p
 unfolding cause3
 cause3-is r p {n} {k} ne ke {a} {b} ae be = rw (ae, be, ne, ke)
 
 -- the check that a scan makes at a byte
-pub byte-check-is : (number base : ℕ) (p : List ℕ) (from stride bound i : ℕ) {b : ℕ} {c : Check} → b ≡ getD p (from + stride * i) 0
-    → c ≡ (refusal number with base + (from + stride * i) if leb bound b) → c ≡ byteCause number base p from stride bound i
+pub byte-check-is : (number base : ℕ) (p : List ℕ) (from stride bound i : ℕ) {b : ℕ} {c : Check}
+    → b ≡ getD p (from + stride * i) 0 → c ≡ (refusal number with base + (from + stride * i) if leb bound b)
+    → c ≡ byteCause number base p from stride bound i
 unfolding byteCause
-byte-check-is number base p from stride bound i be ce = ce ∙ ap (λ (x : ℕ). refusal number with base + (from + stride * i) if leb bound x) be
+byte-check-is number base p from stride bound i be ce =
+    ce ∙ ap (λ (x : ℕ). refusal number with base + (from + stride * i) if leb bound x) be
 
 -- cause 4 looks at every second byte from 2 on
-pub cause4-is : (r : Record) (p : List ℕ) → first (getD p 0 0 * getD p 1 0) (byteCause 4 (r .start + header) p 2 2 (getD p 0 0)) ≡ cause4 r p
+pub cause4-is : (r : Record) (p : List ℕ)
+    → first (getD p 0 0 * getD p 1 0) (byteCause 4 (r .start + header) p 2 2 (getD p 0 0)) ≡ cause4 r p
 unfolding cause4 byteCause
 cause4-is r p =
     let n = getD p 0 0 in
-    ap (first (n * getD p 1 0)) (fun-ext (λ e. ap (λ (x : ℕ). refusal 4 with x if leb n (getD p (pairAt e) 0)) (sym (offset-is r (pairAt e)))))
+    ap (first (n * getD p 1 0))
+    (fun-ext (λ e. ap (λ (x : ℕ). refusal 4 with x if leb n (getD p (pairAt e) 0)) (sym (offset-is r (pairAt e)))))
 
 -- causes 5 and 7 look at every byte
 pub commands-cause-is : (number most k : ℕ) (r : Record) (w : List ℕ)
-    → ((refusal number with r .start if outside 1 most (length w)) else first (length w) (byteCause number (r .start + header) w 0 1 k)) ≡ commandsCause number most k r w
+    → ((refusal number with r .start if outside 1 most (length w))
+    else first (length w) (byteCause number (r .start + header) w 0 1 k))
+    ≡ commandsCause number most k r w
 unfolding commandsCause byteCause
 commands-cause-is number most k r w =
     ap (λ (f : ℕ → Check). (refusal number with r .start if outside 1 most (length w)) else first (length w) f)
@@ -86,14 +93,18 @@ pub clear-next : (r : Record) (p : List ℕ) → cause4 r p ≡ Clear → (s c :
 unfolding cause4
 clear-next r p e s c sl cl =
     let i = s * getD p 1 0 + c in
-    leb-false _ _ (clear-absent 4 (offset r (pairAt i)) _ (first-clear-at _ i _ e (digits-lt {q = s} {m = getD p 0 0} {r = c} {c = getD p 1 0} sl cl)))
+    leb-false _ _ (clear-absent 4 (offset r (pairAt i)) _
+    (first-clear-at _ i _ e (digits-lt {q = s} {m = getD p 0 0} {r = c} {c = getD p 1 0} sl cl)))
 
 -- the commands of a word or a sequence
-pub clear-commands : (number most k : ℕ) (r : Record) (w : List ℕ) → commandsCause number most k r w ≡ Clear → Commands most k w
+pub clear-commands : (number most k : ℕ) (r : Record) (w : List ℕ) → commandsCause number most k r w ≡ Clear
+    → Commands most k w
 unfolding commandsCause
 clear-commands number most k r w e =
     let long = outside 1 most (length w) in
-    let both = both-clear (refusal number with r .start if long) (first (length w) (λ i. refusal number with offset r i if leb k (getD w i 0))) e in
+    let both =
+    both-clear (refusal number with r .start if long)
+    (first (length w) (λ i. refusal number with offset r i if leb k (getD w i 0))) e in
     let l = not-outside 1 most (length w) (clear-absent number (r .start) long (both .0)) in
     record {
       some = l .0;
@@ -102,7 +113,8 @@ clear-commands number most k r w e =
     }
 
 -- the other direction
-pub commands-clear : (number most k : ℕ) (r : Record) (w : List ℕ) → Commands most k w → commandsCause number most k r w ≡ Clear
+pub commands-clear : (number most k : ℕ) (r : Record) (w : List ℕ) → Commands most k w
+    → commandsCause number most k r w ≡ Clear
 unfolding commandsCause
 commands-clear number most k r w h =
     ap₂ _else_ (absent number (r .start) (ap₂ _||_ (le-ltb (length w) 1 (h .some)) (le-ltb most (length w) (h .few))))

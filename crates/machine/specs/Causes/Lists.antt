@@ -15,33 +15,40 @@ use Rattle.sheet.specs.Reader.{sheetCauses, needed, refusalOf, recordOf, conten
 use Rattle.sheet.specs.Reader.Laws.{needed-without-answers, needed-machine, needed-word, needed-clear, clear-reads}
 use Rattle.machine.specs.Limits.{mostMachine, mostWord}
 use Rattle.machine.specs.Machine.{Mealy, machineOf, Proper, Distinguishes}
-use Rattle.machine.specs.Causes.{cause3, cause4, cause5, cause6, machineIn, held, machineCauses, wordCauses, loadCauses}
+use Rattle.machine.specs.Causes.{cause3, cause4, cause5, cause6, machineIn, held, machineCauses, wordCauses}
+use Rattle.machine.specs.Causes.{loadCauses}
 use Rattle.machine.specs.Causes.Laws.{Shape, clear-shape, shape-entries, clear-next, clear-commands}
 use Rattle.machine.specs.Causes.Separation.{clear-separates}
 
 -- ---- the lists, written out
 pub machine-causes-are : (n : Needs) (s : List ℕ) → firstCause (machineCauses n s)
-    ≡ (firstCause (sheetCauses (needed n) s) else (cause3 (recordOf 1 s) (content 1 s) else cause4 (recordOf 1 s) (content 1 s)))
+    ≡ (firstCause (sheetCauses (needed n) s)
+    else (cause3 (recordOf 1 s) (content 1 s) else cause4 (recordOf 1 s) (content 1 s)))
 unfolding machineCauses
 machine-causes-are n s =
-    cause-append (sheetCauses (needed n) s) (cause3 (recordOf 1 s) (content 1 s) ∷ cause4 (recordOf 1 s) (content 1 s) ∷ [])
-    ∙ ap (λ (c : Check). firstCause (sheetCauses (needed n) s) else c) (cause-two (cause3 (recordOf 1 s) (content 1 s)) (cause4 (recordOf 1 s) (content 1 s)))
+    cause-append (sheetCauses (needed n) s)
+    (cause3 (recordOf 1 s) (content 1 s) ∷ cause4 (recordOf 1 s) (content 1 s) ∷ [])
+    ∙ ap (λ (c : Check). firstCause (sheetCauses (needed n) s) else c)
+    (cause-two (cause3 (recordOf 1 s) (content 1 s)) (cause4 (recordOf 1 s) (content 1 s)))
 
 pub word-causes-are : (s : List ℕ) → firstCause (wordCauses true s)
     ≡ (cause5 (machineIn s .k) (recordOf 2 s) (content 2 s) else cause6 (machineIn s) (content 2 s))
 unfolding wordCauses
-word-causes-are s = cause-two (cause5 (machineIn s .k) (recordOf 2 s) (content 2 s)) (cause6 (machineIn s) (content 2 s))
+word-causes-are s =
+    cause-two (cause5 (machineIn s .k) (recordOf 2 s) (content 2 s)) (cause6 (machineIn s) (content 2 s))
 
 pub word-causes-none : (s : List ℕ) → firstCause (wordCauses false s) ≡ Clear
 unfolding wordCauses
 word-causes-none s = cause-none
 
-pub load-causes-are : (n : Needs) (s : List ℕ) → firstCause (loadCauses n s) ≡ (firstCause (machineCauses n s) else firstCause (wordCauses (n .word) s))
+pub load-causes-are : (n : Needs) (s : List ℕ)
+    → firstCause (loadCauses n s) ≡ (firstCause (machineCauses n s) else firstCause (wordCauses (n .word) s))
 unfolding loadCauses
 load-causes-are n s = cause-append (machineCauses n s) (wordCauses (n .word) s)
 
 -- the machine that is loaded from what reading hands back is the one that is held
-pub held-loaded : (s : List ℕ) {p : List ℕ} {M : Mealy} → p ≡ content 1 s → M ≡ machineOf (take mostMachine p) → M ≡ held s
+pub held-loaded : (s : List ℕ) {p : List ℕ} {M : Mealy} → p ≡ content 1 s → M ≡ machineOf (take mostMachine p)
+    → M ≡ held s
 unfolding held
 held-loaded s pe e = e ∙ ap (λ (x : List ℕ). machineOf (take mostMachine x)) pe
 
@@ -68,7 +75,9 @@ module _ (n : Needs) (s : List ℕ) (e : firstCause (machineCauses n s) ≡ Clea
   -- the machine that is held is the sheet's
   pub held-is : held s ≡ machineIn s
   unfolding held machineIn
-  held-is = ap machineOf (take-all mostMachine (content 1 s) (omega (arith, shape-of .long, shape-entries (content 1 s) shape-of)))
+  held-is =
+      ap machineOf
+      (take-all mostMachine (content 1 s) (omega (arith, shape-of .long, shape-entries (content 1 s) shape-of)))
 
 pub machine-proper : (n : Needs) (s : List ℕ) → firstCause (machineCauses n s) ≡ Clear → Proper (machineIn s)
 unfolding machineIn machineOf
@@ -83,7 +92,8 @@ machine-proper n s e =
       stays = clear-next (recordOf 1 s) (content 1 s) (table-clear n s e .1);
     }
 
-pub clear-table : (n : Needs) (s : List ℕ) → firstCause (loadCauses n s) ≡ Clear → firstCause (machineCauses n s) ≡ Clear
+pub clear-table : (n : Needs) (s : List ℕ) → firstCause (loadCauses n s) ≡ Clear
+    → firstCause (machineCauses n s) ≡ Clear
 clear-table n s e = both-clear _ _ (sym (load-causes-are n s) ∙ e) .0
 
 -- the machine of a loaded sheet is within the limits, and reading the machine or a needed word is not refused
@@ -96,7 +106,8 @@ load-machine n s e = kind-clear n s (clear-table n s e) 1 (needed-machine n)
 pub load-word : (n : Needs) (s : List ℕ) → n .word ≡ true → firstCause (loadCauses n s) ≡ Clear → refusalOf 2 s ≡ Clear
 load-word n s t e = kind-clear n s (clear-table n s e) 2 (needed-word n t)
 
-pub word-distinguishes : (n : Needs) (s : List ℕ) → n .word ≡ true → firstCause (loadCauses n s) ≡ Clear → Distinguishes (machineIn s) (content 2 s)
+pub word-distinguishes : (n : Needs) (s : List ℕ) → n .word ≡ true → firstCause (loadCauses n s) ≡ Clear
+    → Distinguishes (machineIn s) (content 2 s)
 word-distinguishes n s t e =
     let five : firstCause (wordCauses true s) ≡ Clear = rw (← t) (both-clear _ _ (sym (load-causes-are n s) ∙ e) .1) in
     let two = both-clear _ _ (sym (word-causes-are s) ∙ five) in
@@ -106,7 +117,8 @@ word-distinguishes n s t e =
     }
 
 -- a service that does not need the answers refuses no sheet that one that does takes
-pub load-without-answers : (w q : Bool) (s : List ℕ) → firstCause (loadCauses (record { word = w; sequence = q; answers = true }) s) ≡ Clear
+pub load-without-answers : (w q : Bool) (s : List ℕ)
+    → firstCause (loadCauses (record { word = w; sequence = q; answers = true }) s) ≡ Clear
     → firstCause (loadCauses (record { word = w; sequence = q; answers = false }) s) ≡ Clear
 load-without-answers w q s e =
     let n : Needs = record { word = w; sequence = q; answers = true } in

@@ -19,7 +19,8 @@ module _ (M : Mealy) (w : List ℕ) (i : ℕ) where
   -- no pair below or on the diagonal counts
   pub low-clear : first (i + 1) (pairCause M w i) ≡ Clear
   low-clear = first-clear (i + 1) (pairCause M w i)
-      (λ j l. absent 6 (16 * i + j) (ap (λ (b : Bool). b && same (answers M i w) (answers M j w)) (le-ltb i j (omega arith))))
+      (λ j l. absent 6 (16 * i + j)
+      (ap (λ (b : Bool). b && same (answers M i w) (answers M j w)) (le-ltb i j (omega arith))))
 
   module _ (j : ℕ) (above : i < j) {b : Bool} (e : b ≡ same (answers M i w) (answers M j w)) where
     tested : (ltb i j && same (answers M i w) (answers M j w)) ≡ b
@@ -44,11 +45,13 @@ pairs-tabled n k start n′ start′ next answer w i =
     (answers-tabled n k start n′ start′ next answer j w))
 
 -- the rows of cause 6, of a machine of two columns
-pub cause6-rows : (n k start : ℕ) (next answer w : List ℕ) → first n (λ i. first n (pairCause (tabled n k start next answer) w i)) ≡ cause6 (tabled n k start next answer) w
+pub cause6-rows : (n k start : ℕ) (next answer w : List ℕ)
+    → first n (λ i. first n (pairCause (tabled n k start next answer) w i)) ≡ cause6 (tabled n k start next answer) w
 unfolding tabled
 cause6-rows n k start next answer w = cause6-is (tabled n k start next answer) w
 
-pub cause6-tabled : (n k start start′ : ℕ) (next answer w : List ℕ) → cause6 (tabled n k start next answer) w ≡ cause6 (tabled n k start′ next answer) w
+pub cause6-tabled : (n k start start′ : ℕ) (next answer w : List ℕ)
+    → cause6 (tabled n k start next answer) w ≡ cause6 (tabled n k start′ next answer) w
 cause6-tabled n k start start′ next answer w =
     sym (cause6-rows n k start next answer w)
     ∙ ap (first n) (fun-ext (λ i. ap (first n) (pairs-tabled n k start n start′ next answer w i)))
@@ -68,12 +71,17 @@ same-equal (x ∷ xs) (y ∷ ys) e =
     ap₂ _∷_ (eqb-true x y (h .0)) (same-equal xs ys (h .1))
 
 -- ---- cause 6 and separation
-pair-clear : (M : Mealy) (w : List ℕ) → cause6 M w ≡ Clear → (i j : ℕ) → i < M .n → j < M .n → (ltb i j && same (answers M i w) (answers M j w)) ≡ false
-pair-clear M w e i j il jl = clear-absent 6 (16 * i + j) _ (first-clear-at (M .n) j (pairCause M w i) (first-clear-at (M .n) i _ (cause6-is M w ∙ e) il) jl)
+pair-clear : (M : Mealy) (w : List ℕ) → cause6 M w ≡ Clear → (i j : ℕ) → i < M .n → j < M .n
+    → (ltb i j && same (answers M i w) (answers M j w)) ≡ false
+pair-clear M w e i j il jl =
+    clear-absent 6 (16 * i + j) _
+    (first-clear-at (M .n) j (pairCause M w i) (first-clear-at (M .n) i _ (cause6-is M w ∙ e) il) jl)
 
-never-below : (M : Mealy) (w : List ℕ) → cause6 M w ≡ Clear → (i j : ℕ) → i < M .n → j < M .n → answers M i w ≡ answers M j w → i < j → ⊥
+never-below : (M : Mealy) (w : List ℕ) → cause6 M w ≡ Clear → (i j : ℕ) → i < M .n → j < M .n
+    → answers M i w ≡ answers M j w → i < j → ⊥
 never-below M w e i j il jl q l =
-    let t : (ltb i j && same (answers M i w) (answers M j w)) ≡ true = ap₂ _&&_ (lt-ltb i j l) (ap (same (answers M i w)) (sym q) ∙ same-refl (answers M i w)) in
+    let t : (ltb i j && same (answers M i w) (answers M j w)) ≡ true =
+    ap₂ _&&_ (lt-ltb i j l) (ap (same (answers M i w)) (sym q) ∙ same-refl (answers M i w)) in
     true≢false (sym t ∙ pair-clear M w e i j il jl)
 
 pub clear-separates : (M : Mealy) (w : List ℕ) → cause6 M w ≡ Clear → Separates M w
@@ -87,9 +95,11 @@ clear-separates M w e i j il jl q = go (ltb i j) refl (ltb j i) refl
 pub separates-clear : (M : Mealy) (w : List ℕ) → Separates M w → cause6 M w ≡ Clear
 separates-clear M w h =
     sym (cause6-is M w)
-    ∙ first-clear (M .n) _ (λ i il. first-clear (M .n) (pairCause M w i) (λ j jl. absent 6 (16 * i + j) (go i j il jl _ refl)))
+    ∙ first-clear (M .n) _
+    (λ i il. first-clear (M .n) (pairCause M w i) (λ j jl. absent 6 (16 * i + j) (go i j il jl _ refl)))
   where
-    go : (i j : ℕ) → i < M .n → j < M .n → (b : Bool) → (ltb i j && same (answers M i w) (answers M j w)) ≡ b → (ltb i j && same (answers M i w) (answers M j w)) ≡ false
+    go : (i j : ℕ) → i < M .n → j < M .n → (b : Bool) → (ltb i j && same (answers M i w) (answers M j w)) ≡ b
+        → (ltb i j && same (answers M i w) (answers M j w)) ≡ false
     go i j il jl false e = e
     go i j il jl true e =
         let t = both-true (ltb i j) (same (answers M i w) (answers M j w)) e in

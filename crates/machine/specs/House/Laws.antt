@@ -1,5 +1,5 @@
--- The laws of the house unit: a table whose sixteen entries pass one test, which antt computes, has the specified entries; so has
--- its machine.
+-- The laws of the house unit: a table whose sixteen entries pass one test, which antt computes, has the specified
+-- entries; so has its machine.
 use Prim.Native.Nat.{ℕ, zero, suc, _+_, _*_, _/_, _%_, _≤_, _<_}
 use mathlib.Core.Path.{_≡_, refl, ap, ap₂, _∙_}
 use mathlib.Core.Bool.{Bool, true, _&&_}
@@ -28,7 +28,8 @@ every-at (suc n) f e i l =
 
 -- the test of a table's two columns, entry e being that of state e / 4 and command e % 4
 unfoldable pub rightAt : (ℕ → ℕ) → (ℕ → ℕ) → ℕ → Bool
-rightAt next answer e = eqb (next e) (houseEntry (e / 4) (e % 4) .next) && eqb (answer e) (houseEntry (e / 4) (e % 4) .answer)
+rightAt next answer e =
+    eqb (next e) (houseEntry (e / 4) (e % 4) .next) && eqb (answer e) (houseEntry (e / 4) (e % 4) .answer)
 
 unfoldable pub allRight : (ℕ → ℕ) → (ℕ → ℕ) → Bool
 allRight next answer = every 16 (rightAt next answer)
@@ -37,13 +38,15 @@ right-entry : (next answer : ℕ → ℕ) → allRight next answer ≡ true → 
     → record { next = next e; answer = answer e } ≡ houseEntry (e / 4) (e % 4)
 unfolding rightAt allRight
 right-entry next answer all e l =
-    let t = both-true (eqb (next e) (houseEntry (e / 4) (e % 4) .next)) (eqb (answer e) (houseEntry (e / 4) (e % 4) .answer))
+    let t =
+    both-true (eqb (next e) (houseEntry (e / 4) (e % 4) .next)) (eqb (answer e) (houseEntry (e / 4) (e % 4) .answer))
     (every-at 16 (rightAt next answer) all e l) in
     ap₂ (λ (x y : ℕ). record { next = x; answer = y }) (eqb-true _ _ (t .0)) (eqb-true _ _ (t .1))
 
 pub right-table : (next answer : ℕ → ℕ) → allRight next answer ≡ true → (s c : ℕ) → s ≤ 3 → c ≤ 3
     → record { next = next (s * 4 + c); answer = answer (s * 4 + c) } ≡ houseEntry s c
-right-table next answer all s c p q = right-entry next answer all (s * 4 + c) (omega arith) ∙ ap₂ houseEntry (omega arith) (omega arith)
+right-table next answer all s c p q =
+    right-entry next answer all (s * 4 + c) (omega arith) ∙ ap₂ houseEntry (omega arith) (omega arith)
 
 -- ---- the machine record, and the machine
 listed : allRight (λ e. getD housePayload (pairAt e) 0) (λ e. getD housePayload (pairAt e + 1) 0) ≡ true
@@ -52,7 +55,8 @@ listed = refl
 
 -- entry e of the record
 pub payload-entry : (e : ℕ) → e < 16
-    → record { next = getD housePayload (pairAt e) 0; answer = getD housePayload (pairAt e + 1) 0 } ≡ houseEntry (e / 4) (e % 4)
+    → record { next = getD housePayload (pairAt e) 0; answer = getD housePayload (pairAt e + 1) 0 }
+    ≡ houseEntry (e / 4) (e % 4)
 payload-entry = right-entry (λ e. getD housePayload (pairAt e) 0) (λ e. getD housePayload (pairAt e + 1) 0) listed
 
 pub payload-long : length housePayload ≡ 34
@@ -60,7 +64,9 @@ unfolding housePayload
 payload-long = refl
 
 -- the machine's sixteen entries are those of the lookup
-pub house-entry : (s c : ℕ) → s < house .n → c < house .k → record { next = house .next s c; answer = house .answer s c } ≡ houseEntry s c
+pub house-entry : (s c : ℕ) → s < house .n → c < house .k
+    → record { next = house .next s c; answer = house .answer s c } ≡ houseEntry s c
 unfolding house machineOf housePayload
 house-entry s c p q =
-    right-table (λ e. getD housePayload (pairAt e) 0) (λ e. getD housePayload (pairAt e + 1) 0) listed s c (omega arith) (omega arith)
+    right-table (λ e. getD housePayload (pairAt e) 0) (λ e. getD housePayload (pairAt e + 1) 0) listed s c (omega arith)
+    (omega arith)

@@ -41,16 +41,19 @@ module _ (m : Machine) where
   meaning-start = tabled-start (m .n) (m .k) (m .start) (m .next) (m .answer)
 
 -- a cell of a column, at an entry's place, is the entry's
-pub tabled-next : (n k start : ℕ) (next answer : List ℕ) (s c : ℕ) {v a : ℕ} → v ≡ getD next a 0 → a ≡ s * k + c → v ≡ tabled n k start next answer .next s c
+pub tabled-next : (n k start : ℕ) (next answer : List ℕ) (s c : ℕ) {v a : ℕ} → v ≡ getD next a 0 → a ≡ s * k + c
+    → v ≡ tabled n k start next answer .next s c
 unfolding tabled
 tabled-next n k start next answer s c ve ae = ve ∙ ap (λ (x : ℕ). getD next x 0) ae
 
-pub tabled-answer : (n k start : ℕ) (next answer : List ℕ) (s c : ℕ) {v a : ℕ} → v ≡ getD answer a 0 → a ≡ s * k + c → v ≡ tabled n k start next answer .answer s c
+pub tabled-answer : (n k start : ℕ) (next answer : List ℕ) (s c : ℕ) {v a : ℕ} → v ≡ getD answer a 0 → a ≡ s * k + c
+    → v ≡ tabled n k start next answer .answer s c
 unfolding tabled
 tabled-answer n k start next answer s c ve ae = ve ∙ ap (λ (x : ℕ). getD answer x 0) ae
 
 -- its next states are the cells of the column
-pub tabled-cells : (n k start : ℕ) (next answer : List ℕ) (s c : ℕ) → tabled n k start next answer .next s c ≡ getD next (s * tabled n k start next answer .k + c) 0
+pub tabled-cells : (n k start : ℕ) (next answer : List ℕ) (s c : ℕ)
+    → tabled n k start next answer .next s c ≡ getD next (s * tabled n k start next answer .k + c) 0
 unfolding tabled
 tabled-cells n k start next answer s c = refl
 
@@ -66,7 +69,8 @@ answers-same a b f g s (c ∷ w) =
 pub answers-tabled : (n k start n′ start′ : ℕ) (next answer : List ℕ) (s : ℕ) (w : List ℕ)
     → answers (tabled n k start next answer) s w ≡ answers (tabled n′ k start′ next answer) s w
 unfolding tabled
-answers-tabled n k start n′ start′ next answer s w = answers-same (tabled n k start next answer) (tabled n′ k start′ next answer) (λ x c. refl) (λ x c. refl) s w
+answers-tabled n k start n′ start′ next answer s w =
+    answers-same (tabled n k start next answer) (tabled n′ k start′ next answer) (λ x c. refl) (λ x c. refl) s w
 
 -- one command more in front
 pub answers-cons : (M : Mealy) (s c : ℕ) (w : List ℕ) → answers M s (c ∷ w) ≡ M .answer s c ∷ answers M (M .next s c) w
@@ -94,7 +98,8 @@ pub run-cons : (M : Mealy) (s c : ℕ) (w : List ℕ) → run M s (c ∷ w) ≡ 
 unfolding run
 run-cons M s c w = refl
 
-pub run-rest : (M : Mealy) (s : ℕ) (w : List ℕ) (p : ℕ) → p < length w → run M s (drop p w) ≡ run M (M .next s (getD w p 0)) (drop (p + 1) w)
+pub run-rest : (M : Mealy) (s : ℕ) (w : List ℕ) (p : ℕ) → p < length w
+    → run M s (drop p w) ≡ run M (M .next s (getD w p 0)) (drop (p + 1) w)
 run-rest M s w p l = ap (run M s) (rest-cons w p l) ∙ run-cons M s (getD w p 0) (drop (p + 1) w)
 
 pub run-append : (M : Mealy) (s : ℕ) (u v : List ℕ) → run M s (u ++ v) ≡ run M (run M s u) v
@@ -114,24 +119,29 @@ answers-take M s zero xs = refl
 answers-take M s (suc m) [] = refl
 answers-take M s (suc m) (c ∷ xs) = ap (λ (l : List ℕ). M .answer s c ∷ l) (answers-take M (M .next s c) m xs)
 
-pub answers-drop : (M : Mealy) (s p : ℕ) (xs : List ℕ) → drop p (answers M s xs) ≡ answers M (run M s (take p xs)) (drop p xs)
+pub answers-drop : (M : Mealy) (s p : ℕ) (xs : List ℕ)
+    → drop p (answers M s xs) ≡ answers M (run M s (take p xs)) (drop p xs)
 unfolding run answers
 answers-drop M s zero xs = refl
 answers-drop M s (suc p) [] = refl
 answers-drop M s (suc p) (c ∷ xs) = answers-drop M (M .next s c) p xs
 
-answers-get : (M : Mealy) (s p : ℕ) (xs : List ℕ) → p < length xs → getD (answers M s xs) p 0 ≡ M .answer (run M s (take p xs)) (getD xs p 0)
+answers-get : (M : Mealy) (s p : ℕ) (xs : List ℕ) → p < length xs
+    → getD (answers M s xs) p 0 ≡ M .answer (run M s (take p xs)) (getD xs p 0)
 unfolding run answers
 answers-get M s p [] l = let z : ⊥ = omega arith in absurd z
 answers-get M s zero (c ∷ xs) l = refl
 answers-get M s (suc p) (c ∷ xs) l = answers-get M (M .next s c) p xs (omega arith)
 
 -- so the answers to m commands from place p are those of its state, and the answer at a place is its entry's
-pub answers-part : (M : Mealy) (xs : List ℕ) (p m : ℕ) → take m (drop p (answers M (M .start) xs)) ≡ answers M (stateAt M xs p) (take m (drop p xs))
+pub answers-part : (M : Mealy) (xs : List ℕ) (p m : ℕ)
+    → take m (drop p (answers M (M .start) xs)) ≡ answers M (stateAt M xs p) (take m (drop p xs))
 unfolding stateAt
-answers-part M xs p m = ap (take m) (answers-drop M (M .start) p xs) ∙ answers-take M (run M (M .start) (take p xs)) m (drop p xs)
+answers-part M xs p m =
+    ap (take m) (answers-drop M (M .start) p xs) ∙ answers-take M (run M (M .start) (take p xs)) m (drop p xs)
 
-pub answer-at : (M : Mealy) (xs : List ℕ) (p : ℕ) → p < length xs → getD (answers M (M .start) xs) p 0 ≡ M .answer (stateAt M xs p) (getD xs p 0)
+pub answer-at : (M : Mealy) (xs : List ℕ) (p : ℕ) → p < length xs
+    → getD (answers M (M .start) xs) p 0 ≡ M .answer (stateAt M xs p) (getD xs p 0)
 unfolding stateAt
 answer-at M xs p l = answers-get M (M .start) p xs l
 
@@ -140,7 +150,8 @@ pub state-start : (M : Mealy) (xs : List ℕ) → stateAt M xs 0 ≡ M .start
 unfolding stateAt run
 state-start M xs = refl
 
-pub state-next : (M : Mealy) (xs : List ℕ) (p : ℕ) → p < length xs → stateAt M xs (p + 1) ≡ M .next (stateAt M xs p) (getD xs p 0)
+pub state-next : (M : Mealy) (xs : List ℕ) (p : ℕ) → p < length xs
+    → stateAt M xs (p + 1) ≡ M .next (stateAt M xs p) (getD xs p 0)
 unfolding stateAt run
 state-next M xs p l =
     ap (λ (x : ℕ). run M (M .start) (take x xs)) (add-one p)
@@ -160,24 +171,27 @@ state-end M xs = ap (run M (M .start)) (take-all (length xs) xs (omega arith))
 -- the state m commands after p is where these lead from p's state
 state-along : (M : Mealy) (xs : List ℕ) (p m : ℕ) → stateAt M xs (p + m) ≡ run M (stateAt M xs p) (take m (drop p xs))
 unfolding stateAt
-state-along M xs p m = ap (run M (M .start)) (take-add p m xs) ∙ run-append M (M .start) (take p xs) (take m (drop p xs))
+state-along M xs p m =
+    ap (run M (M .start)) (take-add p m xs) ∙ run-append M (M .start) (take p xs) (take m (drop p xs))
 
 -- equal commands from equal states lead to equal states
-pub states-agree : (M : Mealy) (xs : List ℕ) (p q m : ℕ) → stateAt M xs p ≡ stateAt M xs q → take m (drop p xs) ≡ take m (drop q xs)
-    → stateAt M xs (p + m) ≡ stateAt M xs (q + m)
+pub states-agree : (M : Mealy) (xs : List ℕ) (p q m : ℕ) → stateAt M xs p ≡ stateAt M xs q
+    → take m (drop p xs) ≡ take m (drop q xs) → stateAt M xs (p + m) ≡ stateAt M xs (q + m)
 states-agree M xs p q m e same = state-along M xs p m ∙ ap₂ (run M) e same ∙ sym (state-along M xs q m)
 
 -- ---- commands below k: of two strings, of the first commands of one, and of the later ones
-pub low-append : (k : ℕ) (u v : List ℕ) → ((i : ℕ) → i < length u → getD u i 0 < k) → ((i : ℕ) → i < length v → getD v i 0 < k)
-    → (i : ℕ) → i < length (u ++ v) → getD (u ++ v) i 0 < k
+pub low-append : (k : ℕ) (u v : List ℕ) → ((i : ℕ) → i < length u → getD u i 0 < k)
+    → ((i : ℕ) → i < length v → getD v i 0 < k) → (i : ℕ) → i < length (u ++ v) → getD (u ++ v) i 0 < k
 low-append k [] v p q i l = q i l
 low-append k (c ∷ u) v p q zero l = p 0 (omega arith)
 low-append k (c ∷ u) v p q (suc i) l = low-append k u v (λ j m. p (suc j) (omega arith)) q i (omega arith)
 
-pub low-take : (k n : ℕ) (u : List ℕ) → ((i : ℕ) → i < length u → getD u i 0 < k) → (i : ℕ) → i < length (take n u) → getD (take n u) i 0 < k
+pub low-take : (k n : ℕ) (u : List ℕ) → ((i : ℕ) → i < length u → getD u i 0 < k) → (i : ℕ) → i < length (take n u)
+    → getD (take n u) i 0 < k
 low-take k n u h i l = let m = simp length-take at l in rw (getD-take n u i 0 (omega arith)) (h i (omega arith))
 
-pub low-drop : (k n : ℕ) (u : List ℕ) → ((i : ℕ) → i < length u → getD u i 0 < k) → (i : ℕ) → i < length (drop n u) → getD (drop n u) i 0 < k
+pub low-drop : (k n : ℕ) (u : List ℕ) → ((i : ℕ) → i < length u → getD u i 0 < k) → (i : ℕ) → i < length (drop n u)
+    → getD (drop n u) i 0 < k
 low-drop k n u h i l = let m = simp length-drop at l in rw (getD-drop n u i 0) (h (n + i) (omega arith))
 
 -- ---- a run stays among the states
@@ -185,18 +199,22 @@ module _ (M : Mealy) (closed : (s c : ℕ) → s < M .n → c < M .k → M .next
   run-closed : (s : ℕ) (w : List ℕ) → s < M .n → ((i : ℕ) → i < length w → getD w i 0 < M .k) → run M s w < M .n
   unfolding run
   run-closed s [] sl low = sl
-  run-closed s (c ∷ w) sl low = run-closed (M .next s c) w (closed s c sl (low 0 (omega arith))) (λ i l. low (suc i) (omega arith))
+  run-closed s (c ∷ w) sl low =
+      run-closed (M .next s c) w (closed s c sl (low 0 (omega arith))) (λ i l. low (suc i) (omega arith))
 
   -- every place of a sequence has one of them
-  pub state-closed : M .start < M .n → (xs : List ℕ) → ((i : ℕ) → i < length xs → getD xs i 0 < M .k) → (p : ℕ) → stateAt M xs p < M .n
+  pub state-closed : M .start < M .n → (xs : List ℕ) → ((i : ℕ) → i < length xs → getD xs i 0 < M .k) → (p : ℕ)
+      → stateAt M xs p < M .n
   unfolding stateAt
   state-closed starts xs low p = run-closed (M .start) (take p xs) starts (low-take (M .k) p xs low)
 
 -- so of a machine within the limits
-pub run-stays : (M : Mealy) → Proper M → (s : ℕ) (w : List ℕ) → s < M .n → ((i : ℕ) → i < length w → getD w i 0 < M .k) → run M s w < M .n
+pub run-stays : (M : Mealy) → Proper M → (s : ℕ) (w : List ℕ) → s < M .n → ((i : ℕ) → i < length w → getD w i 0 < M .k)
+    → run M s w < M .n
 run-stays M h = run-closed M (h .stays)
 
-pub state-stays : (M : Mealy) → Proper M → (xs : List ℕ) → ((i : ℕ) → i < length xs → getD xs i 0 < M .k) → (p : ℕ) → stateAt M xs p < M .n
+pub state-stays : (M : Mealy) → Proper M → (xs : List ℕ) → ((i : ℕ) → i < length xs → getD xs i 0 < M .k) → (p : ℕ)
+    → stateAt M xs p < M .n
 state-stays M h = state-closed M (h .stays) (h .starts)
 
 -- it has few entries, and entry (s, c) stands among them

@@ -4,7 +4,8 @@ use Rattle.judge.specs.declared.answer.Answer.the-variants.{Pass, Wrong, Unfini
 use Rattle.certify.specs.declared.answer.Answer.the-variants.{Certified, Open, Refused as RefusedCertification}
 use Rattle.report.specs.Text.{bytes, decimalWithin, decimal}
 use Rattle.report.specs.Phrases.{phrases, phrase}
-use Rattle.report.specs.Lines.{refusalLine, passLine, wrongLine, unfinishedLine, judgeLine, certifiedLine, openLine, certifyLine}
+use Rattle.report.specs.Lines.{refusalLine, passLine, wrongLine, unfinishedLine, judgeLine, certifiedLine}
+use Rattle.report.specs.Lines.{openLine, certifyLine}
 
 pub pass : judgeLine (Pass 12 0) ≡ bytes "PASS 12 end 0\n"
 unfolding passLine decimal decimalWithin

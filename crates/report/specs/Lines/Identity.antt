@@ -1,4 +1,5 @@
--- The identity claim as the reader of the line has it: a line that begins with P is that of a pass, and no other line is; it tells the end state.
+-- The identity claim as the reader of the line has it: a line that begins with P is that of a pass, and no other line
+-- is; it tells the end state.
 use Prim.Native.Nat.{ℕ}
 use mathlib.Core.Path.{_≡_, refl, ap}
 use mathlib.Core.List.{List}
@@ -29,11 +30,13 @@ passing-pass (Wrong place specified given) e = let z : ⊥ = omega (arith, e) in
 passing-pass (Unfinished number) e = let z : ⊥ = omega (arith, e) in absurd z
 passing-pass (Refused number place) e = let z : ⊥ = omega (arith, e) in absurd z
 
--- whatever the unit, if the line begins so and the answers judged are the unit's own, the line is that of a pass with some end state, and there is
--- a renaming, which gives the unit's present state to that end state
-pub line-identity : (room : ℕ) (s : List ℕ) (U : Unit (machineIn s .n) (machineIn s .k)) → Passing (judgeLine (judgement room s))
+-- whatever the unit, if the line begins so and the answers judged are the unit's own, the line is that of a pass with
+-- some end state, and there is a renaming, which gives the unit's present state to that end state
+pub line-identity : (room : ℕ) (s : List ℕ) (U : Unit (machineIn s .n) (machineIn s .k))
+    → Passing (judgeLine (judgement room s))
     → content 4 s ≡ ownAnswers (machineIn s .n) (machineIn s .k) U (content 3 s)
-    → (size : ℕ) × (end : ℕ) × (judgeLine (judgement room s) ≡ passLine size end) × Renaming (machineIn s) U (content 3 s) end
+    → (size : ℕ) × (end : ℕ) × (judgeLine (judgement room s) ≡ passLine size end)
+    × Renaming (machineIn s) U (content 3 s) end
 line-identity room s U e own =
     let h = passing-pass (judgement room s) e in
     (h .0, h .1, ap judgeLine (h .2), pass-identity room s refl U (h .0) (h .1) (h .2) own)

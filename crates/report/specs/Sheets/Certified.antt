@@ -18,7 +18,8 @@ use Rattle.machine.specs.Limits.{mostMachine, mostWord, mostSequence}
 use Rattle.machine.specs.Machine.{Mealy, Commands}
 use Rattle.machine.specs.Causes.{cause3, cause4, cause5, cause6, machineIn, loadCauses}
 use Rattle.machine.specs.Causes.Laws.{shape-entries, commands-clear}
-use Rattle.machine.specs.Causes.Lists.{machine-same, machine-causes-are, word-causes-are, load-causes-are, shape-of, clear-table, load-machine, load-word, word-distinguishes}
+use Rattle.machine.specs.Causes.Lists.{machine-same, machine-causes-are, word-causes-are, load-causes-are, shape-of}
+use Rattle.machine.specs.Causes.Lists.{clear-table, load-machine, load-word, word-distinguishes}
 use Rattle.certify.specs.declared.answer.Answer.the-variants.{Certified}
 use Rattle.certify.specs.Marks.{count, marks}
 use Rattle.certify.specs.Certification.{sequenceNeeds, cause7, certification}
@@ -62,7 +63,8 @@ source-of s load =
     let pair = pair-of s at-one at-two in
     let shape = shape-of buildNeeds s rows in
     let starts-one : recordOf 1 s .start ≡ 0 = ap (λ (r : Record). r .start) (sym (pair .first .is)) ∙ start-at s 0 in
-    let starts-two : recordOf 2 s .start ≡ end (recordOf 1 s) = ap (λ (r : Record). r .start) (sym (pair .second .is)) ∙ start-at s (end (recordOf 1 s)) in
+    let starts-two : recordOf 2 s .start ≡ end (recordOf 1 s) =
+    ap (λ (r : Record). r .start) (sym (pair .second .is)) ∙ start-at s (end (recordOf 1 s)) in
     let few : length (content 1 s) ≤ mostMachine = omega (arith, shape .long, shape-entries (content 1 s) shape) in
     record {
       one = one;
@@ -71,7 +73,17 @@ source-of s load =
       at-two = at-two;
       pair = pair;
       inside = reads-two .inside;
-      short = omega (arith, starts-one, starts-two, few, end-size (recordOf 1 s), end-size (recordOf 2 s), size-of 1 s one at-one (reads-one .inside), size-of 2 s two at-two (reads-two .inside), word-distinguishes buildNeeds s refl load .commands .few);
+      short = omega (
+        arith,
+        starts-one,
+        starts-two,
+        few,
+        end-size (recordOf 1 s),
+        end-size (recordOf 2 s),
+        size-of 1 s one at-one (reads-one .inside),
+        size-of 2 s two at-two (reads-two .inside),
+        word-distinguishes buildNeeds s refl load .commands .few,
+      );
       table = parts .1;
       word = sym (word-causes-are s) ∙ both-clear _ _ (sym (load-causes-are buildNeeds s) ∙ load) .1;
     }
@@ -87,7 +99,8 @@ pub record Carries (s xs t : List ℕ) : Type 0 where
   pub short : length t ≤ longest
   pub clear : firstCause (loadCauses (sequenceNeeds false) t) ≡ Clear
 
-parts-carry : (s xs : List ℕ) → Source s → length xs ≤ mostSequence → Carries s xs (take (end (recordOf 2 s)) s ++ headerOf 3 (length xs) ++ xs)
+parts-carry : (s xs : List ℕ) → Source s → length xs ≤ mostSequence
+    → Carries s xs (take (end (recordOf 2 s)) s ++ headerOf 3 (length xs) ++ xs)
 parts-carry s xs h few =
     let p = h .pair in
     let inside = h .inside in
@@ -121,30 +134,39 @@ parts-carry s xs h few =
       short = omega (arith, short, reading.added-long s xs p inside low);
       clear =
           load-causes-are (sequenceNeeds false) t
-          ∙ ap₂ _else_ (machine-causes-are (sequenceNeeds false) t ∙ ap₂ _else_ sheet table ∙ else-clear Clear) (word-causes-are t ∙ word)
+          ∙ ap₂ _else_ (machine-causes-are (sequenceNeeds false) t ∙ ap₂ _else_ sheet table ∙ else-clear Clear)
+          (word-causes-are t ∙ word)
           ∙ else-clear Clear;
     }
 
 carries : (s xs : List ℕ) → Source s → length xs ≤ mostSequence → Carries s xs (withSequence s xs)
 carries s xs h few = subst (Carries s xs) (with-sequence-is s xs) (parts-carry s xs h few)
 
--- where a sequence was built, the sheet that is made has the same machine and word and carries the sequence, and no cause of 1 to 6 is present
-pub built-carries : (room : ℕ) (s : List ℕ) {n : ℕ} → building room s ≡ Built n → Carries s (sequence (machineIn s) (content 2 s)) (builtSheet s)
+-- where a sequence was built, the sheet that is made has the same machine and word and carries the sequence, and no
+-- cause of 1 to 6 is present
+pub built-carries : (room : ℕ) (s : List ℕ) {n : ℕ} → building room s ≡ Built n
+    → Carries s (sequence (machineIn s) (content 2 s)) (builtSheet s)
 built-carries room s e =
-    carries s (sequence (machineIn s) (content 2 s)) (source-of s (load-clear room s (answer-built room s e .0))) (built-sequence room s e .commands .few)
+    carries s (sequence (machineIn s) (content 2 s)) (source-of s (load-clear room s (answer-built room s e .0)))
+    (built-sequence room s e .commands .few)
 
 -- and certifying it, in a room for its marks, answers certified
-pub built-sheet-certified : (room : ℕ) (s : List ℕ) {n : ℕ} → building room s ≡ Built n → (marksRoom : ℕ) → n + 1 ≤ marksRoom
-    → certification marksRoom (builtSheet s) ≡ Certified (count (marks (machineIn s) (content 2 s) (sequence (machineIn s) (content 2 s))))
+pub built-sheet-certified : (room : ℕ) (s : List ℕ) {n : ℕ} → building room s ≡ Built n → (marksRoom : ℕ)
+    → n + 1 ≤ marksRoom
+    → certification marksRoom (builtSheet s)
+    ≡ Certified (count (marks (machineIn s) (content 2 s) (sequence (machineIn s) (content 2 s))))
 built-sheet-certified room s {n} e marksRoom enough =
     let xs = sequence (machineIn s) (content 2 s) in
     let t = builtSheet s in
     let c = built-carries room s e in
     let sequence-facts = built-sequence room s e in
-    let long : length (content 3 t) + 1 ≤ marksRoom = omega (arith, enough, sequence-facts .long, ap length (c .sequence)) in
+    let long : length (content 3 t) + 1 ≤ marksRoom =
+    omega (arith, enough, sequence-facts .long, ap length (c .sequence)) in
     let seven : cause7 (machineIn t .k) (recordOf 3 t) (content 3 t) ≡ Clear =
     commands-clear 7 mostSequence (machineIn t .k) (recordOf 3 t) (content 3 t)
-    (subst (λ (M : Mealy). Commands mostSequence (M .k) (content 3 t)) (sym (c .machine)) (subst (λ (l : List ℕ). Commands mostSequence (machineIn s .k) l) (sym (c .sequence)) (sequence-facts .commands))) in
+    (subst (λ (M : Mealy). Commands mostSequence (M .k) (content 3 t)) (sym (c .machine))
+    (subst (λ (l : List ℕ). Commands mostSequence (machineIn s .k) l) (sym (c .sequence))
+    (sequence-facts .commands))) in
     built-certification room s e marksRoom t (c .machine) (c .word) (c .sequence)
     (sequence-causes-are false marksRoom t
     ∙ ap₂ _else_ (c .clear) (ap₂ _else_ seven (room-clear marksRoom (length (content 3 t) + 1) long) ∙ else-clear Clear)

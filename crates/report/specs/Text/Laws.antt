@@ -1,11 +1,13 @@
--- The laws of numbers in decimal: their equations without a bound, and that they are what the kit's `io::decimal` promises.
+-- The laws of numbers in decimal: their equations without a bound, and that they are what the kit's
+-- `io::decimal` promises.
 use Prim.Native.Nat.{ℕ, zero, suc, _+_, _-_, _*_, _/_, _%_, _^_, _≤_, _<_}
 use mathlib.Core.Path.{_≡_, refl, sym, ap, ap₂, subst, _∙_}
 use mathlib.Core.Bool.{Bool, true, false}
 use mathlib.Core.List.{List, [], _∷_, _++_}
 use native.Mathlib.Omega.{arith}
 use native.Mathlib.Numerals.{add-one}
-use native.Mathlib.Nat.{pow-suc, one-le-pow, pow-le-pow-right, mod-lt, mod-eq-of-lt, div-lt-self, div-lt-iff-lt-mul, le-div-iff-mul-le}
+use native.Mathlib.Nat.{pow-suc, one-le-pow, pow-le-pow-right, mod-lt, mod-eq-of-lt, div-lt-self, div-lt-iff-lt-mul}
+use native.Mathlib.Nat.{le-div-iff-mul-le}
 use borrow.Author.Tests.{lt-ltb, le-ltb, ltb-true, ltb-false}
 use lib.Dec.{ltb}
 use Rattle.io.specs.Digits.{glyph, digits, Fewest}
@@ -38,7 +40,9 @@ enough (suc f) (suc g) n a b = go (ltb n 10) refl (enough f g (n / 10))
     go false e again =
         let h : 10 ≤ n = ltb-false n 10 e in
         let less : n / 10 < n = shorter n h in
-        within-more f n h ∙ ap (λ (l : List ℕ). l ++ ((48 + n % 10) ∷ [])) (again (omega arith) (omega arith)) ∙ sym (within-more g n h)
+        within-more f n h
+        ∙ ap (λ (l : List ℕ). l ++ ((48 + n % 10) ∷ [])) (again (omega arith) (omega arith))
+        ∙ sym (within-more g n h)
 
 -- ---- without
 -- one digit
@@ -51,7 +55,9 @@ pub decimal-more : (n : ℕ) → 10 ≤ n → decimal n ≡ decimal (n / 10) ++ 
 unfolding decimal
 decimal-more n h =
     let less : n / 10 < n = shorter n h in
-    ap (λ (f : ℕ). decimalWithin f n) (add-one n) ∙ within-more n n h ∙ ap (λ (l : List ℕ). l ++ ((48 + n % 10) ∷ [])) (enough n (n / 10 + 1) (n / 10) (omega arith) (omega arith))
+    ap (λ (f : ℕ). decimalWithin f n) (add-one n)
+    ∙ within-more n n h
+    ∙ ap (λ (l : List ℕ). l ++ ((48 + n % 10) ∷ [])) (enough n (n / 10 + 1) (n / 10) (omega arith) (omega arith))
 
 -- ---- the kit's promise
 glyph-is : (d : ℕ) → d < 10 → glyph d ≡ 48 + d
@@ -63,7 +69,8 @@ agree zero n k a h = let z : ⊥ = omega arith in absurd z
 agree (suc f) n zero a h = let z : ⊥ = omega (arith, h .0) in absurd z
 agree (suc f) n (suc k) a h = go (ltb n 10) refl k h (agree f (n / 10) k)
   where
-    go : (t : Bool) → ltb n 10 ≡ t → (k : ℕ) → Fewest 10 1 n (suc k) → (n / 10 < f → Fewest 10 1 (n / 10) k → digits 10 k (n / 10) ≡ decimal (n / 10))
+    go : (t : Bool) → ltb n 10 ≡ t → (k : ℕ) → Fewest 10 1 n (suc k)
+        → (n / 10 < f → Fewest 10 1 (n / 10) k → digits 10 k (n / 10) ≡ decimal (n / 10))
         → digits 10 (suc k) n ≡ decimal n
     go true e zero h again =
         let low : n < 10 = ltb-true n 10 e in
@@ -82,9 +89,12 @@ agree (suc f) n (suc k) a h = go (ltb n 10) refl k h (agree f (n / 10) k)
         let few : Fewest 10 1 (n / 10) (suc k) = (
           omega arith,
           div-lt-iff-lt-mul {k = 10} (omega arith) .1 (subst (λ (x : ℕ). n < x) (pow-suc 10 (suc k)) (h .1)),
-          λ _. le-div-iff-mul-le {k = 10} (omega arith) .1 (subst (λ (j : ℕ). 10 ^ j * 10 ≤ n) (sym (suc-sub k)) (subst (λ (x : ℕ). x ≤ n) (pow-suc 10 k) top)),
+          λ _. le-div-iff-mul-le {k = 10} (omega arith) .1
+              (subst (λ (j : ℕ). 10 ^ j * 10 ≤ n) (sym (suc-sub k)) (subst (λ (x : ℕ). x ≤ n) (pow-suc 10 k) top)),
         ) in
-        ap₂ (λ (l : List ℕ) (d : ℕ). l ++ (d ∷ [])) (again (omega arith) few) (glyph-is (n % 10) (mod-lt n (omega arith))) ∙ sym (decimal-more n high)
+        ap₂ (λ (l : List ℕ) (d : ℕ). l ++ (d ∷ [])) (again (omega arith) few)
+        (glyph-is (n % 10) (mod-lt n (omega arith)))
+        ∙ sym (decimal-more n high)
 
 -- the digits that `io::decimal` gives are the number in decimal
 pub digits-decimal : (n k : ℕ) → Fewest 10 1 n k → digits 10 k n ≡ decimal n
@@ -98,5 +108,6 @@ few-digits n k l h = go (ltb mostDigits k) refl
     go false e = ltb-false mostDigits k e
     go true e =
         let high = ltb-true mostDigits k e in
-        let most : 10 ^ mostDigits ≤ 10 ^ (k - 1) = pow-le-pow-right {n = 10} (omega arith) {i = mostDigits} {j = k - 1} (omega arith) in
+        let most : 10 ^ mostDigits ≤ 10 ^ (k - 1) =
+        pow-le-pow-right {n = 10} (omega arith) {i = mostDigits} {j = k - 1} (omega arith) in
         let z : ⊥ = omega (arith, h .2 (omega arith)) in absurd z

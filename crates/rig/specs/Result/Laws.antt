@@ -1,4 +1,5 @@
--- The laws of the rig's number: each field can be read back from it, because it fits; and what judging's answer shows of a unit, its number shows.
+-- The laws of the rig's number: each field can be read back from it, because it fits; and what judging's answer shows
+-- of a unit, its number shows.
 use Prim.Native.Nat.{ℕ}
 use mathlib.Core.Path.{_≡_, refl, sym, _∙_, subst}
 use mathlib.Core.List.{List}
@@ -28,10 +29,12 @@ pub packed-fields : (v : Values) → Fits v → Fields (packed v) v
 unfolding packed
 packed-fields v h = record { class = omega arith; place = omega arith; a = omega arith; b = omega arith }
 
-pub certifying-fields : (room : ℕ) (s : List ℕ) → Fields (packed (certifyingValues (certification room s))) (certifyingValues (certification room s))
+pub certifying-fields : (room : ℕ) (s : List ℕ)
+    → Fields (packed (certifyingValues (certification room s))) (certifyingValues (certification room s))
 certifying-fields room s = packed-fields _ (certification-fits room s)
 
-pub judging-fields : (room : ℕ) (s : List ℕ) → Bytes s → Fields (packed (judgingValues (judgement room s))) (judgingValues (judgement room s))
+pub judging-fields : (room : ℕ) (s : List ℕ) → Bytes s
+    → Fields (packed (judgingValues (judgement room s))) (judgingValues (judgement room s))
 judging-fields room s bytes = packed-fields _ (judgement-fits room s bytes)
 
 -- ---- the identity claim
@@ -39,4 +42,5 @@ pub number-identity : (room : ℕ) (s : List ℕ) → Bytes s → RigIdentity s 
 number-identity room s bytes U hundred own =
     let f = judging-fields room s bytes in
     let pass = class-pass room s (sym (f .class) ∙ hundred) in
-    subst (λ (end : ℕ). Renaming (machineIn s) U (content 3 s) end) (sym (f .b)) (pass-identity room s refl U (pass .0) _ (pass .1) own)
+    subst (λ (end : ℕ). Renaming (machineIn s) U (content 3 s) end) (sym (f .b))
+    (pass-identity room s refl U (pass .0) _ (pass .1) own)

@@ -1,5 +1,5 @@
--- What holds of number and place wherever a check refuses, and how it passes on to the checks that are made of it. The capture rig packs both into
--- one number, so every service needs bounds on them.
+-- What holds of number and place wherever a check refuses, and how it passes on to the checks that are made of it. The
+-- capture rig packs both into one number, so every service needs bounds on them.
 use Prim.Native.Nat.{ℕ, _<_}
 use mathlib.Core.Path.{_≡_, refl, sym, _∙_}
 use mathlib.Core.Bool.{Bool, true}
@@ -8,7 +8,8 @@ use mathlib.Core.List.{List, [], _∷_, map}
 use Rattle.sheet.specs.declared.check.Check.{Check}
 use Rattle.sheet.specs.declared.check.Check.the-variants.{Clear, Refused}
 use Rattle.sheet.specs.Check.{refusal_with_if_, _else_, firstCause, first}
-use Rattle.sheet.specs.Check.Laws.{clear-refused, either-refused, cause-none, cause-cons, first-present, present-test}
+use Rattle.sheet.specs.Check.Laws.{clear-refused, either-refused, cause-none, cause-cons, first-present}
+use Rattle.sheet.specs.Check.Laws.{present-test}
 
 -- P holds of number and place where the check refuses
 abbrev pub WhereRefused : (ℕ → ℕ → Type 0) → Check → Type 0
@@ -29,13 +30,16 @@ module _ (P : ℕ → ℕ → Type 0) where
   -- two checks in a row: the second counts only where the first is clear
   pub place-else : (c d : Check) → WhereRefused P c → (c ≡ Clear → WhereRefused P d) → WhereRefused P (c else d)
   place-else c d h k n p e =
-      ⊎-elim (λ (q : c ≡ Refused n p). h n p q) (λ (q : (c ≡ Clear) × (d ≡ Refused n p)). k (q .0) n p (q .1)) (either-refused c d e)
+      ⊎-elim (λ (q : c ≡ Refused n p). h n p q) (λ (q : (c ≡ Clear) × (d ≡ Refused n p)). k (q .0) n p (q .1))
+      (either-refused c d e)
 
   -- a list of causes
-  pub place-cons : (c : Check) (cs : List Check) → WhereRefused P c → (c ≡ Clear → WhereRefused P (firstCause cs)) → WhereRefused P (firstCause (c ∷ cs))
+  pub place-cons : (c : Check) (cs : List Check) → WhereRefused P c → (c ≡ Clear → WhereRefused P (firstCause cs))
+      → WhereRefused P (firstCause (c ∷ cs))
   place-cons c cs h k = place-of (cause-cons c cs) (place-else c (firstCause cs) h k)
 
-  pub place-map : (f : ℕ → Check) (xs : List ℕ) → ((x : ℕ) → WhereRefused P (f x)) → WhereRefused P (firstCause (map f xs))
+  pub place-map : (f : ℕ → Check) (xs : List ℕ) → ((x : ℕ) → WhereRefused P (f x))
+      → WhereRefused P (firstCause (map f xs))
   place-map f [] h = place-of cause-none place-clear
   place-map f (x ∷ xs) h = place-cons (f x) (map f xs) (h x) (λ q. place-map f xs h)
 

@@ -54,7 +54,8 @@ both-clear Clear b e = (refl, e)
 both-clear (Refused n p) b e = (e, cc)
 
 -- where they refuse, the first one does, or it is clear and the second one does
-pub either-refused : (c d : Check) {a b : ℕ} → (c else d) ≡ Refused a b → (c ≡ Refused a b) ⊎ ((c ≡ Clear) × (d ≡ Refused a b))
+pub either-refused : (c d : Check) {a b : ℕ} → (c else d) ≡ Refused a b
+    → (c ≡ Refused a b) ⊎ ((c ≡ Clear) × (d ≡ Refused a b))
 unfolding _else_
 either-refused Clear d e = inr (refl, e)
 either-refused (Refused n p) d e = inl e
@@ -78,7 +79,8 @@ cause-two c d = cause-cons c (d ∷ []) ∙ ap (λ (x : Check). c else x) (cause
 pub cause-append : (cs ds : List Check) → firstCause (cs ++ ds) ≡ (firstCause cs else firstCause ds)
 unfolding firstCause _else_
 cause-append [] ds = refl
-cause-append (a ∷ cs) ds = ap (λ (c : Check). a else c) (cause-append cs ds) ∙ sym (else-assoc a (firstCause cs) (firstCause ds))
+cause-append (a ∷ cs) ds =
+    ap (λ (c : Check). a else c) (cause-append cs ds) ∙ sym (else-assoc a (firstCause cs) (firstCause ds))
 
 -- ---- the first present of a row of causes
 pub first-none : (f : ℕ → Check) → first 0 f ≡ Clear
@@ -94,7 +96,8 @@ pub first-passed : (n : ℕ) (f : ℕ → Check) → first n f ≡ Clear → f n
 first-passed n f e h = first-more n f ∙ (rw (e, h) (else-clear Clear))
 
 -- all clear before i, and refused at i: that is the answer, however many follow
-pub first-found : (n i : ℕ) (f : ℕ → Check) → i < n → first i f ≡ Clear → {a b : ℕ} → f i ≡ Refused a b → first n f ≡ Refused a b
+pub first-found : (n i : ℕ) (f : ℕ → Check) → i < n → first i f ≡ Clear → {a b : ℕ} → f i ≡ Refused a b
+    → first n f ≡ Refused a b
 unfolding first
 first-found zero i f l e h = absurd (not-suc-le-zero l)
 first-found (suc n) i f l e {a} {b} h =
@@ -119,7 +122,8 @@ first-clear (suc n) f h = rw (first-clear n f (λ i l. h i (omega arith)), h n (
 
 -- ---- a loop that looks for the first: c is the check that it makes at i
 module _ (f : ℕ → Check) where
-  pub first-stops : {n i : ℕ} → i < n → first i f ≡ Clear → {c : Check} → c ≡ f i → {a b : ℕ} → c ≡ Refused a b → c ≡ first n f
+  pub first-stops : {n i : ℕ} → i < n → first i f ≡ Clear → {c : Check} → c ≡ f i → {a b : ℕ} → c ≡ Refused a b
+      → c ≡ first n f
   first-stops {n} {i} l h ce e = e ∙ sym (first-found n i f l h (sym ce ∙ e))
 
   pub first-goes-on : (i : ℕ) → first i f ≡ Clear → {c : Check} → c ≡ f i → c ≡ Clear → first (i + 1) f ≡ Clear
@@ -159,11 +163,17 @@ unfolding first
 first-present zero f e = clear-refused refl e
 first-present (suc n) f {a} {b} e =
     ⊎-elim (λ (q : first n f ≡ Refused a b). wider (first-present n f q))
-    (λ (q : (first n f ≡ Clear) × (f n ≡ Refused a b)). record { place = n; inside = omega arith; before = q .0; here = q .1 })
+    (λ (q : (first n f ≡ Clear) × (f n ≡ Refused a b)). record {
+      place = n;
+      inside = omega arith;
+      before = q .0;
+      here = q .1;
+    })
     (either-refused (first n f) (f n) e)
 
 -- where a cause refuses, its test holds, and number and place are its own
-pub present-test : (n p : ℕ) (t : Bool) {a b : ℕ} → (refusal n with p if t) ≡ Refused a b → (t ≡ true) × ((a ≡ n) × (b ≡ p))
+pub present-test : (n p : ℕ) (t : Bool) {a b : ℕ} → (refusal n with p if t) ≡ Refused a b
+    → (t ≡ true) × ((a ≡ n) × (b ≡ p))
 unfolding refusal_with_if_
 present-test n p true e = (refl, (cc, cc))
 present-test n p false e = clear-refused refl e

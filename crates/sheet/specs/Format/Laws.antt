@@ -1,4 +1,5 @@
--- The laws of the format: how the parsing goes on and ends, what holds of it by induction, where its records lie, and looking for a kind.
+-- The laws of the format: how the parsing goes on and ends, what holds of it by induction, where its records lie,
+-- and looking for a kind.
 use Prim.Native.Nat.{ℕ, zero, suc, _+_, _-_, _≤_, _<_}
 use mathlib.Core.Path.{_≡_, refl, sym, ap, ap₂, subst, _∙_}
 use mathlib.Core.Bool.{Bool, true, false, cond, _||_}
@@ -16,7 +17,8 @@ use Rattle.sheet.specs.declared.record.Found.the-variants.{At, Missing}
 use Rattle.sheet.specs.Tests.{neither}
 use Rattle.sheet.specs.Check.{refusal_with_if_, _else_}
 use Rattle.sheet.specs.Check.Laws.{absent, clear-absent, else-clear, both-clear}
-use Rattle.sheet.specs.Format.{header, recordAt, offset, end, kindOf, rank, rankAt, cause1, cause2, causeAt, Parsed, ended, _before_, parseStep, parseFrom, parse, parsed, ofKind, _or_, find}
+use Rattle.sheet.specs.Format.{header, recordAt, offset, end, kindOf, rank, rankAt, cause1, cause2, causeAt}
+use Rattle.sheet.specs.Format.{Parsed, ended, _before_, parseStep, parseFrom, parse, parsed, ofKind, _or_, find}
 
 -- ---- the rank of a kind
 pub rank-machine : rank (kindOf 1) ≡ 1
@@ -37,7 +39,8 @@ unfolding causeAt cause1
 clear-inside s at last e =
     let past = ltb (length s) (at + header) in
     let over = ltb (length s) (end (recordAt s at)) in
-    ltb-false _ _ (neither past over (clear-absent 1 at (past || over) (both-clear (cause1 s at) (cause2 s at last) e .0)) .1)
+    ltb-false _ _
+    (neither past over (clear-absent 1 at (past || over) (both-clear (cause1 s at) (cause2 s at last) e .0)) .1)
 
 pub clear-rank : (s : List ℕ) (at last : ℕ) → causeAt s at last ≡ Clear → last < rankAt s at
 unfolding causeAt cause2
@@ -48,12 +51,15 @@ unfolding end offset recordAt
 end-after s at = omega arith
 
 -- and what makes a record clear
-clear-at : (s : List ℕ) (at last : ℕ) {r : Record} → recordAt s at ≡ r → at + header ≤ length s → end r ≤ length s → last < rank (kindOf (r .kind)) → causeAt s at last ≡ Clear
+clear-at : (s : List ℕ) (at last : ℕ) {r : Record} → recordAt s at ≡ r → at + header ≤ length s → end r ≤ length s
+    → last < rank (kindOf (r .kind)) → causeAt s at last ≡ Clear
 unfolding causeAt cause1 cause2
 clear-at s at last {r} e a b c =
     let over : end (recordAt s at) ≤ length s = subst (λ (x : Record). end x ≤ length s) (sym e) b in
     let up : last < rankAt s at = subst (λ (x : Record). last < rank (kindOf (x .kind))) (sym e) c in
-    ap₂ _else_ (absent 1 at (ap₂ _||_ (le-ltb (length s) (at + header) a) (le-ltb (length s) (end (recordAt s at)) over))) (absent 2 at (lt-leb (rankAt s at) last up))
+    ap₂ _else_
+    (absent 1 at (ap₂ _||_ (le-ltb (length s) (at + header) a) (le-ltb (length s) (end (recordAt s at)) over)))
+    (absent 2 at (lt-leb (rankAt s at) last up))
     ∙ else-clear Clear
 
 -- ---- the start, the offsets, the end and the causes of a record
@@ -78,15 +84,21 @@ unfolding cause1
 cause1-is s at r e = rw (← end-is s at r e)
 
 -- ---- the bound on the steps plays no part
-step-at-end : (s : List ℕ) (at : ℕ) → length s ≤ at → (c : Check) (r : Record) (w : Parsed) → parseStep (ltb at (length s)) c r w ≡ ended Clear
+step-at-end : (s : List ℕ) (at : ℕ) → length s ≤ at → (c : Check) (r : Record) (w : Parsed)
+    → parseStep (ltb at (length s)) c r w ≡ ended Clear
 unfolding parseStep
 step-at-end s at h c r w = rw (le-ltb at (length s) h)
 
-enough : (f g : ℕ) (s : List ℕ) (at last : ℕ) → length s - at ≤ f → length s - at ≤ g → parseFrom f s at last ≡ parseFrom g s at last
+enough : (f g : ℕ) (s : List ℕ) (at last : ℕ) → length s - at ≤ f → length s - at ≤ g
+    → parseFrom f s at last ≡ parseFrom g s at last
 unfolding parseFrom
 enough zero zero s at last p q = refl
-enough zero (suc g) s at last p q = sym (step-at-end s at (omega arith) (causeAt s at last) (recordAt s at) (parseFrom g s (end (recordAt s at)) (rankAt s at)))
-enough (suc f) zero s at last p q = step-at-end s at (omega arith) (causeAt s at last) (recordAt s at) (parseFrom f s (end (recordAt s at)) (rankAt s at))
+enough zero (suc g) s at last p q =
+    sym (step-at-end s at (omega arith) (causeAt s at last) (recordAt s at)
+    (parseFrom g s (end (recordAt s at)) (rankAt s at)))
+enough (suc f) zero s at last p q =
+    step-at-end s at (omega arith) (causeAt s at last) (recordAt s at)
+    (parseFrom f s (end (recordAt s at)) (rankAt s at))
 enough (suc f) (suc g) s at last p q =
     ap (λ (w : Parsed). parseStep (ltb at (length s)) (causeAt s at last) (recordAt s at) w)
     (enough f g s (end (recordAt s at)) (rankAt s at) (omega (arith, end-after s at)) (omega (arith, end-after s at)))
@@ -107,14 +119,17 @@ parse-on s at last h =
     enough (length s - at) (suc (length s - (at + 1))) s at last (omega arith) (omega arith)
     ∙ one
     ∙ ap (λ (w : Parsed). parseStep true (causeAt s at last) (recordAt s at) w)
-    (enough (length s - (at + 1)) (length s - end (recordAt s at)) s (end (recordAt s at)) (rankAt s at) (omega (arith, end-after s at)) (omega arith))
+    (enough (length s - (at + 1)) (length s - end (recordAt s at)) s (end (recordAt s at)) (rankAt s at)
+    (omega (arith, end-after s at)) (omega arith))
   where
     one : parseFrom (suc (length s - (at + 1))) s at last
-        ≡ parseStep true (causeAt s at last) (recordAt s at) (parseFrom (length s - (at + 1)) s (end (recordAt s at)) (rankAt s at))
+        ≡ parseStep true (causeAt s at last) (recordAt s at)
+        (parseFrom (length s - (at + 1)) s (end (recordAt s at)) (rankAt s at))
     one = unfold parseFrom in rw (lt-ltb at (length s) h)
 
 -- the record that stops the parsing
-pub parse-stopped : (s : List ℕ) (at last n p : ℕ) → at < length s → causeAt s at last ≡ Refused n p → parse s at last ≡ ended (Refused n p)
+pub parse-stopped : (s : List ℕ) (at last n p : ℕ) → at < length s → causeAt s at last ≡ Refused n p
+    → parse s at last ≡ ended (Refused n p)
 unfolding parseStep
 parse-stopped s at last n p h e = parse-on s at last h ∙ rw e
 
@@ -124,23 +139,27 @@ pub parse-record : (s : List ℕ) (at last : ℕ) → at < length s → causeAt 
 unfolding parseStep
 parse-record s at last h e = parse-on s at last h ∙ rw e
 
-pub parse-as : (s : List ℕ) (at last : ℕ) {r : Record} → recordAt s at ≡ r → at + header ≤ length s → end r ≤ length s → last < rank (kindOf (r .kind))
-    → parse s at last ≡ (r before parse s (end r) (rank (kindOf (r .kind))))
+pub parse-as : (s : List ℕ) (at last : ℕ) {r : Record} → recordAt s at ≡ r → at + header ≤ length s → end r ≤ length s
+    → last < rank (kindOf (r .kind)) → parse s at last ≡ (r before parse s (end r) (rank (kindOf (r .kind))))
 parse-as s at last {r} e a b c =
-    parse-record s at last (omega arith) (clear-at s at last e a b c) ∙ ap (λ (x : Record). x before parse s (end x) (rank (kindOf (x .kind)))) e
+    parse-record s at last (omega arith) (clear-at s at last e a b c)
+    ∙ ap (λ (x : Record). x before parse s (end x) (rank (kindOf (x .kind)))) e
 
 -- the whole sheet
 pub parsed-is : (s : List ℕ) → parsed s ≡ parse s 0 0
 unfolding parsed
 parsed-is s = refl
 
--- ---- what holds where the parsing ends, where a cause stops it, and of a record before what follows, wherever it holds of that, holds of the parsing
-module _ (s : List ℕ) (P : ℕ → ℕ → Parsed → Type 0)
-    (ends : (at last : ℕ) → length s ≤ at → P at last (ended Clear))
+-- ---- what holds where the parsing ends, where a cause stops it, and of a record before what follows, wherever it
+-- holds of that, holds of the parsing
+module _ (s : List ℕ) (P : ℕ → ℕ → Parsed → Type 0) (ends : (at last : ℕ) → length s ≤ at → P at last (ended Clear))
     (stops : (at last n p : ℕ) → at < length s → causeAt s at last ≡ Refused n p → P at last (ended (Refused n p)))
     (goes-on : (at last : ℕ) → at < length s → causeAt s at last ≡ Clear
-    → P (end (recordAt s at)) (rankAt s at) (parse s (end (recordAt s at)) (rankAt s at)) → P at last (recordAt s at before parse s (end (recordAt s at)) (rankAt s at))) where
-  turn : (at last : ℕ) → (at < length s → P (end (recordAt s at)) (rankAt s at) (parse s (end (recordAt s at)) (rankAt s at))) → P at last (parse s at last)
+    → P (end (recordAt s at)) (rankAt s at) (parse s (end (recordAt s at)) (rankAt s at))
+    → P at last (recordAt s at before parse s (end (recordAt s at)) (rankAt s at))) where
+  turn : (at last : ℕ)
+      → (at < length s → P (end (recordAt s at)) (rankAt s at) (parse s (end (recordAt s at)) (rankAt s at)))
+      → P at last (parse s at last)
   turn at last rest = go (ltb at (length s)) refl
     where
       check : at < length s → (c : Check) → causeAt s at last ≡ c → P at last (parse s at last)
@@ -149,11 +168,14 @@ module _ (s : List ℕ) (P : ℕ → ℕ → Parsed → Type 0)
 
       go : (t : Bool) → ltb at (length s) ≡ t → P at last (parse s at last)
       go true t = check (ltb-true at (length s) t) (causeAt s at last) refl
-      go false t = let h : length s ≤ at = ltb-false at (length s) t in subst (P at last) (sym (parse-end s at last h)) (ends at last h)
+      go false t =
+          let h : length s ≤ at = ltb-false at (length s) t in
+          subst (P at last) (sym (parse-end s at last h)) (ends at last h)
 
   turns : (f at last : ℕ) → length s - at ≤ f → P at last (parse s at last)
   turns zero at last l = turn at last (λ h. let z : ⊥ = omega arith in absurd z)
-  turns (suc f) at last l = turn at last (λ h. turns f (end (recordAt s at)) (rankAt s at) (omega (arith, end-after s at)))
+  turns (suc f) at last l =
+      turn at last (λ h. turns f (end (recordAt s at)) (rankAt s at) (omega (arith, end-after s at)))
 
   pub parse-induction : (at last : ℕ) → P at last (parse s at last)
   parse-induction at last = turns (length s) at last (omega arith)
@@ -190,11 +212,13 @@ pub none-found : {A : Type 0} (k : ℕ) {r : Record} → find k [] ≡ At r → 
 none-found k e = missing-found (find-none k) e
 
 -- what is found is the first record, which is then of the kind, or is found among the others
-pub found-cons : (k : ℕ) (a : Record) (rs : List Record) {r : Record} → find k (a ∷ rs) ≡ At r → ((a .kind ≡ k) × (a ≡ r)) ⊎ (find k rs ≡ At r)
+pub found-cons : (k : ℕ) (a : Record) (rs : List Record) {r : Record} → find k (a ∷ rs) ≡ At r
+    → ((a .kind ≡ k) × (a ≡ r)) ⊎ (find k rs ≡ At r)
 unfolding find ofKind _or_
 found-cons k a rs {r} = go (eqb (a .kind) k) refl
   where
-    go : (t : Bool) → eqb (a .kind) k ≡ t → (cond t (At a) Missing or find k rs) ≡ At r → ((a .kind ≡ k) × (a ≡ r)) ⊎ (find k rs ≡ At r)
+    go : (t : Bool) → eqb (a .kind) k ≡ t → (cond t (At a) Missing or find k rs) ≡ At r
+        → ((a .kind ≡ k) × (a ≡ r)) ⊎ (find k rs ≡ At r)
     go true e q = inl (eqb-true (a .kind) k e, cc)
     go false e q = inr q
 
@@ -203,6 +227,7 @@ pub find-here : (k : ℕ) (a : Record) (rs : List Record) → a .kind ≡ k → 
 unfolding find ofKind _or_
 find-here k a rs e = ap (λ (t : Bool). cond t (At a) Missing or find k rs) (eq-eqb (a .kind) k e)
 
-pub find-past : (k : ℕ) (a : Record) (rs : List Record) {j : ℕ} → a .kind ≡ j → eqb j k ≡ false → find k (a ∷ rs) ≡ find k rs
+pub find-past : (k : ℕ) (a : Record) (rs : List Record) {j : ℕ} → a .kind ≡ j → eqb j k ≡ false
+    → find k (a ∷ rs) ≡ find k rs
 unfolding find ofKind _or_
 find-past k a rs e f = ap (λ (t : Bool). cond t (At a) Missing or find k rs) (ap (λ (x : ℕ). eqb x k) e ∙ f)

@@ -9,15 +9,18 @@ use Rattle.sheet.specs.declared.check.Check.the-variants.{Clear}
 use Rattle.sheet.specs.declared.record.Record.{Record}
 use Rattle.sheet.specs.declared.record.Found.the-variants.{At}
 use Rattle.sheet.specs.Format.{recordAt, end, kindOf, rank, rankAt, causeAt, Parsed, parse, parsed, find}
-use Rattle.sheet.specs.Format.Laws.{rank-machine, rank-word, clear-rank, parsed-is, parse-induction, none-found, found-cons}
+use Rattle.sheet.specs.Format.Laws.{rank-machine, rank-word, clear-rank, parsed-is, parse-induction, none-found}
+use Rattle.sheet.specs.Format.Laws.{found-cons}
 
 -- where a record is found the parsing goes on
 record FoundFrom (s : List ℕ) (at last k : ℕ) (r : Record) : Type 0 where
   pub inside : at < length s
   pub clear : causeAt s at last ≡ Clear
-  pub found : ((recordAt s at .kind ≡ k) × (recordAt s at ≡ r)) ⊎ (find k (parse s (end (recordAt s at)) (rankAt s at) .records) ≡ At r)
+  pub found : ((recordAt s at .kind ≡ k) × (recordAt s at ≡ r))
+      ⊎ (find k (parse s (end (recordAt s at)) (rankAt s at) .records) ≡ At r)
 
-found-from : (s : List ℕ) (at last k : ℕ) {r : Record} → find k (parse s at last .records) ≡ At r → FoundFrom s at last k r
+found-from : (s : List ℕ) (at last k : ℕ) {r : Record} → find k (parse s at last .records) ≡ At r
+    → FoundFrom s at last k r
 found-from s at last k {r} =
     parse-induction s (λ at last w. find k (w .records) ≡ At r → FoundFrom s at last k r)
     (λ at last l e. none-found k e)
@@ -33,7 +36,8 @@ later s at last k {r} =
     (λ at last n p l q e. none-found k e)
     (λ at last l q h e.
     let up = clear-rank s at last q in
-    ⊎-elim (λ (x : (recordAt s at .kind ≡ k) × (recordAt s at ≡ r)). subst (λ (x : ℕ). last < rank (kindOf x)) (x .0) up)
+    ⊎-elim (λ (x : (recordAt s at .kind ≡ k) × (recordAt s at ≡ r)).
+    subst (λ (x : ℕ). last < rank (kindOf x)) (x .0) up)
     (λ (x : find k (parse s (end (recordAt s at)) (rankAt s at) .records) ≡ At r). omega (arith, up, h x))
     (found-cons k (recordAt s at) _ e))
     at last
@@ -45,14 +49,17 @@ pub record Next (s : List ℕ) (at last k : ℕ) (r : Record) : Type 0 where
   pub kind : r .kind ≡ k
   pub is : recordAt s at ≡ r
 
-pub next-is : (s : List ℕ) (at last k : ℕ) {r : Record} → rank (kindOf k) ≡ last + 1 → find k (parse s at last .records) ≡ At r → Next s at last k r
+pub next-is : (s : List ℕ) (at last k : ℕ) {r : Record} → rank (kindOf k) ≡ last + 1
+    → find k (parse s at last .records) ≡ At r → Next s at last k r
 next-is s at last k {r} up e =
     let h = found-from s at last k e in
     let above = clear-rank s at last (h .clear) in
     ⊎-elim (λ (q : (recordAt s at .kind ≡ k) × (recordAt s at ≡ r)).
     record { inside = h .inside; clear = h .clear; kind = ap (λ (x : Record). x .kind) (sym (q .1)) ∙ q .0; is = q .1 })
     (λ (q : find k (parse s (end (recordAt s at)) (rankAt s at) .records) ≡ At r).
-    let more = later s (end (recordAt s at)) (rankAt s at) k q in let z : ⊥ = omega (arith, more, above, up) in absurd z)
+    let more = later s (end (recordAt s at)) (rankAt s at) k q in
+    let z : ⊥ = omega (arith, more, above, up) in
+    absurd z)
     (h .found)
 
 -- the first two records
@@ -60,9 +67,11 @@ pub record Pair (s : List ℕ) (one two : Record) : Type 0 where
   pub first : Next s 0 0 1 one
   pub second : Next s (end one) 1 2 two
 
-pub pair-of : (s : List ℕ) {one two : Record} → find 1 (parsed s .records) ≡ At one → find 2 (parsed s .records) ≡ At two → Pair s one two
+pub pair-of : (s : List ℕ) {one two : Record} → find 1 (parsed s .records) ≡ At one
+    → find 2 (parsed s .records) ≡ At two → Pair s one two
 pair-of s {one} {two} e f =
-    let a : Next s 0 0 1 one = next-is s 0 0 1 rank-machine (ap (λ (w : Parsed). find 1 (w .records)) (sym (parsed-is s)) ∙ e) in
+    let a : Next s 0 0 1 one =
+    next-is s 0 0 1 rank-machine (ap (λ (w : Parsed). find 1 (w .records)) (sym (parsed-is s)) ∙ e) in
     let here : recordAt s 0 .kind ≡ 1 = ap (λ (x : Record). x .kind) (a .is) ∙ a .kind in
     let h = found-from s 0 0 2 (ap (λ (w : Parsed). find 2 (w .records)) (sym (parsed-is s)) ∙ f) in
     let rest : find 2 (parse s (end (recordAt s 0)) (rankAt s 0) .records) ≡ At two =
@@ -70,6 +79,7 @@ pair-of s {one} {two} e f =
     (λ (q : find 2 (parse s (end (recordAt s 0)) (rankAt s 0) .records) ≡ At two). q)
     (h .found) in
     let ranked : rankAt s 0 ≡ 1 = ap (λ (k : ℕ). rank (kindOf k)) here ∙ rank-machine in
-    let moved : find 2 (parse s (end one) 1 .records) ≡ At two = subst (λ (n : ℕ). find 2 (parse s (end one) n .records) ≡ At two) ranked
+    let moved : find 2 (parse s (end one) 1 .records) ≡ At two =
+    subst (λ (n : ℕ). find 2 (parse s (end one) n .records) ≡ At two) ranked
     (subst (λ (x : Record). find 2 (parse s (end x) (rankAt s 0) .records) ≡ At two) (a .is) rest) in
     record { first = a; second = next-is s (end one) 1 2 rank-word moved }

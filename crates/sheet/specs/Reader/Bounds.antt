@@ -1,5 +1,5 @@
--- The places of causes 1 and 2 lie inside the longest sheet, and so do the offsets in the payloads of a sheet that has neither. What reading hands
--- back of bytes are bytes.
+-- The places of causes 1 and 2 lie inside the longest sheet, and so do the offsets in the payloads of a sheet that has
+-- neither. What reading hands back of bytes are bytes.
 use Prim.Native.Nat.{ℕ, zero, suc, _+_, _≤_, _<_}
 use mathlib.Core.Path.{_≡_, refl, sym, ap, _∙_}
 use mathlib.Core.List.{List, [], _∷_, map}
@@ -14,15 +14,17 @@ use Rattle.sheet.specs.declared.record.Found.{Found}
 use Rattle.sheet.specs.declared.record.Found.the-variants.{At, Missing}
 use Rattle.sheet.specs.Check.{firstCause}
 use Rattle.sheet.specs.Check.Laws.{clear-absent, both-clear, cause-cons}
-use Rattle.sheet.specs.Check.Bounds.{WhereRefused, place-clear, place-of, place-cause, place-else, place-cons, place-map}
+use Rattle.sheet.specs.Check.Bounds.{WhereRefused, place-clear, place-of, place-cause, place-else, place-cons}
+use Rattle.sheet.specs.Check.Bounds.{place-map}
 use Rattle.sheet.specs.Format.{longest, offset, cause1, cause2, causeAt, Parsed, parsed, find}
 use Rattle.sheet.specs.Format.Laws.{parsed-is, parse-induction}
-use Rattle.sheet.specs.Reader.{tooLong, isMissing, missing, sheetCauses, refusalOf, recordOr, recordOf, payloadPart, partWhen, part, bytes, content}
+use Rattle.sheet.specs.Reader.{tooLong, isMissing, missing, sheetCauses, refusalOf, recordOr, recordOf}
+use Rattle.sheet.specs.Reader.{payloadPart, partWhen, part, bytes, content}
 use Rattle.sheet.specs.Reader.Laws.{payload-inside, record-inside}
 
 -- ---- causes 1 and 2
--- a refusal that the capture rig's number can hold: its number is below the results' classes, which begin with 100, and its place is at most
--- the longest sheet's length
+-- a refusal that the capture rig's number can hold: its number is below the results' classes, which begin with 100, and
+-- its place is at most the longest sheet's length
 pub record Small (n p : ℕ) : Type 0 where
   pub number : n < 100
   pub place : p ≤ longest
@@ -57,12 +59,15 @@ sheet-small needed s =
     let l : length s ≤ longest = not-long s q in
     place-cons Small (parsed s .stop) (map (missing s) needed) (stop-small s l)
     (λ r. place-map Small (missing s) needed
-    (λ k. place-cause Small 2 (length s) (isMissing (find k (parsed s .records))) (λ t. record { number = omega arith; place = l }))))
+    (λ k. place-cause Small 2 (length s) (isMissing (find k (parsed s .records)))
+    (λ t. record { number = omega arith; place = l }))))
 
 -- a sheet without cause 1 or 2 is no longer than the longest
 pub sheet-short : (needed s : List ℕ) → firstCause (sheetCauses needed s) ≡ Clear → length s ≤ longest
 unfolding sheetCauses
-sheet-short needed s e = not-long s (both-clear (tooLong s) _ (sym (cause-cons (tooLong s) (parsed s .stop ∷ map (missing s) needed)) ∙ e) .0)
+sheet-short needed s e =
+    not-long s
+    (both-clear (tooLong s) _ (sym (cause-cons (tooLong s) (parsed s .stop ∷ map (missing s) needed)) ∙ e) .0)
 
 -- what reading hands back is no longer
 pub read-short : (k : ℕ) (s : List ℕ) → refusalOf k s ≡ Clear → length (content k s) ≤ longest
@@ -70,8 +75,8 @@ unfolding refusalOf
 read-short k s e = omega (arith, record-inside k s, sheet-short (k ∷ []) s e)
 
 -- ---- offsets in what reading hands back
-offset-of : (s : List ℕ) (c : Check) (f : Found) → payloadPart f .from + payloadPart f .size ≤ length s → (i : ℕ) → i < length (bytes (partWhen c f) s)
-    → offset (recordOr f) i < length s
+offset-of : (s : List ℕ) (c : Check) (f : Found) → payloadPart f .from + payloadPart f .size ≤ length s → (i : ℕ)
+    → i < length (bytes (partWhen c f) s) → offset (recordOr f) i < length s
 unfolding bytes offset
 offset-of s Clear (At r) h i l = let k = simp length-take at l in omega arith
 offset-of s Clear Missing h i l = let z : ⊥ = omega arith in absurd z
@@ -80,7 +85,8 @@ offset-of s (Refused n p) f h i l = let z : ⊥ = omega arith in absurd z
 -- they lie inside the sheet
 pub offset-inside : (k : ℕ) (s : List ℕ) (i : ℕ) → i < length (content k s) → offset (recordOf k s) i < length s
 unfolding recordOf content part
-offset-inside k s i l = offset-of s (refusalOf k s) (find k (parsed s .records)) (payload-inside s k (find k (parsed s .records)) refl) i l
+offset-inside k s i l =
+    offset-of s (refusalOf k s) (find k (parsed s .records)) (payload-inside s k (find k (parsed s .records)) refl) i l
 
 -- ---- bytes
 -- each is below 256

@@ -1,4 +1,5 @@
--- The laws of putting bytes into a buffer, where all of them fit and where they do not, and of a record's header: it reads back.
+-- The laws of putting bytes into a buffer, where all of them fit and where they do not, and of a
+-- record's header: it reads back.
 use Prim.Native.Nat.{ℕ, _+_, _*_, _/_, _%_, _^_, _≤_, _<_}
 use mathlib.Core.Path.{_≡_, refl, sym, ap, ap₂, _∙_}
 use mathlib.Core.List.{List, _++_}
@@ -42,24 +43,37 @@ record-size kind payload =
 two-bytes : (n : ℕ) → n < 65536 → n % 256 + 256 * (n / 256 % 256) ≡ n
 two-bytes n l = omega arith
 
-four-bytes : (n : ℕ) → n < 2 ^ 32 → n % 256 + 256 * (n / 256 % 256) + 65536 * (n / 65536 % 256) + 16777216 * (n / 16777216 % 256) ≡ n
+four-bytes : (n : ℕ) → n < 2 ^ 32
+    → n % 256 + 256 * (n / 256 % 256) + 65536 * (n / 65536 % 256) + 16777216 * (n / 16777216 % 256) ≡ n
 four-bytes n l =
     let two : n / 256 / 256 ≡ n / 65536 = div-div-eq-div-mul n 256 256 in
     let three : n / 65536 / 256 ≡ n / 16777216 = div-div-eq-div-mul n 65536 256 in
-    let last : n / 16777216 % 256 ≡ n / 16777216 = mod-eq-of-lt (div-lt-iff-lt-mul {k = 16777216} (omega arith) .1 (omega arith)) in
+    let last : n / 16777216 % 256 ≡ n / 16777216 =
+    mod-eq-of-lt (div-lt-iff-lt-mul {k = 16777216} (omega arith) .1 (omega arith)) in
     omega (arith, two, three, last, div-add-mod' n 256, div-add-mod' (n / 256) 256, div-add-mod' (n / 65536) 256)
 
 -- behind any bytes, and with any bytes behind it
 module _ (p xs : List ℕ) (kind size : ℕ) where
-  header-byte : (i : ℕ) → i < header → getD ((p ++ headerOf kind size) ++ xs) (length p + i) 0 ≡ getD (headerOf kind size) i 0
+  header-byte : (i : ℕ) → i < header
+      → getD ((p ++ headerOf kind size) ++ xs) (length p + i) 0 ≡ getD (headerOf kind size) i 0
   header-byte i l =
-      List·getD-append (p ++ headerOf kind size) xs 0 (length p + i) (omega (arith, length-append p (headerOf kind size), header-size kind size))
+      List·getD-append (p ++ headerOf kind size) xs 0 (length p + i)
+      (omega (arith, length-append p (headerOf kind size), header-size kind size))
       ∙ getD-append-add p (headerOf kind size) i 0
 
-  pub header-reads : kind < 65536 → size < 2 ^ 32 → recordAt ((p ++ headerOf kind size) ++ xs) (length p) ≡ record { start = length p; size = size; kind = kind }
+  pub header-reads : kind < 65536 → size < 2 ^ 32
+      → recordAt ((p ++ headerOf kind size) ++ xs) (length p) ≡ record { start = length p; size = size; kind = kind }
   unfolding recordAt headerOf
   header-reads kl sl =
       let s = (p ++ headerOf kind size) ++ xs in
-      let zeroth : getD s (length p) 0 ≡ size % 256 = ap (λ (n : ℕ). getD s n 0) (sym (add-zero (length p))) ∙ header-byte 0 (omega arith) in
-      rw (zeroth, header-byte 1 (omega arith), header-byte 2 (omega arith), header-byte 3 (omega arith), header-byte 4 (omega arith), header-byte 5 (omega arith))
+      let zeroth : getD s (length p) 0 ≡ size % 256 =
+      ap (λ (n : ℕ). getD s n 0) (sym (add-zero (length p))) ∙ header-byte 0 (omega arith) in
+      rw (
+        zeroth,
+        header-byte 1 (omega arith),
+        header-byte 2 (omega arith),
+        header-byte 3 (omega arith),
+        header-byte 4 (omega arith),
+        header-byte 5 (omega arith),
+      )
       (ap₂ (λ (n k : ℕ). record { start = length p; size = n; kind = k }) (four-bytes size sl) (two-bytes kind kl))

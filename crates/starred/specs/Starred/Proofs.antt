@@ -1,5 +1,6 @@
--- The collection of starred cases holds, as a whole. Building's cases come from build's Building.Twin; those of certifying from certify's outcomes
--- for the starred sequences, once the sheet is read; those of judging from certified sequences and the verdict.
+-- The collection of starred cases holds, as a whole. Building's cases come from build's Building.Twin; those of
+-- certifying from certify's outcomes for the starred sequences, once the sheet is read; those of judging from certified
+-- sequences and the verdict.
 use Prim.Native.Nat.{ℕ, _≤_}
 use mathlib.Core.Path.{_≡_, refl, ap, _∙_}
 use mathlib.Core.List.{List, [], _∷_}
@@ -8,11 +9,13 @@ use Rattle.sheet.specs.declared.check.Check.{Check}
 use Rattle.sheet.specs.declared.check.Check.the-variants.{Clear, Refused}
 use Rattle.sheet.specs.Check.{refusal_with_if_, _else_, firstCause, first}
 use Rattle.sheet.specs.Check.Laws.{absent, else-clear}
-use Rattle.sheet.specs.Format.{recordAt, offset, end, kindOf, cause1, cause2, causeAt, parseStep, parseFrom, parse, parsed, ofKind, _or_, find}
+use Rattle.sheet.specs.Format.{recordAt, offset, end, kindOf, cause1, cause2, causeAt, parseStep, parseFrom, parse}
+use Rattle.sheet.specs.Format.{parsed, ofKind, _or_, find}
 use Rattle.sheet.specs.Reader.{sheetCauses, when, needed, refusalOf, recordOf, part, bytes, content}
 use Rattle.sheet.specs.Writing.{headerOf}
 use Rattle.machine.specs.Machine.{Mealy, machineOf, run, answers, stateAt}
-use Rattle.machine.specs.Causes.{cause3, cause4, commandsCause, cause6, machineIn, machineCauses, wordCauses, loadCauses}
+use Rattle.machine.specs.Causes.{cause3, cause4, commandsCause, cause6, machineIn, machineCauses, wordCauses}
+use Rattle.machine.specs.Causes.{loadCauses}
 use Rattle.certify.specs.declared.answer.Answer.{Answer}
 use Rattle.certify.specs.declared.answer.Answer.the-variants.{Certified}
 use Rattle.certify.specs.Marks.Twin.{twin as twinMachine, single as singleMachine}
@@ -28,7 +31,8 @@ use Rattle.judge.specs.Judging.{cause10, judgeCauses, agreed, resultAt, verdict
 use Rattle.judge.specs.Judging.Laws.{certifying-clear, judgement-refused, judgement-verdict}
 use Rattle.report.specs.Lines.{judgeLine}
 use Rattle.report.specs.Lines.Examples as lines
-use Rattle.starred.specs.Starred.{unitSheet, sequenceSheet, answersSheet, twinTable, noStateTable, singleTable, builtTwin, twinWith, twinAnswered, JudgedAs, Starred}
+use Rattle.starred.specs.Starred.{unitSheet, sequenceSheet, answersSheet, twinTable, noStateTable, singleTable}
+use Rattle.starred.specs.Starred.{builtTwin, twinWith, twinAnswered, JudgedAs, Starred}
 
 -- what certifying reads in a sheet
 record Sheet (room : ℕ) (s : List ℕ) (M : Mealy) (w xs : List ℕ) : Type 0 where
@@ -38,7 +42,8 @@ record Sheet (room : ℕ) (s : List ℕ) (M : Mealy) (w xs : List ℕ) : Type 0 
   sequence : content 3 s ≡ xs
 
 -- so it answers the outcome of that machine, word and sequence
-answered : (room : ℕ) {s : List ℕ} {M : Mealy} {w xs : List ℕ} {a : Answer} → Sheet room s M w xs → outcome M w xs ≡ a → certification room s ≡ a
+answered : (room : ℕ) {s : List ℕ} {M : Mealy} {w xs : List ℕ} {a : Answer} → Sheet room s M w xs → outcome M w xs ≡ a
+    → certification room s ≡ a
 answered room {s} h e = certification-clear room s (h .clear) ∙ (rw (h .machine, h .word, h .sequence) e)
 
 -- what judging reads in a sheet with the built sequence
@@ -63,22 +68,33 @@ record Computed : Type 0 where
   one : Reads 2 (0 ∷ [])
   late : Reads 4 (1 ∷ 0 ∷ 0 ∷ [])
   three : Reads 4 (0 ∷ 0 ∷ 0 ∷ [])
-  pair : (answer room : ℕ) → 3 ≤ room → Sheet room (sequenceSheet (singleTable answer) (0 ∷ []) (0 ∷ 0 ∷ [])) (singleMachine answer) (0 ∷ []) (0 ∷ 0 ∷ [])
-  short : (answer room : ℕ) → 2 ≤ room → Sheet room (sequenceSheet (singleTable answer) (0 ∷ []) (0 ∷ [])) (singleMachine answer) (0 ∷ []) (0 ∷ [])
+  pair : (answer room : ℕ) → 3 ≤ room
+      → Sheet room (sequenceSheet (singleTable answer) (0 ∷ []) (0 ∷ 0 ∷ [])) (singleMachine answer) (0 ∷ [])
+      (0 ∷ 0 ∷ [])
+  short : (answer room : ℕ) → 2 ≤ room
+      → Sheet room (sequenceSheet (singleTable answer) (0 ∷ []) (0 ∷ [])) (singleMachine answer) (0 ∷ []) (0 ∷ [])
   passes : Verdict (0 ∷ 1 ∷ 0 ∷ 1 ∷ 0 ∷ 1 ∷ 5 ∷ 0 ∷ 1 ∷ 0 ∷ 5 ∷ 1 ∷ []) (Pass 12 0)
   wrong-at : Verdict (0 ∷ 1 ∷ 0 ∷ 1 ∷ 0 ∷ 1 ∷ 6 ∷ 0 ∷ 1 ∷ 0 ∷ 5 ∷ 1 ∷ []) (Wrong 6 5 6)
   unfinished-run : Verdict (0 ∷ 1 ∷ 0 ∷ 1 ∷ []) (Unfinished 4)
   too-many : (room : ℕ) → 13 ≤ room → (a b c d e f g h i j k l m : ℕ)
-      → firstCause (judgeCauses room (twinAnswered (a ∷ b ∷ c ∷ d ∷ e ∷ f ∷ g ∷ h ∷ i ∷ j ∷ k ∷ l ∷ m ∷ []))) ≡ Refused 10 41
+      → firstCause (judgeCauses room (twinAnswered (a ∷ b ∷ c ∷ d ∷ e ∷ f ∷ g ∷ h ∷ i ∷ j ∷ k ∷ l ∷ m ∷ [])))
+      ≡ Refused 10 41
   six-built : (room : ℕ) → firstCause (buildCauses room (unitSheet twinTable (1 ∷ []))) ≡ Refused 6 1
-  six-certified : (room : ℕ) → firstCause (certifyCauses room (sequenceSheet twinTable (1 ∷ []) builtTwin)) ≡ Refused 6 1
-  six-judged : (room : ℕ) → firstCause (judgeCauses room (answersSheet twinTable (1 ∷ []) builtTwin (0 ∷ []))) ≡ Refused 6 1
+  six-certified : (room : ℕ)
+      → firstCause (certifyCauses room (sequenceSheet twinTable (1 ∷ []) builtTwin)) ≡ Refused 6 1
+  six-judged : (room : ℕ)
+      → firstCause (judgeCauses room (answersSheet twinTable (1 ∷ []) builtTwin (0 ∷ []))) ≡ Refused 6 1
   four-built : (room command : ℕ) → firstCause (buildCauses room (unitSheet noStateTable (command ∷ []))) ≡ Refused 4 8
-  four-certified : (room command : ℕ) → firstCause (certifyCauses room (sequenceSheet noStateTable (command ∷ []) builtTwin)) ≡ Refused 4 8
-  four-judged : (room command answer : ℕ) → firstCause (judgeCauses room (answersSheet noStateTable (command ∷ []) builtTwin (answer ∷ []))) ≡ Refused 4 8
+  four-certified : (room command : ℕ)
+      → firstCause (certifyCauses room (sequenceSheet noStateTable (command ∷ []) builtTwin)) ≡ Refused 4 8
+  four-judged : (room command answer : ℕ)
+      → firstCause (judgeCauses room (answersSheet noStateTable (command ∷ []) builtTwin (answer ∷ []))) ≡ Refused 4 8
 
 computed : Computed
-unfolding twinMachine singleMachine headerOf refusal_with_if_ _else_ firstCause first recordAt offset end kindOf cause1 cause2 causeAt parseStep parseFrom parse parsed ofKind _or_ find sheetCauses when needed refusalOf recordOf part bytes content machineOf run answers cause3 cause4 commandsCause cause6 machineIn machineCauses wordCauses loadCauses buildCauses cause9 sequenceCauses cause10 judgeCauses verdict resultAt agreed stateAt
+unfolding twinMachine singleMachine headerOf refusal_with_if_ _else_ firstCause first recordAt offset end kindOf cause1
+    cause2 causeAt parseStep parseFrom parse parsed ofKind _or_ find sheetCauses when needed refusalOf recordOf part
+    bytes content machineOf run answers cause3 cause4 commandsCause cause6 machineIn machineCauses wordCauses loadCauses
+    buildCauses cause9 sequenceCauses cause10 judgeCauses verdict resultAt agreed stateAt
 computed = record {
   built = λ room l. record { clear = buildings.nine-clear room 13 l; machine = refl; word = refl; sequence = refl };
   each-other = λ room l. record { clear = buildings.nine-clear room 7 l; machine = refl; word = refl; sequence = refl };
@@ -86,11 +102,48 @@ computed = record {
   one = λ room l. record { clear = buildings.nine-clear room 2 l; machine = refl; word = refl; sequence = refl };
   late = λ room l. record { clear = buildings.nine-clear room 4 l; machine = refl; word = refl; sequence = refl };
   three = λ room l. record { clear = buildings.nine-clear room 4 l; machine = refl; word = refl; sequence = refl };
-  pair = λ answer room l. record { clear = buildings.nine-clear room 3 l; machine = refl; word = refl; sequence = refl };
-  short = λ answer room l. record { clear = buildings.nine-clear room 2 l; machine = refl; word = refl; sequence = refl };
-  passes = (λ room l. record { clear = buildings.nine-clear room 13 l; machine = refl; word = refl; sequence = refl; answers = refl }, refl);
-  wrong-at = (λ room l. record { clear = buildings.nine-clear room 13 l; machine = refl; word = refl; sequence = refl; answers = refl }, refl);
-  unfinished-run = (λ room l. record { clear = buildings.nine-clear room 13 l; machine = refl; word = refl; sequence = refl; answers = refl }, refl);
+  pair = λ answer room l. record {
+    clear = buildings.nine-clear room 3 l;
+    machine = refl;
+    word = refl;
+    sequence = refl;
+  };
+  short = λ answer room l. record {
+    clear = buildings.nine-clear room 2 l;
+    machine = refl;
+    word = refl;
+    sequence = refl;
+  };
+  passes = (
+    λ room l. record {
+      clear = buildings.nine-clear room 13 l;
+      machine = refl;
+      word = refl;
+      sequence = refl;
+      answers = refl;
+    },
+    refl,
+  );
+  wrong-at = (
+    λ room l. record {
+      clear = buildings.nine-clear room 13 l;
+      machine = refl;
+      word = refl;
+      sequence = refl;
+      answers = refl;
+    },
+    refl,
+  );
+  unfinished-run = (
+    λ room l. record {
+      clear = buildings.nine-clear room 13 l;
+      machine = refl;
+      word = refl;
+      sequence = refl;
+      answers = refl;
+    },
+    refl,
+  );
   too-many = λ room r a b c d e f g h i j k l m.
       ap (λ (x : Check). x else Refused 10 41) (absent 9 13 (le-ltb room 13 r)) ∙ else-clear (Refused 10 41);
   six-built = λ room. refl;
@@ -102,14 +155,17 @@ computed = record {
 }
 
 -- ---- judging the built sequence, which certifying answers certified
-judged : (room : ℕ) {s ys : List ℕ} {a : Judgement} → Judged room s ys → verdict twinMachine builtTwin ys ≡ a → judgement room s ≡ a
+judged : (room : ℕ) {s ys : List ℕ} {a : Judgement} → Judged room s ys → verdict twinMachine builtTwin ys ≡ a
+    → judgement room s ≡ a
 judged room {s} h e =
     let certified : certification room s ≡ Certified 13 =
-    certification-clear room s (certifying-clear room s (h .clear)) ∙ (rw (h .machine, h .word, h .sequence) outcomes.twin-built) in
+    certification-clear room s (certifying-clear room s (h .clear))
+    ∙ (rw (h .machine, h .word, h .sequence) outcomes.twin-built) in
     judgement-verdict room s (h .clear) certified ∙ (rw (h .machine, h .sequence, h .answers) e)
 
 -- with its line
-line-judged : {ys line : List ℕ} {a : Judgement} → Verdict ys a → judgeLine a ≡ line → (room : ℕ) → 13 ≤ room → JudgedAs room (twinAnswered ys) a line
+line-judged : {ys line : List ℕ} {a : Judgement} → Verdict ys a → judgeLine a ≡ line → (room : ℕ) → 13 ≤ room
+    → JudgedAs room (twinAnswered ys) a line
 line-judged h e room l = let answer = judged room (h .0 room l) (h .1) in (answer, ap judgeLine answer ∙ e)
 
 -- ---- the whole
@@ -127,7 +183,8 @@ starred = record {
   passes = line-judged (computed .passes) lines.pass;
   wrong-at = line-judged (computed .wrong-at) lines.wrong;
   unfinished-run = line-judged (computed .unfinished-run) lines.unfinished;
-  too-many = λ room r a b c d e f g h i j k l m. judgement-refused room _ (computed .too-many room r a b c d e f g h i j k l m);
+  too-many = λ room r a b c d e f g h i j k l m.
+      judgement-refused room _ (computed .too-many room r a b c d e f g h i j k l m);
   no-separation-built = λ room. building-refused room _ (computed .six-built room);
   no-separation-certified = λ room. certification-refused room _ (computed .six-certified room);
   no-separation-judged = λ room. judgement-refused room _ (computed .six-judged room);
