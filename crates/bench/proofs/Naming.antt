@@ -15,7 +15,8 @@ use Rattle.bench.specs.declared.words.Lookup.the-variants.{Found, Nothin
 use Rattle.bench.specs.declared.words.Service.{Service}
 use Rattle.bench.specs.declared.words.Service.the-variants.{Wrong, OnSheet}
 use Rattle.bench.specs.declared.words.SheetService.the-variants.{Judge}
-use Rattle.bench.specs.Words.{mostBytes, unlessUnfit, services, foundOr, named, counted, serviceOf, behindFirst, wordsOf}
+use Rattle.bench.specs.Words.{mostBytes, unlessUnfit, services, foundOr, named, counted, serviceOf, behindFirst}
+use Rattle.bench.specs.Words.{wordsOf}
 
 -- ---- one word
 module _ (w : List ℕ) (service : Service) where

@@ -18,7 +18,8 @@ use Rattle.bench.specs.Words.{isDigit, allDigits, valueFrom, mostKind, k
 
 -- what more digits stand for, behind digits of this value
 unfoldable pub kindFrom : ℕ → List ℕ → Service
-kindFrom value w = cond (allDigits w && leb (valueFrom value w) mostKind) (OnSheet (Read (valueFrom value w))) (Wrong Kind)
+kindFrom value w =
+    cond (allDigits w && leb (valueFrom value w) mostKind) (OnSheet (Read (valueFrom value w))) (Wrong Kind)
 
 pub kind-start : (w : List ℕ) → kindFrom 0 w ≡ kindIn w
 unfolding kindFrom kindIn
@@ -39,7 +40,8 @@ pub kind-above : (value : ℕ) (w : List ℕ) → mostKind < value → kindFrom 
 unfolding kindFrom
 kind-above value w l =
     ap (λ (b : Bool). cond b (OnSheet (Read (valueFrom value w))) (Wrong Kind))
-    (ap (λ (b : Bool). allDigits w && b) (lt-leb (valueFrom value w) mostKind (omega (arith, grows value w))) ∙ and-false (allDigits w))
+    (ap (λ (b : Bool). allDigits w && b) (lt-leb (valueFrom value w) mostKind (omega (arith, grows value w)))
+    ∙ and-false (allDigits w))
 
 -- no more digits
 kind-none : (value : ℕ) → value ≤ mostKind → kindFrom value [] ≡ OnSheet (Read value)
@@ -66,12 +68,14 @@ module _ (value i : ℕ) (w : List ℕ) (l : i < length w) where
   pub kind-digit : 48 ≤ getD w i 0 → getD w i 0 ≤ 57
       → kindFrom (10 * value + (getD w i 0 - 48)) (drop (i + 1) w) ≡ kindFrom value (drop i w)
   kind-digit p q =
-      sym (kind-cons value (getD w i 0) (drop (i + 1) w) true (ap₂ _&&_ (le-leb 48 (getD w i 0) p) (le-leb (getD w i 0) 57 q)))
+      sym (kind-cons value (getD w i 0) (drop (i + 1) w) true
+      (ap₂ _&&_ (le-leb 48 (getD w i 0) p) (le-leb (getD w i 0) 57 q)))
       ∙ ap (kindFrom value) (sym first)
 
   pub kind-low : getD w i 0 < 48 → Wrong Kind ≡ kindFrom value (drop i w)
   kind-low p =
-      sym (kind-cons value (getD w i 0) (drop (i + 1) w) false (ap (λ (b : Bool). b && leb (getD w i 0) 57) (lt-leb 48 (getD w i 0) p)))
+      sym (kind-cons value (getD w i 0) (drop (i + 1) w) false
+      (ap (λ (b : Bool). b && leb (getD w i 0) 57) (lt-leb 48 (getD w i 0) p)))
       ∙ ap (kindFrom value) (sym first)
 
   pub kind-high : 57 < getD w i 0 → Wrong Kind ≡ kindFrom value (drop i w)

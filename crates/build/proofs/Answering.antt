@@ -27,12 +27,14 @@ use Rattle.build.specs.declared.service.Answer.the-variants.{Built, Refu
 use Rattle.build.specs.Sequence.{sequence}
 use Rattle.build.specs.Building.{buildNeeds, cause8, buildCauses, valuesOf, Builds}
 use Rattle.build.specs.Building.Connection.{clear-blocks}
-use Rattle.build.specs.Building.Service.{refused-early, refused-eight, room-cause, building-refused, building-clear, buffer-refused, buffer-clear}
+use Rattle.build.specs.Building.Service.{refused-early, refused-eight, room-cause, building-refused}
+use Rattle.build.specs.Building.Service.{building-clear, buffer-refused, buffer-clear}
 use Rattle.build.specs.Table.{Filled}
 use Rattle.build.specs.Writing.{WriteRequires, Writes}
 
 -- a refusal, and nothing written
-refused-builds : (s before : List ℕ) {a b : ℕ} → firstCause (buildCauses (length before) s) ≡ Refused a b → {after : List ℕ} → after ≡ before → Builds s before after (RefusedAnswer a b)
+refused-builds : (s before : List ℕ) {a b : ℕ} → firstCause (buildCauses (length before) s) ≡ Refused a b
+    → {after : List ℕ} → after ≡ before → Builds s before after (RefusedAnswer a b)
 refused-builds s before e ae = record {
   answer = returns-specified valuesOf (sym (building-refused (length before) s e));
   buffer = ae ∙ sym (buffer-refused s before e);
@@ -72,7 +74,8 @@ module _ (s before : List ℕ) (l : Loaded) (h : LoadedFrom buildNeeds s l) wher
 
       module _ (connected : c ≡ Clear) where
         -- all that writing needs
-        pub write-required : (rows : List ℕ) → Filled (meaning (l .machine)) w (meaning (l .machine) .n) rows → WriteRequires (meaning (l .machine)) w rows
+        pub write-required : (rows : List ℕ) → Filled (meaning (l .machine)) w (meaning (l .machine) .n) rows
+            → WriteRequires (meaning (l .machine)) w rows
         write-required rows f = record {
           blocks = clear-blocks (meaning (l .machine)) w proper commands (sym ce ∙ connected);
           few = commands .few;
@@ -80,10 +83,12 @@ module _ (s before : List ℕ) (l : Loaded) (h : LoadedFrom buildNeeds s l) wher
         }
 
         -- cause 9, of the length that writing into an empty part tells, after which the buffer is as it was
-        module _ {size : ℕ} (size-is : size ≡ 0 + length (sequence (meaning (l .machine)) w)) {middle : List ℕ} (me : middle ≡ before) {nine : Check}
-            (ne : nine ≡ (refusal 9 with size if ltb (length middle) size)) where
+        module _ {size : ℕ} (size-is : size ≡ 0 + length (sequence (meaning (l .machine)) w)) {middle : List ℕ}
+            (me : middle ≡ before) {nine : Check} (ne : nine ≡ (refusal 9 with size if ltb (length middle) size)) where
           size-same : size ≡ length (sequence (machineIn s) (content 2 s))
-          size-same = let z : size ≡ length (sequence (meaning (l .machine)) w) = omega arith in z ∙ ap length sequence-same
+          size-same =
+              let z : size ≡ length (sequence (meaning (l .machine)) w) = omega arith in
+              z ∙ ap length sequence-same
 
           causes-are : firstCause (buildCauses (length before) s) ≡ nine
           causes-are =
@@ -94,14 +99,16 @@ module _ (s before : List ℕ) (l : Loaded) (h : LoadedFrom buildNeeds s l) wher
           nine-refused e = refused-builds s before (causes-are ∙ e) me
 
           -- the sequence, written into the buffer
-          pub built : nine ≡ Clear → {after : List ℕ} {end : ℕ} → Writes middle 0 (sequence (meaning (l .machine)) w) after end
-              → Builds s before after (Built size)
+          pub built : nine ≡ Clear → {after : List ℕ} {end : ℕ}
+              → Writes middle 0 (sequence (meaning (l .machine)) w) after end → Builds s before after (Built size)
           built e {after} {end} wr =
               let xs = sequence (meaning (l .machine)) w in
               let fits : size ≤ length middle = ltb-false _ _ (clear-absent 9 size _ (sym ne ∙ e)) in
               let room : end ≤ length middle = omega (arith, wr .ends) in
               record {
-                answer = returns-specified valuesOf (ap Built size-same ∙ sym (building-clear (length before) s (causes-are ∙ e)));
+                answer =
+                    returns-specified valuesOf
+                    (ap Built size-same ∙ sym (building-clear (length before) s (causes-are ∙ e)));
                 buffer =
                     wr .written room
                     ∙ ap (λ (d : List ℕ). paste d 0 xs (length xs)) me

@@ -34,7 +34,11 @@ pub connecting-start : (M : Mealy) (w rows : List ℕ) → length rows ≡ table
 connecting-start M w rows e = record {
   inside = omega arith;
   clear = first-none (transferCause M w);
-  filled = record { long = e; short = λ s l. let z : ⊥ = omega arith in absurd z; stored = λ s l. let z : ⊥ = omega arith in absurd z };
+  filled = record {
+    long = e;
+    short = λ s l. let z : ⊥ = omega arith in absurd z;
+    stored = λ s l. let z : ⊥ = omega arith in absurd z;
+  };
 }
 
 -- ---- one state: from and to as the program has them, what its search answers, and its check
@@ -43,12 +47,16 @@ guard-missing true xs = ap noTransfer (guard-true (some xs) refl)
 guard-missing false xs = ap noTransfer (guard-false (some xs) refl)
 
 module _ (M : Mealy) (w : List ℕ) (s : ℕ) (p : MaybeTransfer) (from to : ℕ) {N : ℕ} {c : Check} (ne : N ≡ M .n)
-    (fe : from ≡ run M s w) (te : to ≡ following N s) (e : transferIn p ≡ transfer M from to) (ce : c ≡ (refusal 8 with s if not (p .found))) where
+    (fe : from ≡ run M s w) (te : to ≡ following N s) (e : transferIn p ≡ transfer M from to)
+    (ce : c ≡ (refusal 8 with s if not (p .found))) where
   transfer-of : transferIn p ≡ B M w s
   transfer-of = e ∙ ap₂ (transfer M) fe (te ∙ ap (λ (n : ℕ). following n s) ne)
 
   check-of : c ≡ transferCause M w s
-  check-of = ce ∙ ap (λ (b : Bool). refusal 8 with s if b) (sym (guard-missing (p .found) (take (p .length) (p .commands))) ∙ ap noTransfer transfer-of)
+  check-of =
+      ce
+      ∙ ap (λ (b : Bool). refusal 8 with s if b)
+      (sym (guard-missing (p .found) (take (p .length) (p .commands))) ∙ ap noTransfer transfer-of)
 
   module _ {rows : List ℕ} (h : Connecting M w rows s) where
     -- no transfer: the loop stops
@@ -79,8 +87,13 @@ module _ (M : Mealy) (w : List ℕ) (s : ℕ) (p : MaybeTransfer) (from to : ℕ
             (ap (λ (o : Option (List ℕ)). Option·getD o []) B-is ∙ sym (st .stored));
       }
 
-      pub connecting-on : s < M .n → {after : List ℕ} → Stored rows after s (p .length) (p .commands) → Connecting M w after (s + 1)
-      connecting-on l st = record { inside = omega arith; clear = first-goes-on (transferCause M w) s (h .clear) check-of clear; filled = filled-on st }
+      pub connecting-on : s < M .n → {after : List ℕ} → Stored rows after s (p .length) (p .commands)
+          → Connecting M w after (s + 1)
+      connecting-on l st = record {
+        inside = omega arith;
+        clear = first-goes-on (transferCause M w) s (h .clear) check-of clear;
+        filled = filled-on st;
+      }
 
 -- ---- the end
 module _ (M : Mealy) (w rows : List ℕ) {s : ℕ} (h : Connecting M w rows s) where

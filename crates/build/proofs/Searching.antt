@@ -1,5 +1,5 @@
--- The search by distances, over plain variables: the first step to a state at a distance, and what distances say of paths.
--- Assumes nothing.
+-- The search by distances, over plain variables: the first step to a state at a distance, and what distances say of
+-- paths. Assumes nothing.
 use Prim.Native.Nat.{ℕ, suc, _+_, _*_, _≤_, _<_}
 use mathlib.Core.Path.{_≡_, refl, sym, ap, _∙_}
 use mathlib.Core.List.{List}
@@ -14,8 +14,10 @@ use Rattle.build.specs.Distances.{unreached, FirstStep, Widened, Distanc
 
 -- ---- the first step
 -- the distance behind a command
-cell-reached : (next distance : List ℕ) (k s c : ℕ) {e t d : ℕ} → e ≡ s * k + c → t ≡ getD next e 0 → getD distance t 0 ≡ d → getD distance (getD next (s * k + c) 0) 0 ≡ d
-cell-reached next distance k s c ee te de = ap (λ (x : ℕ). getD distance x 0) (ap (λ (x : ℕ). getD next x 0) (sym ee) ∙ sym te) ∙ de
+cell-reached : (next distance : List ℕ) (k s c : ℕ) {e t d : ℕ} → e ≡ s * k + c → t ≡ getD next e 0
+    → getD distance t 0 ≡ d → getD distance (getD next (s * k + c) 0) 0 ≡ d
+cell-reached next distance k s c ee te de =
+    ap (λ (x : ℕ). getD distance x 0) (ap (λ (x : ℕ). getD next x 0) (sym ee) ∙ sym te) ∙ de
 
 -- what the loop over the commands keeps
 pub record Passing (next : List ℕ) (k : ℕ) (distance : List ℕ) (s d c : ℕ) : Type 0 where
@@ -28,7 +30,8 @@ module _ {next : List ℕ} {k : ℕ} {distance : List ℕ} {s d : ℕ} where
   passing-none = record { few = omega arith; passed = λ x l. let z : ⊥ = omega arith in absurd z }
 
   -- one command more
-  pub passing-on : {c e t : ℕ} → Passing next k distance s d c → c < k → e ≡ s * k + c → t ≡ getD next e 0 → (getD distance t 0 ≡ d → ⊥) → Passing next k distance s d (c + 1)
+  pub passing-on : {c e t : ℕ} → Passing next k distance s d c → c < k → e ≡ s * k + c → t ≡ getD next e 0
+      → (getD distance t 0 ≡ d → ⊥) → Passing next k distance s d (c + 1)
   passing-on {c} {e} {t} h l ee te o = record {
     few = omega arith;
     passed =
@@ -37,7 +40,8 @@ module _ {next : List ℕ} {k : ℕ} {distance : List ℕ} {s d : ℕ} where
   }
 
   -- the command is found
-  pub passing-found : {c e t : ℕ} → Passing next k distance s d c → e ≡ s * k + c → t ≡ getD next e 0 → t < 256 → getD distance t 0 ≡ d → FirstStep next k distance s d c
+  pub passing-found : {c e t : ℕ} → Passing next k distance s d c → e ≡ s * k + c → t ≡ getD next e 0 → t < 256
+      → getD distance t 0 ≡ d → FirstStep next k distance s d c
   passing-found {c} {e} {t} h ee te small de = record {
     few = h .few;
     passed = h .passed;
@@ -55,7 +59,8 @@ module _ {next : List ℕ} {k : ℕ} {distance : List ℕ} {s d : ℕ} where
   }
 
 -- ---- a state's distance after a round, by its three ways
-module _ {next : List ℕ} {k : ℕ} {distance : List ℕ} {s d r : ℕ} (h : FirstStep next k distance s d r) (z : getD distance s 0 ≡ unreached) where
+module _ {next : List ℕ} {k : ℕ} {distance : List ℕ} {s d r : ℕ} (h : FirstStep next k distance s d r)
+    (z : getD distance s 0 ≡ unreached) where
   -- a command leads to the distance
   pub widened-reached : r < k → Widened next k distance d s (d + 1)
   widened-reached l = Widened.reached r l z (h .found l) refl
@@ -84,23 +89,28 @@ module _ (M : Mealy) (b d : ℕ) where
   nearest-known (Distance.beyond z h) o = absurd (o z)
 
   -- at unreached there is no path
-  pub unreached-none : {s v : ℕ} → Distance M b d s v → v ≡ unreached → d < unreached → (m : ℕ) → m ≤ d → firstPath M b m s ≡ none
+  pub unreached-none : {s v : ℕ} → Distance M b d s v → v ≡ unreached → d < unreached → (m : ℕ) → m ≤ d
+      → firstPath M b m s ≡ none
   unreached-none (Distance.near t l p q) z k = let y : ⊥ = omega arith in absurd y
   unreached-none (Distance.beyond z h) z′ k = h
 
   -- where there is a path the distance is that of a path no longer
-  path-nearest : {s v m : ℕ} {t : List ℕ} → Distance M b d s v → firstPath M b m s ≡ some t → m ≤ d → (v ≤ m) × Nearest s v
+  path-nearest : {s v m : ℕ} {t : List ℕ} → Distance M b d s v → firstPath M b m s ≡ some t → m ≤ d
+      → (v ≤ m) × Nearest s v
   path-nearest {s} {v} {m} (Distance.near t l p q) e k =
       let n : m < v → ⊥ = λ y. some-none e (q m y) in
       (omega arith, record { string = t; low = l; found = p; least = q })
   path-nearest {s} {v} {m} (Distance.beyond z h) e k = absurd (some-none e (h m k))
 
   module _ (few : M .n ≤ 255) {distance : List ℕ} (table : Distances M b d distance) where
-    -- where no path of at most m commands leads from s, but one of m commands from the next state, that state's distance is m
+    -- where no path of at most m commands leads from s, but one of m commands from the next state,
+    -- that state's distance is m
     pub exact : (m s c : ℕ) {u : List ℕ} → m ≤ d → s < M .n → c < M .k → ((i : ℕ) → i ≤ m → firstPath M b i s ≡ none)
         → firstPath M b m (M .next s c) ≡ some u → getD distance (M .next s c) 0 ≡ m
     exact m s c {u} ml sl cl none-here e =
         let inside = path-inside M b m (M .next s c) e in
         let r = path-nearest (table .at (M .next s c) (omega arith)) e ml in
-        let longer : getD distance (M .next s c) 0 < m → ⊥ = λ y. some-none (some-path M b (getD distance (M .next s c) 0) s c sl cl (r .1 .found) .1) (none-here (suc (getD distance (M .next s c) 0)) y) in
+        let longer : getD distance (M .next s c) 0 < m → ⊥ = λ y.
+        some-none (some-path M b (getD distance (M .next s c) 0) s c sl cl (r .1 .found) .1)
+        (none-here (suc (getD distance (M .next s c) 0)) y) in
         omega (arith, r .0)

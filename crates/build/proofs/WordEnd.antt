@@ -8,7 +8,8 @@ use Rattle.machine.specs.Machine.{Mealy, tabled, run}
 use Rattle.machine.specs.Machine.Laws.{run-none, run-rest, tabled-next}
 
 -- one command on
-rest-next : (M : Mealy) (w : List ℕ) (p t u : ℕ) → p < length w → u ≡ M .next t (getD w p 0) → run M u (drop (p + 1) w) ≡ run M t (drop p w)
+rest-next : (M : Mealy) (w : List ℕ) (p t u : ℕ) → p < length w → u ≡ M .next t (getD w p 0)
+    → run M u (drop (p + 1) w) ≡ run M t (drop p w)
 rest-next M w p t u l e = ap (λ (x : ℕ). run M x (drop (p + 1) w)) e ∙ sym (run-rest M t w p l)
 
 module _ (n k start : ℕ) (next answer w : List ℕ) where
@@ -20,4 +21,7 @@ module _ (n k start : ℕ) (next answer w : List ℕ) where
 
   -- the end of the word
   pub rest-end : (p t : ℕ) → length w ≤ p → {g : ℕ} → run (tabled n k start next answer) t (drop p w) ≡ g → t ≡ g
-  rest-end p t l e = sym (ap (run (tabled n k start next answer) t) (drop-of-length-le w l) ∙ run-none (tabled n k start next answer) t) ∙ e
+  rest-end p t l e =
+      sym (ap (run (tabled n k start next answer) t) (drop-of-length-le w l)
+      ∙ run-none (tabled n k start next answer) t)
+      ∙ e

@@ -8,7 +8,8 @@ use lib.ListN.{length, getD}
 use Rattle.certify.specs.Folding.{Past, here, past, Reached, Rising, Rooted}
 
 -- one alternative further
-pub past-on : {xs alt : List ℕ} {c r v : ℕ} → Past xs alt c r v → (getD xs v 0 ≡ c → ⊥) → (getD alt v 0 ≡ 0 → ⊥) → Past xs alt c r (getD alt v 0)
+pub past-on : {xs alt : List ℕ} {c r v : ℕ} → Past xs alt c r v → (getD xs v 0 ≡ c → ⊥) → (getD alt v 0 ≡ 0 → ⊥)
+    → Past xs alt c r (getD alt v 0)
 past-on (here e) o n = rw e (past o n (here refl))
 past-on (past o′ n′ h) o n = past o′ n′ (past-on h o n)
 
@@ -34,6 +35,7 @@ module _ {xs alt : List ℕ} {r c v : ℕ} (h : Along xs alt r c v) where
     along-on o = record { inside = along-less .1; path = rw e (past-on (h .path) o (λ q. n (e ∙ q))) }
 
 -- a state's representative is a place with a command
-pub rooted-inside : {root root′ : List ℕ} {s t r bound : ℕ} → t < bound → ((x y : ℕ) → getD root x 0 ≡ y + 1 → y < bound) → Rooted root s t root′ r → r < bound
+pub rooted-inside : {root root′ : List ℕ} {s t r bound : ℕ} → t < bound
+    → ((x y : ℕ) → getD root x 0 ≡ y + 1 → y < bound) → Rooted root s t root′ r → r < bound
 rooted-inside l h (Rooted.first z re e) = omega arith
 rooted-inside l h (Rooted.again e re) = h _ _ e

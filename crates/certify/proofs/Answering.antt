@@ -24,7 +24,8 @@ use Rattle.certify.specs.Marks.{marksBy, count, occursAt, marks}
 use Rattle.certify.specs.Marks.Laws.{marks-by-length, marks-by-bits, marks-by-one, marks-by-true}
 use Rattle.certify.specs.Marks.Agreement.{occurs-true, true-occurs, marks-unique, marks-length}
 use Rattle.certify.specs.Certification.{certifyCauses, verified, openCause, answerOf, outcome, Certifies}
-use Rattle.certify.specs.Certification.Laws.{verified-by, by-verified, outcome-of, certification-refused, certification-clear, after-refused, after-clear, kept-is}
+use Rattle.certify.specs.Certification.Laws.{verified-by, by-verified, outcome-of, certification-refused}
+use Rattle.certify.specs.Certification.Laws.{certification-clear, after-refused, after-clear, kept-is}
 use Rattle.certify.specs.Certification.Contract.{certifies}
 use Rattle.certify.specs.Certification.Program.{openBy, open-known}
 use Rattle.certify.specs.Folding.{MarkedIn}
@@ -54,8 +55,9 @@ module _ (w xs : List ℕ) {given : List ℕ} (e : given ≡ marksBy xs (occursA
   }
 
 -- ---- the outcome
-module _ (M : Mealy) (w xs : List ℕ) {given ms known : List ℕ} (proper : Proper M) (low : Commands mostSequence (M .k) xs)
-    (e : given ≡ marksBy xs (occursAt w xs)) (h : Closed M xs given ms known) where
+module _ (M : Mealy) (w xs : List ℕ) {given ms known : List ℕ} (proper : Proper M)
+    (low : Commands mostSequence (M .k) xs) (e : given ≡ marksBy xs (occursAt w xs))
+    (h : Closed M xs given ms known) where
   pub marks-are : ms ≡ marks M w xs
   marks-are = marks-unique M w xs ms (record {
     long = h .exact .long;
@@ -83,21 +85,28 @@ module _ (M : Mealy) (w xs : List ℕ) {given ms known : List ℕ} (proper : Pro
       let one : placeEntry M xs (v .place) ≡ s * M .k + c = ap₂ (λ (x y : ℕ). x * M .k + y) (v .state) (v .command) in
       h .all (v .place) (v .inside) (v .before) (v .after) (rw one z)
 
-  pub outcome-is : {entries n : ℕ} {c : Check} {a : Answer} → entries ≡ M .n * M .k → c ≡ openBy ms known entries → n ≡ count ms → a ≡ answerOf c n → a ≡ outcome M w xs
+  pub outcome-is : {entries n : ℕ} {c : Check} {a : Answer} → entries ≡ M .n * M .k → c ≡ openBy ms known entries
+      → n ≡ count ms → a ≡ answerOf c n → a ≡ outcome M w xs
   outcome-is ee ce ne ae =
-      let o : openBy ms known _ ≡ openCause M xs ms = ap (openBy ms known) ee ∙ open-known M xs ms known known-verified verified-known in
+      let o : openBy ms known _ ≡ openCause M xs ms =
+      ap (openBy ms known) ee ∙ open-known M xs ms known known-verified verified-known in
       ae ∙ ap₂ answerOf (ce ∙ o) ne ∙ sym (outcome-of M w xs (sym marks-are))
 
 -- ---- the promise
-pub certifies-refused : (s before : List ℕ) {c : Check} {n p : ℕ} → c ≡ firstCause (certifyCauses (length before) s) → c ≡ Refused n p
-    → Certifies s before before (RefusedAnswer n p)
+pub certifies-refused : (s before : List ℕ) {c : Check} {n p : ℕ} → c ≡ firstCause (certifyCauses (length before) s)
+    → c ≡ Refused n p → Certifies s before before (RefusedAnswer n p)
 certifies-refused s before ce e =
-    certifies s before (sym (certification-refused (length before) s (sym ce ∙ e))) (sym (after-refused s before (sym ce ∙ e)))
+    certifies s before (sym (certification-refused (length before) s (sym ce ∙ e)))
+    (sym (after-refused s before (sym ce ∙ e)))
 
 pub certifies-clear : (s before : List ℕ) {c : Check} {M : Mealy} {w xs after ms : List ℕ} {a : Answer}
-    → c ≡ firstCause (certifyCauses (length before) s) → c ≡ Clear → M ≡ machineIn s → w ≡ content 2 s → xs ≡ content 3 s
-    → a ≡ outcome M w xs → ms ≡ marks M w xs → after ≡ ms ++ drop (length xs + 1) before → Certifies s before after a
+    → c ≡ firstCause (certifyCauses (length before) s) → c ≡ Clear → M ≡ machineIn s → w ≡ content 2 s
+    → xs ≡ content 3 s → a ≡ outcome M w xs → ms ≡ marks M w xs → after ≡ ms ++ drop (length xs + 1) before
+    → Certifies s before after a
 certifies-clear s before {c} {M} {w} {xs} ce e me we xe ae mse afe =
     let clear = sym ce ∙ e in
     certifies s before (ae ∙ (rw (me, we, xe) (sym (certification-clear (length before) s clear))))
-    (afe ∙ ap₂ (λ (l : List ℕ) (n : ℕ). l ++ drop n before) mse (sym (marks-length M w xs)) ∙ kept-is (marks M w xs) before ∙ (rw (me, we, xe) (sym (after-clear s before clear))))
+    (afe
+    ∙ ap₂ (λ (l : List ℕ) (n : ℕ). l ++ drop n before) mse (sym (marks-length M w xs))
+    ∙ kept-is (marks M w xs) before
+    ∙ (rw (me, we, xe) (sym (after-clear s before clear))))

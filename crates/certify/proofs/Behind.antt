@@ -30,7 +30,11 @@ seen-starts ms = record {
   long = refl;
   written = λ q l. let z : ⊥ = omega arith in absurd z;
   rest = λ q l. refl;
-  told = record { bit = omega arith; on = λ q l. let z : ⊥ = omega arith in absurd z; from = λ e. let z : ⊥ = omega arith in absurd z };
+  told = record {
+    bit = omega arith;
+    on = λ q l. let z : ⊥ = omega arith in absurd z;
+    from = λ e. let z : ⊥ = omega arith in absurd z;
+  };
 }
 
 -- at a marked place, and at another
@@ -44,12 +48,14 @@ told-other {ms} {p} {seen} n h = record {
   from = λ e. let f = h .from e in (f .0, omega (arith, f .1), f .2);
 }
 
-pub seen-on : {ms ms′ : List ℕ} {seen seen′ p : ℕ} → p < length ms′ → Seen ms ms′ seen p → Told ms (p + 1) seen′ → Seen ms (set ms′ p seen′) seen′ (p + 1)
+pub seen-on : {ms ms′ : List ℕ} {seen seen′ p : ℕ} → p < length ms′ → Seen ms ms′ seen p → Told ms (p + 1) seen′
+    → Seen ms (set ms′ p seen′) seen′ (p + 1)
 seen-on {ms} {ms′} {seen} {seen′} {p} l h t = record {
   long = length-set ms′ p seen′ ∙ h .long;
   written = λ q ql.
       ⊎-elim (λ (k : (q ≡ p) × (getD (set ms′ p seen′) q 0 ≡ seen′)). rw (k .1, k .0) t)
-      (λ (k : (q ≡ p → ⊥) × (getD (set ms′ p seen′) q 0 ≡ getD ms′ q 0)). rw (k .1) (h .written q (omega (arith, k .0))))
+      (λ (k : (q ≡ p → ⊥) × (getD (set ms′ p seen′) q 0 ≡ getD ms′ q 0)).
+      rw (k .1) (h .written q (omega (arith, k .0))))
       (set-cases ms′ p seen′ q l);
   rest = λ q ql.
       ⊎-elim (λ (k : (q ≡ p) × (getD (set ms′ p seen′) q 0 ≡ seen′)). let z : ⊥ = omega (arith, k .0) in absurd z)

@@ -23,9 +23,13 @@ use Rattle.certify.proofs.Tables.{zeros}
 use Rattle.certify.proofs.Turn.{merged-still, merged-learning, Still, Head, walked-here}
 
 -- equal parts have equal commands
-commands-at : (xs : List ℕ) (p q m : ℕ) → take m (drop p xs) ≡ take m (drop q xs) → (i : ℕ) → i < m → getD xs (p + i) 0 ≡ getD xs (q + i) 0
+commands-at : (xs : List ℕ) (p q m : ℕ) → take m (drop p xs) ≡ take m (drop q xs) → (i : ℕ) → i < m
+    → getD xs (p + i) 0 ≡ getD xs (q + i) 0
 commands-at xs p q m e i l =
-    sym (getD-take m (drop p xs) i 0 l ∙ getD-drop p xs i 0) ∙ ap (λ (m : List ℕ). getD m i 0) e ∙ getD-take m (drop q xs) i 0 l ∙ getD-drop q xs i 0
+    sym (getD-take m (drop p xs) i 0 l ∙ getD-drop p xs i 0)
+    ∙ ap (λ (m : List ℕ). getD m i 0) e
+    ∙ getD-take m (drop q xs) i 0 l
+    ∙ getD-drop q xs i 0
 
 module _ {M : Mealy} {apply : Bool} {xs given known₀ : List ℕ} (h : SweepRequires M apply xs given known₀) where
   -- before place 0
@@ -43,7 +47,10 @@ module _ {M : Mealy} {apply : Bool} {xs given known₀ : List ℕ} (h : SweepReq
       risen = λ q. absurd (true≢false (sym q));
     };
     linked = record { long = length-replicate mostSequence zero; links = λ v n. absurd (n (zeros mostSequence v)) };
-    topped = record { long = length-replicate byteStates zero; tops = λ x y d. let z : ⊥ = omega (arith, zeros byteStates x) in absurd z };
+    topped = record {
+      long = length-replicate byteStates zero;
+      tops = λ x y d. let z : ⊥ = omega (arith, zeros byteStates x) in absurd z;
+    };
     low-cur = omega arith;
     pair = same refl;
     still = λ q. record {
@@ -67,17 +74,20 @@ module _ {M : Mealy} {apply : Bool} {xs given known₀ : List ℕ} (h : SweepReq
       k : Still M apply xs given known₀ ms known alt root cur t
       k = g .still (merged-still merged f .0)
 
-      walked : (i : ℕ) → i < length xs → (getD given i 0 ≡ 1 → getD given (i + 1) 0 ≡ 1 → ⊥) → Walked xs (stateAt M xs) given alt root i
+      walked : (i : ℕ) → i < length xs → (getD given i 0 ≡ 1 → getD given (i + 1) 0 ≡ 1 → ⊥)
+          → Walked xs (stateAt M xs) given alt root i
       walked i l n =
           let m : getD given cur 0 ≡ getD given t 0 = rw (k .same-marks) at (merged-still merged f .2) in
           walked-here h k m i (omega arith) n
 
-      follows : (a b : ℕ) → a < length xs → b < length xs → stateAt M xs a ≡ stateAt M xs b → getD xs a 0 ≡ getD xs b 0 → stateAt M xs (a + 1) ≡ stateAt M xs (b + 1)
+      follows : (a b : ℕ) → a < length xs → b < length xs → stateAt M xs a ≡ stateAt M xs b → getD xs a 0 ≡ getD xs b 0
+          → stateAt M xs (a + 1) ≡ stateAt M xs (b + 1)
       follows a b al bl e c = state-next M xs a al ∙ ap₂ (M .next) e c ∙ sym (state-next M xs b bl)
 
       -- one command after two marked places of one state
-      single : (a b : ℕ) → a < length xs → b < length xs → getD given a 0 ≡ 1 → getD given b 0 ≡ 1 → stateAt M xs a ≡ stateAt M xs b → getD xs a 0 ≡ getD xs b 0
-          → getD given (a + 1) 0 ≡ 1 → getD given (b + 1) 0 ≡ 1
+      single : (a b : ℕ) → a < length xs → b < length xs → getD given a 0 ≡ 1 → getD given b 0 ≡ 1
+          → stateAt M xs a ≡ stateAt M xs b → getD xs a 0 ≡ getD xs b 0 → getD given (a + 1) 0 ≡ 1
+          → getD given (b + 1) 0 ≡ 1
       single a b al bl ma mb e c m =
           let one : placeEntry M xs a ≡ placeEntry M xs b = ap₂ (λ (x y : ℕ). x * M .k + y) e c in
           let known-a = k .learnt a (omega arith) ma m in
@@ -88,8 +98,11 @@ module _ {M : Mealy} {apply : Bool} {xs given known₀ : List ℕ} (h : SweepReq
 
       closed : (r : ℕ) → r ≤ length xs → ByRule2 xs (stateAt M xs) given r → getD given r 0 ≡ 1
       closed r l s =
-          let pl : s .p + s .m ≤ length xs = omega (arith, marked-inside given (s .p + s .m) (s .end-marked), h .close-requires .long) in
-          rw (s .at) (folded-closed xs (stateAt M xs) given alt root (h .close-requires .bits) walked single follows (s .p) (s .q) (s .m) (s .p-marked) (s .q-marked)
+          let pl : s .p + s .m ≤ length xs =
+          omega (arith, marked-inside given (s .p + s .m) (s .end-marked), h .close-requires .long) in
+          rw (s .at)
+          (folded-closed xs (stateAt M xs) given alt root (h .close-requires .bits) walked single follows (s .p) (s .q)
+          (s .m) (s .p-marked) (s .q-marked)
           (s .states) (s .end-marked) pl (omega (arith, s .at)) (commands-at xs (s .p) (s .q) (s .m) (s .commands)))
 
     pub sweeps : Swept M xs given known₀ ms′ known changed′

@@ -1,5 +1,5 @@
--- The entries that a sweep knows to be verified: each has a place that shows it, and applying one is rule 2 with one command.
--- Assumes nothing.
+-- The entries that a sweep knows to be verified: each has a place that shows it, and applying one is rule 2 with one
+-- command. Assumes nothing.
 use Prim.Native.Nat.{ℕ, _+_, _<_}
 use mathlib.Core.Path.{_≡_, refl, sym, _∙_}
 use mathlib.Core.Bool.{Bool, true, false, true≢false}
@@ -32,14 +32,16 @@ pub applied : {M : Mealy} {xs given : List ℕ} → Commands mostSequence (M .k)
 applied {M} {xs} {given} commands t tl ft h =
     let low = commands .low in
     let e = digits-one (M .k) _ _ _ _ (low (h .place) (h .inside)) (low t tl) (h .entry) in
-    let pair : Paired M xs given (h .place + 1) (t + 1) = step (h .place) t (tops (h .before) ft (e .0)) (h .inside) tl (e .1) refl refl in
+    let pair : Paired M xs given (h .place + 1) (t + 1) =
+    step (h .place) t (tops (h .before) ft (e .0)) (h .inside) tl (e .1) refl refl in
     paired-carries pair (h .after)
 
 module _ {M : Mealy} {apply : Bool} {xs given known₀ : List ℕ} (required : SweepRequires M apply xs given known₀) where
-  module _ {ms known : List ℕ} {e t : ℕ} {changed : Bool} (tl : t < length xs) (el : e < mostEntries) (at : placeEntry M xs t ≡ e)
-      (h : Learning M xs given known₀ ms known changed) where
+  module _ {ms known : List ℕ} {e t : ℕ} {changed : Bool} (tl : t < length xs) (el : e < mostEntries)
+      (at : placeEntry M xs t ≡ e) (h : Learning M xs given known₀ ms known changed) where
     -- a new entry
-    learns-one : (getD ms t 0 ≡ 0 → ⊥) → (getD ms (t + 1) 0 ≡ 0 → ⊥) → getD known e 0 ≡ 0 → Learning M xs given known₀ ms (set known e 1) true
+    learns-one : (getD ms t 0 ≡ 0 → ⊥) → (getD ms (t + 1) 0 ≡ 0 → ⊥) → getD known e 0 ≡ 0
+        → Learning M xs given known₀ ms (set known e 1) true
     learns-one n n′ z =
         let g = h .marking in
         let inside : e < length known = omega (arith, h .table) in
@@ -61,11 +63,17 @@ module _ {M : Mealy} {apply : Bool} {xs given known₀ : List ℕ} (required : S
               ⊎-elim (λ (q : (x ≡ e) × (getD (set known e 1) x 0 ≡ 1)). omega (arith, q .1))
               (λ (q : (x ≡ e → ⊥) × (getD (set known e 1) x 0 ≡ getD known x 0)). omega (arith, q .1, h .known-bits x))
               (set-cases known e 1 x inside);
-          risen = λ q. inr (record { place = e; was = was-zero known₀ known (required .known-bits) (h .keeps) e z; is = getD-set-same known e 1 0 inside });
+          risen = λ q.
+              inr (record {
+                place = e;
+                was = was-zero known₀ known (required .known-bits) (h .keeps) e z;
+                is = getD-set-same known e 1 0 inside;
+              });
         }
 
     -- a known entry applied
-    applies-one : (getD ms t 0 ≡ 0 → ⊥) → getD ms (t + 1) 0 ≡ 0 → (getD known e 0 ≡ 0 → ⊥) → Learning M xs given known₀ (set ms (t + 1) 1) known true
+    applies-one : (getD ms t 0 ≡ 0 → ⊥) → getD ms (t + 1) 0 ≡ 0 → (getD known e 0 ≡ 0 → ⊥)
+        → Learning M xs given known₀ (set ms (t + 1) 1) known true
     applies-one n z y =
         let g = h .marking in
         let ft = g .sound t (bit-one (g .bits t) n) in
@@ -84,7 +92,8 @@ module _ {M : Mealy} {apply : Bool} {xs given known₀ : List ℕ} (required : S
           });
         }
 
-    pub learning : {ms′ known′ : List ℕ} {changed′ : Bool} → Learnt apply ms known e t changed ms′ known′ changed′ → Learning M xs given known₀ ms′ known′ changed′
+    pub learning : {ms′ known′ : List ℕ} {changed′ : Bool} → Learnt apply ms known e t changed ms′ known′ changed′
+        → Learning M xs given known₀ ms′ known′ changed′
     learning (Learnt.unmarked z me ke ce) = rw (me, ke, ce) h
     learning (Learnt.knew n y me ke ce) = rw (me, ke, ce) h
     learning (Learnt.unknown z y me ke ce) = rw (me, ke, ce) h
@@ -92,7 +101,8 @@ module _ {M : Mealy} {apply : Bool} {xs given known₀ : List ℕ} (required : S
     learning (Learnt.learns n n′ z me ke ce) = rw (me, ke, ce) (learns-one n n′ z)
     learning (Learnt.applies n z y me ke ce) = rw (me, ke, ce) (applies-one n z y)
 
--- nothing changed: marks and known entries are as they were; the entry between two marks is known, and a known one has been applied
+-- nothing changed: marks and known entries are as they were; the entry between two marks is known, and a
+-- known one has been applied
 pub record Unchanged (apply : Bool) (ms known : List ℕ) (e t : ℕ) (changed : Bool) (ms′ known′ : List ℕ) : Type 0 where
   pub before : changed ≡ false
   pub same-marks : ms′ ≡ ms
@@ -101,7 +111,8 @@ pub record Unchanged (apply : Bool) (ms known : List ℕ) (e t : ℕ) (changed :
   pub applied : apply ≡ true → getD ms t 0 ≡ 1 → (getD known e 0 ≡ 0 → ⊥) → getD ms (t + 1) 0 ≡ 0 → ⊥
 
 pub learnt-still : {apply : Bool} {ms known ms′ known′ : List ℕ} {e t : ℕ} {changed changed′ : Bool}
-    → Learnt apply ms known e t changed ms′ known′ changed′ → changed′ ≡ false → Unchanged apply ms known e t changed ms′ known′
+    → Learnt apply ms known e t changed ms′ known′ changed′ → changed′ ≡ false
+    → Unchanged apply ms known e t changed ms′ known′
 learnt-still (Learnt.unmarked z me ke ce) f = record {
   before = sym ce ∙ f;
   same-marks = me;

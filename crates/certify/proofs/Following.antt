@@ -1,5 +1,5 @@
--- Following the commands of a marked place is sound: what it marks lies in the closure of the marks that it was given, and the two places that it follows
--- stay paired.
+-- Following the commands of a marked place is sound: what it marks lies in the closure of the marks that it was given,
+-- and the two places that it follows stay paired.
 -- Assumes nothing.
 use Prim.Native.Nat.{ℕ, _+_, _≤_}
 use mathlib.Core.Path.{_≡_, refl, sym, ap, _∙_}
@@ -49,16 +49,22 @@ module _ {M : Mealy} {xs g : List ℕ} where
 
     -- before the first command
     pub propagation-starts : {a : Step} → length g ≡ length xs + 1 → Restarted root p s₀ a → Propagating M xs g g a
-    propagation-starts l h = record { marking = marking-same l (required .bits); continues = restarts (rule1 (required .marked)) (required .state) h }
+    propagation-starts l h = record {
+      marking = marking-same l (required .bits);
+      continues = restarts (rule1 (required .marked)) (required .state) h;
+    }
 
     -- two paired places get equal marks
-    equalises : {ms ms′ : List ℕ} {r i s : ℕ} {a : Step} → r ≤ length xs → i ≤ length xs → Marking M xs g ms → Representative M xs g r i s
-        → Equalised ms root r i s ms′ a → Propagating M xs g ms′ a
+    equalises : {ms ms′ : List ℕ} {r i s : ℕ} {a : Step} → r ≤ length xs → i ≤ length xs → Marking M xs g ms
+        → Representative M xs g r i s → Equalised ms root r i s ms′ a → Propagating M xs g ms′ a
     equalises rl il h t (Equalised.on e d) = record { marking = rw e h; continues = goes-on t d }
     equalises rl il h t (Equalised.stop e d) = record { marking = rw e h; continues = stopped d }
     equalises rl il h t (Equalised.first n e d) =
         let f = both-in h (t .pair) n in
-        record { marking = rw e (marking-more rl (f .0) h); continues = restarts (f .0) (t .state ∙ sym (paired-state (t .pair))) d }
+        record {
+          marking = rw e (marking-more rl (f .0) h);
+          continues = restarts (f .0) (t .state ∙ sym (paired-state (t .pair))) d;
+        }
     equalises rl il h t (Equalised.second n e d) =
         let f = both-in h (t .pair) n in
         record { marking = rw e (marking-more il (f .1) h); continues = restarts (f .1) (t .state) d }
@@ -74,6 +80,10 @@ module _ {M : Mealy} {xs g : List ℕ} where
         equalises (omega arith) (omega arith) (h .marking)
         (record {
           pair = step v i pair vl il same refl refl;
-          state = e ∙ sym (required .next-table .states s _) ∙ ap (λ (x : ℕ). M .next x (getD xs i 0)) (t .state) ∙ sym (state-next M xs i il);
+          state =
+              e
+              ∙ sym (required .next-table .states s _)
+              ∙ ap (λ (x : ℕ). M .next x (getD xs i 0)) (t .state)
+              ∙ sym (state-next M xs i il);
         })
         q

@@ -1,5 +1,5 @@
--- More given marks: the closure, pairing and folding grow with them, and a marking of a marking is one of the first marks.
--- Assumes nothing.
+-- More given marks: the closure, pairing and folding grow with them, and a marking of a marking is one of the first
+-- marks. Assumes nothing.
 use Prim.Native.Nat.{ℕ, _+_}
 use mathlib.Core.Path.{_≡_}
 use mathlib.Core.List.{List}

@@ -17,13 +17,20 @@ use Rattle.certify.specs.Sweep.{placeEntry, AllKnown, Behind, Closed}
 use Rattle.certify.proofs.Entries.{applied}
 use Rattle.certify.proofs.Settling.{Settling}
 
-module _ {M : Mealy} {xs given ms known : List ℕ} {apply changed : Bool} {entries : ℕ} (h : Settling M xs given ms known apply changed)
-    (count : entries ≡ M .n * M .k) (full : AllKnown known entries) where
+module _ {M : Mealy} {xs given ms known : List ℕ} {apply changed : Bool} {entries : ℕ}
+    (h : Settling M xs given ms known apply changed) (count : entries ≡ M .n * M .k)
+    (full : AllKnown known entries) where
   -- the entry of every place is known
   place-known : (i : ℕ) → i < length xs → getD known (placeEntry M xs i) 0 ≡ 0 → ⊥
   place-known i l =
       let low = h .required .commands .low in
-      full (placeEntry M xs i) (omega (arith, count, digits-lt {q = stateAt M xs i} {m = M .n} {r = getD xs i 0} {c = M .k} (state-stays M (h .required .proper) xs low i) (low i l)))
+      full (placeEntry M xs i)
+      (omega (
+        arith,
+        count,
+        digits-lt {q = stateAt M xs i} {m = M .n} {r = getD xs i 0} {c = M .k}
+            (state-stays M (h .required .proper) xs low i) (low i l),
+      ))
 
   -- from a place of the closure on, every place is in it
   closure-behind : (q d : ℕ) → q + d ≤ length xs → From M xs given q → From M xs given (q + d)
@@ -31,7 +38,8 @@ module _ {M : Mealy} {xs given ms known : List ℕ} {apply changed : Bool} {entr
   closure-behind q (suc d) l f =
       let next : q + suc d ≡ q + d + 1 = omega arith in
       let inside : q + d < length xs = omega arith in
-      rw next (applied (h .required .commands) (q + d) inside (closure-behind q d (omega arith) f) (h .knows _ (place-known (q + d) inside)))
+      rw next (applied (h .required .commands) (q + d) inside (closure-behind q d (omega arith) f)
+      (h .knows _ (place-known (q + d) inside)))
 
   pub known-closed : {ms′ : List ℕ} → Behind ms ms′ → Closed M xs given ms′ known
   known-closed {ms′} b = record {

@@ -19,7 +19,8 @@ pub bit-one : {b : ℕ} → b ≤ 1 → (b ≡ 0 → ⊥) → b ≡ 1
 bit-one {b} l n = ⊎-elim (λ (e : b ≡ 1). e) (λ (k : b < 1). absurd (n (omega arith))) (eq-or-lt-of-le l)
 
 -- ---- a cell of a table after a store
-pub set-cases : (l : List ℕ) (i v j : ℕ) → i < length l → ((j ≡ i) × (getD (set l i v) j 0 ≡ v)) ⊎ ((j ≡ i → ⊥) × (getD (set l i v) j 0 ≡ getD l j 0))
+pub set-cases : (l : List ℕ) (i v j : ℕ) → i < length l
+    → ((j ≡ i) × (getD (set l i v) j 0 ≡ v)) ⊎ ((j ≡ i → ⊥) × (getD (set l i v) j 0 ≡ getD l j 0))
 set-cases l i v j il =
     ⊎-elim (λ (e : j ≡ i). inl (e, ap (λ (x : ℕ). getD (set l i v) x 0) e ∙ getD-set-same l i v 0 il))
     (λ (n : j ≡ i → ⊥). inr (n, getD-set-other l i j v 0 n))
@@ -42,7 +43,8 @@ was-zero before after bits keeps p z =
 
 module _ {M : Mealy} {xs given ms : List ℕ} where
   -- one more mark, in the closure
-  pub marking-more : {p : ℕ} → p ≤ length xs → From M xs given p → Marking M xs given ms → Marking M xs given (set ms p 1)
+  pub marking-more : {p : ℕ} → p ≤ length xs → From M xs given p → Marking M xs given ms
+      → Marking M xs given (set ms p 1)
   marking-more {p} pl fp h =
       let inside : p < length ms = omega (arith, h .long) in
       record {

@@ -18,14 +18,16 @@ use Rattle.certify.proofs.Marking.{bit-one, marking-more, both-in}
 use Rattle.certify.proofs.Paired.{paired-state}
 
 module _ {M : Mealy} {xs ms next alt root : List ℕ} {k s cur t : ℕ} (h : MergeRequires M xs ms next alt root k s cur t)
-    (long : length ms ≡ length xs + 1) (cl : cur ≤ length xs) (tl : t ≤ length xs) (n : getD ms cur 0 ≡ getD ms t 0 → ⊥) where
+    (long : length ms ≡ length xs + 1) (cl : cur ≤ length xs) (tl : t ≤ length xs)
+    (n : getD ms cur 0 ≡ getD ms t 0 → ⊥) where
   -- both places are in the closure
   inside : (From M xs ms cur) × (From M xs ms t)
   inside = both-in (marking-same long (h .bits)) (h .pair) n
 
   -- cur gets its mark, which is followed
   pub merges-back : {ms′ : List ℕ} {changed : Bool} → getD ms cur 0 ≡ 0
-      → ((M : Mealy) → PropagateRequires M xs (set ms cur 1) next alt root k cur s → Marking M xs (set ms cur 1) ms′) → Merged M xs ms cur t changed ms′ true
+      → ((M : Mealy) → PropagateRequires M xs (set ms cur 1) next alt root k cur s → Marking M xs (set ms cur 1) ms′)
+      → Merged M xs ms cur t changed ms′ true
   merges-back z propagated =
       let more : Marking M xs ms (set ms cur 1) = marking-more cl (inside .0) (marking-same long (h .bits)) in
       let marked = getD-set-same ms cur 1 0 (omega arith) in

@@ -1,6 +1,6 @@
--- Soundness of folding: two places are paired where they are one, or equally many equal commands after two places of one state that belong
--- to the closure. Paired places have one state, and if one of them belongs to the closure, so does the other, by rule 2.
--- Assumes nothing.
+-- Soundness of folding: two places are paired where they are one, or equally many equal commands after two places of
+-- one state that belong to the closure. Paired places have one state, and if one of them belongs to the closure, so
+-- does the other, by rule 2. Assumes nothing.
 use Prim.Native.Nat.{ℕ, _+_, _≤_, _<_}
 use mathlib.Core.Path.{_≡_, sym, ap, ap₂, _∙_}
 use mathlib.Core.List.{List}
@@ -20,7 +20,11 @@ commands-equal : (xs : List ℕ) (p q m : ℕ) → p + m ≤ length xs → q + m
 commands-equal xs p q m pl ql h =
     ext-getD 0 (take m (drop p xs)) (take m (drop q xs)) (simp (length-take, length-drop) (omega arith))
     (λ i l. let k : i < m = omega (arith, simp length-take at l) in
-    getD-take m (drop p xs) i 0 k ∙ getD-drop p xs i 0 ∙ h i k ∙ sym (getD-drop q xs i 0) ∙ sym (getD-take m (drop q xs) i 0 k))
+    getD-take m (drop p xs) i 0 k
+    ∙ getD-drop p xs i 0
+    ∙ h i k
+    ∙ sym (getD-drop q xs i 0)
+    ∙ sym (getD-take m (drop q xs) i 0 k))
 
 -- two places m commands after two of one state in the closure, the commands equal
 record Run (M : Mealy) (xs given : List ℕ) (a b : ℕ) : Type 0 where
@@ -46,9 +50,14 @@ module _ {M : Mealy} {xs given : List ℕ} where
   paired-state (same e) = ap (stateAt M xs) e
   paired-state (tops ha hb e) = e
   paired-state (step p q h pl ql e ea eb) =
-      ap (stateAt M xs) ea ∙ state-next M xs p pl ∙ ap₂ (M .next) (paired-state h) e ∙ sym (state-next M xs q ql) ∙ sym (ap (stateAt M xs) eb)
+      ap (stateAt M xs) ea
+      ∙ state-next M xs p pl
+      ∙ ap₂ (M .next) (paired-state h) e
+      ∙ sym (state-next M xs q ql)
+      ∙ sym (ap (stateAt M xs) eb)
 
-  run-on : {a b a′ b′ : ℕ} → Run M xs given a b → a < length xs → b < length xs → getD xs a 0 ≡ getD xs b 0 → a′ ≡ a + 1 → b′ ≡ b + 1 → Run M xs given a′ b′
+  run-on : {a b a′ b′ : ℕ} → Run M xs given a b → a < length xs → b < length xs → getD xs a 0 ≡ getD xs b 0 → a′ ≡ a + 1
+      → b′ ≡ b + 1 → Run M xs given a′ b′
   run-on {a} {b} r al bl e ea eb = record {
     p = r .p;
     q = r .q;
@@ -82,7 +91,8 @@ module _ {M : Mealy} {xs given : List ℕ} where
     commands = λ i l. let y : ⊥ = omega arith in absurd y;
   })
   paired-run (step p q h pl ql e ea eb) =
-      ⊎-elim (λ (s : p ≡ q). inl (omega arith)) (λ (r : Run M xs given p q). inr (run-on r pl ql e ea eb)) (paired-run h)
+      ⊎-elim (λ (s : p ≡ q). inl (omega arith)) (λ (r : Run M xs given p q). inr (run-on r pl ql e ea eb))
+      (paired-run h)
 
   run-carries : {a b : ℕ} → Run M xs given a b → From M xs given a → From M xs given b
   run-carries {a} {b} r ha =
@@ -90,13 +100,16 @@ module _ {M : Mealy} {xs given : List ℕ} where
       (λ (l : 0 < r .m).
       let al = r .a-inside (omega arith) in
       let bl = r .b-inside (omega arith) in
-      rule2 (r .p) (r .q) (r .m) (omega arith) (r .p-in) (r .q-in) (r .states) (rw (← r .a-at) ha) (omega (arith, r .b-at))
-      (commands-equal xs (r .p) (r .q) (r .m) (omega (arith, r .a-at)) (omega (arith, r .b-at)) (r .commands)) (r .b-at))
+      rule2 (r .p) (r .q) (r .m) (omega arith) (r .p-in) (r .q-in) (r .states) (rw (← r .a-at) ha)
+      (omega (arith, r .b-at))
+      (commands-equal xs (r .p) (r .q) (r .m) (omega (arith, r .a-at)) (omega (arith, r .b-at)) (r .commands))
+      (r .b-at))
       (eq-or-lt-of-le {n = 0} {m = r .m} (omega arith))
 
   -- rule 2 carries membership over
   pub paired-carries : {a b : ℕ} → Paired M xs given a b → From M xs given a → From M xs given b
-  paired-carries {a} {b} h ha = ⊎-elim (λ (e : a ≡ b). rw (← e) ha) (λ (r : Run M xs given a b). run-carries r ha) (paired-run h)
+  paired-carries {a} {b} h ha =
+      ⊎-elim (λ (e : a ≡ b). rw (← e) ha) (λ (r : Run M xs given a b). run-carries r ha) (paired-run h)
 
   pub paired-trans : {a b c : ℕ} → Paired M xs given a b → Paired M xs given b c → Paired M xs given a c
   paired-trans (same e) k = rw e k

@@ -1,6 +1,6 @@
--- Completeness of folding: where a sweep changed nothing, marks that have equal states and equal commands after them go on equally, because
--- they have one representative. Over any commands xs, states st, marks ms and tables alt and root.
--- Assumes nothing.
+-- Completeness of folding: where a sweep changed nothing, marks that have equal states and equal commands after
+-- them go on equally, because they have one representative. Over any commands xs, states st, marks ms and tables
+-- alt and root. Assumes nothing.
 use Prim.Native.Nat.{ℕ, zero, suc, _+_, _≤_, _<_}
 use mathlib.Core.Path.{_≡_, refl, sym, ap, _∙_}
 use mathlib.Core.List.{List}
@@ -12,14 +12,16 @@ use Rattle.certify.specs.Marks.{Bits}
 use Rattle.certify.specs.Folding.{Past, here, past}
 
 -- ---- chains lead to one place
-pub past-one : {xs alt : List ℕ} {c r v v′ : ℕ} → Past xs alt c r v → getD xs v 0 ≡ c → Past xs alt c r v′ → getD xs v′ 0 ≡ c → v ≡ v′
+pub past-one : {xs alt : List ℕ} {c r v v′ : ℕ} → Past xs alt c r v → getD xs v 0 ≡ c → Past xs alt c r v′
+    → getD xs v′ 0 ≡ c → v ≡ v′
 past-one (here e) d (here e′) d′ = sym e ∙ e′
 past-one {xs} (here e) d (past o n k) d′ = absurd (o (ap (λ (i : ℕ). getD xs i 0) e ∙ d))
 past-one {xs} (past o n k) d (here e) d′ = absurd (o (ap (λ (i : ℕ). getD xs i 0) e ∙ d′))
 past-one (past o n k) d (past o′ n′ k′) d′ = past-one k d k′ d′
 
 -- they stay where a table grows
-pub past-grows : {xs alt alt′ : List ℕ} {c r v : ℕ} → ((v : ℕ) → (getD alt v 0 ≡ 0 → ⊥) → getD alt′ v 0 ≡ getD alt v 0) → Past xs alt c r v → Past xs alt′ c r v
+pub past-grows : {xs alt alt′ : List ℕ} {c r v : ℕ} → ((v : ℕ) → (getD alt v 0 ≡ 0 → ⊥) → getD alt′ v 0 ≡ getD alt v 0)
+    → Past xs alt c r v → Past xs alt′ c r v
 past-grows g (here e) = here e
 past-grows {xs} {alt} {alt′} {c} {r} {v} g (past o n k) =
     let k′ : Past xs alt′ c (getD alt′ r 0) v = rw (g r n) (past-grows g k) in
@@ -31,12 +33,15 @@ module _ (xs : List ℕ) (st : ℕ → ℕ) (ms alt root : List ℕ) where
   pub data Rep : ℕ → ℕ → Type 0 where
     top : {t r : ℕ} → getD ms t 0 ≡ 1 → getD root (st t) 0 ≡ r + 1 → Rep t r
     start : {t r : ℕ} → getD ms t 0 ≡ 0 → t ≡ 0 → r ≡ 0 → Rep t r
-    next : {t r : ℕ} (t′ r′ v : ℕ) → getD ms t 0 ≡ 0 → Rep t′ r′ → Past xs alt (getD xs t′ 0) r′ v → getD xs v 0 ≡ getD xs t′ 0 → t ≡ t′ + 1 → r ≡ v + 1 → Rep t r
+    next : {t r : ℕ} (t′ r′ v : ℕ) → getD ms t 0 ≡ 0 → Rep t′ r′ → Past xs alt (getD xs t′ 0) r′ v
+        → getD xs v 0 ≡ getD xs t′ 0 → t ≡ t′ + 1 → r ≡ v + 1 → Rep t r
 
-  -- the sweep comes to t from cur, which represents it where it is not marked; between two marked places nothing was folded
+  -- the sweep comes to t from cur, which represents it where it is not marked; between two marked
+  -- places nothing was folded
   pub data Comes : ℕ → ℕ → Type 0 where
     begin : {t cur : ℕ} → t ≡ 0 → cur ≡ 0 → Comes t cur
-    from : {t cur : ℕ} (t′ r v : ℕ) → Rep t′ r → Past xs alt (getD xs t′ 0) r v → getD xs v 0 ≡ getD xs t′ 0 → t ≡ t′ + 1 → cur ≡ v + 1 → Comes t cur
+    from : {t cur : ℕ} (t′ r v : ℕ) → Rep t′ r → Past xs alt (getD xs t′ 0) r v → getD xs v 0 ≡ getD xs t′ 0
+        → t ≡ t′ + 1 → cur ≡ v + 1 → Comes t cur
     between : {t cur : ℕ} (t′ : ℕ) → getD ms t′ 0 ≡ 1 → getD ms t 0 ≡ 1 → t ≡ t′ + 1 → Comes t cur
 
   pub comes-rep : {t cur : ℕ} → getD ms t 0 ≡ 0 → Comes t cur → Rep t cur
@@ -74,7 +79,8 @@ module _ (xs : List ℕ) (st : ℕ → ℕ) (ms alt root : List ℕ) where
     pub command : getD xs v 0 ≡ getD xs i 0
     pub agrees : getD ms (v + 1) 0 ≡ getD ms (i + 1) 0
 
-  pub comes-walked : {t cur : ℕ} → Comes t cur → getD ms cur 0 ≡ getD ms t 0 → (i : ℕ) → t ≡ i + 1 → (getD ms i 0 ≡ 1 → getD ms t 0 ≡ 1 → ⊥) → Walked i
+  pub comes-walked : {t cur : ℕ} → Comes t cur → getD ms cur 0 ≡ getD ms t 0 → (i : ℕ) → t ≡ i + 1
+      → (getD ms i 0 ≡ 1 → getD ms t 0 ≡ 1 → ⊥) → Walked i
   comes-walked (begin e d) m i at n = let y : ⊥ = omega arith in absurd y
   comes-walked (between t′ m′ m″ e) m i at n =
       let q : t′ ≡ i = omega arith in absurd (n (rw q at m′) m″)
@@ -95,13 +101,15 @@ module _ (xs : List ℕ) (st : ℕ → ℕ) (ms alt root : List ℕ) where
       let k : Past xs alt (getD xs a 0) (p .r) (q .v) = rw (c, e) (q .path) in
       past-one (p .path) (p .command) k (q .command ∙ sym c)
 
-  -- ---- a sweep that changed nothing: each place that does not stand between two marked ones has been walked to, and one command after
+  -- ---- a sweep that changed nothing: each place that does not stand between two marked ones has been walked
+  -- to, and one command after
   -- two marked places of one state leads to equal marks
   module _ (bits : Bits ms)
       (walked : (i : ℕ) → i < length xs → (getD ms i 0 ≡ 1 → getD ms (i + 1) 0 ≡ 1 → ⊥) → Walked i)
-      (single : (a b : ℕ) → a < length xs → b < length xs → getD ms a 0 ≡ 1 → getD ms b 0 ≡ 1 → st a ≡ st b → getD xs a 0 ≡ getD xs b 0
-      → getD ms (a + 1) 0 ≡ 1 → getD ms (b + 1) 0 ≡ 1)
-      (follows : (a b : ℕ) → a < length xs → b < length xs → st a ≡ st b → getD xs a 0 ≡ getD xs b 0 → st (a + 1) ≡ st (b + 1)) where
+      (single : (a b : ℕ) → a < length xs → b < length xs → getD ms a 0 ≡ 1 → getD ms b 0 ≡ 1 → st a ≡ st b
+      → getD xs a 0 ≡ getD xs b 0 → getD ms (a + 1) 0 ≡ 1 → getD ms (b + 1) 0 ≡ 1)
+      (follows : (a b : ℕ) → a < length xs → b < length xs → st a ≡ st b → getD xs a 0 ≡ getD xs b 0
+      → st (a + 1) ≡ st (b + 1)) where
     -- two places that go on equally
     record Alike (a b : ℕ) : Type 0 where
       marks : getD ms a 0 ≡ getD ms b 0
@@ -113,7 +121,8 @@ module _ (xs : List ℕ) (st : ℕ → ℕ) (ms alt root : List ℕ) where
       walked-alike : (p : Walked a) (q : Walked b) → p .r ≡ q .r → Alike (a + 1) (b + 1)
       walked-alike p q e =
           let v = walked-one p q e c in
-          let m : getD ms (a + 1) 0 ≡ getD ms (b + 1) 0 = sym (p .agrees) ∙ ap (λ (x : ℕ). getD ms (x + 1) 0) v ∙ q .agrees in
+          let m : getD ms (a + 1) 0 ≡ getD ms (b + 1) 0 =
+          sym (p .agrees) ∙ ap (λ (x : ℕ). getD ms (x + 1) 0) v ∙ q .agrees in
           record {
             marks = m;
             states = follows a b al bl (h .states) c;
@@ -152,9 +161,12 @@ module _ (xs : List ℕ) (st : ℕ → ℕ) (ms alt root : List ℕ) where
           walked-alike p q (rep-one (p .rep) (one .1) ∙ rep-one (one .2) (q .rep))
 
       alike-on : Alike (a + 1) (b + 1)
-      alike-on = ⊎-elim (λ (e : getD ms a 0 ≡ 1). marked-on e) (λ (l : getD ms a 0 < 1). unmarked-on (omega arith)) (eq-or-lt-of-le (bits a))
+      alike-on =
+          ⊎-elim (λ (e : getD ms a 0 ≡ 1). marked-on e) (λ (l : getD ms a 0 < 1). unmarked-on (omega arith))
+          (eq-or-lt-of-le (bits a))
 
-    alike-along : (a b m : ℕ) → a + m ≤ length xs → b + m ≤ length xs → ((i : ℕ) → i < m → getD xs (a + i) 0 ≡ getD xs (b + i) 0) → Alike a b → Alike (a + m) (b + m)
+    alike-along : (a b m : ℕ) → a + m ≤ length xs → b + m ≤ length xs
+        → ((i : ℕ) → i < m → getD xs (a + i) 0 ≡ getD xs (b + i) 0) → Alike a b → Alike (a + m) (b + m)
     alike-along a b zero al bl e h =
         let ea : a + 0 ≡ a = omega arith in
         let eb : b + 0 ≡ b = omega arith in
@@ -167,9 +179,14 @@ module _ (xs : List ℕ) (st : ℕ → ℕ) (ms alt root : List ℕ) where
 
     -- rule 2 adds nothing
     pub folded-closed : (p q m : ℕ) → getD ms p 0 ≡ 1 → getD ms q 0 ≡ 1 → st p ≡ st q → getD ms (p + m) 0 ≡ 1
-        → p + m ≤ length xs → q + m ≤ length xs → ((i : ℕ) → i < m → getD xs (p + i) 0 ≡ getD xs (q + i) 0) → getD ms (q + m) 0 ≡ 1
+        → p + m ≤ length xs → q + m ≤ length xs → ((i : ℕ) → i < m → getD xs (p + i) 0 ≡ getD xs (q + i) 0)
+        → getD ms (q + m) 0 ≡ 1
     folded-closed p q m mp mq e me pl ql h =
-        let start : Alike p q = record { marks = mp ∙ sym mq; states = e; rep = λ z. let y : ⊥ = omega arith in absurd y } in
+        let start : Alike p q = record {
+          marks = mp ∙ sym mq;
+          states = e;
+          rep = λ z. let y : ⊥ = omega arith in absurd y;
+        } in
         sym (alike-along p q m pl ql h start .marks) ∙ me
 
 -- ---- representatives stay where the tables grow

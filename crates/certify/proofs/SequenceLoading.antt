@@ -19,7 +19,8 @@ use Rattle.machine.specs.Causes.{commandsCause, machineIn, held, loadCauses}
 use Rattle.machine.specs.Causes.Lists.{held-is, clear-table}
 use Rattle.machine.specs.Loading.{LoadedFrom}
 use Rattle.certify.specs.Certification.{sequenceNeeds, cause7, cause9, markBytes, sequenceCauses}
-use Rattle.certify.specs.Certification.Laws.{cause9-is, sequence-causes-are, load-clear, sequence-commands, room-enough}
+use Rattle.certify.specs.Certification.Laws.{cause9-is, sequence-causes-are, load-clear, sequence-commands}
+use Rattle.certify.specs.Certification.Laws.{room-enough}
 use Rattle.certify.specs.Loading.{SequenceLoaded}
 
 module _ (answers : Bool) (room : ℕ) (s : List ℕ) where
@@ -27,25 +28,35 @@ module _ (answers : Bool) (room : ℕ) (s : List ℕ) where
   later seven = seven else cause9 room (markBytes (content 3 s))
 
   checks-by : (c : Check) → firstCause (loadCauses (sequenceNeeds answers) s) ≡ c
-      → (c else later (cause7 (held s .k) (recordOf 3 s) (content 3 s))) ≡ (c else later (cause7 (machineIn s .k) (recordOf 3 s) (content 3 s)))
+      → (c else later (cause7 (held s .k) (recordOf 3 s) (content 3 s)))
+      ≡ (c else later (cause7 (machineIn s .k) (recordOf 3 s) (content 3 s)))
   checks-by Clear e =
-      ap (λ (M : Mealy). Clear else later (cause7 (M .k) (recordOf 3 s) (content 3 s))) (held-is (sequenceNeeds answers) s (clear-table (sequenceNeeds answers) s e))
+      ap (λ (M : Mealy). Clear else later (cause7 (M .k) (recordOf 3 s) (content 3 s)))
+      (held-is (sequenceNeeds answers) s (clear-table (sequenceNeeds answers) s e))
   checks-by (Refused n p) e = else-refused n p _ ∙ sym (else-refused n p _)
 
-  checks-are : {k : ℕ} {xs : List ℕ} {earlier seven nine inner c : Check} → earlier ≡ firstCause (loadCauses (sequenceNeeds answers) s) → k ≡ held s .k → xs ≡ content 3 s
-      → seven ≡ commandsCause 7 mostSequence k (recordOf 3 s) (content 3 s) → nine ≡ (refusal 9 with length xs + 1 if ltb room (length xs + 1))
-      → inner ≡ (seven else nine) → c ≡ (earlier else inner) → c ≡ firstCause (sequenceCauses answers room s)
+  checks-are : {k : ℕ} {xs : List ℕ} {earlier seven nine inner c : Check}
+      → earlier ≡ firstCause (loadCauses (sequenceNeeds answers) s) → k ≡ held s .k → xs ≡ content 3 s
+      → seven ≡ commandsCause 7 mostSequence k (recordOf 3 s) (content 3 s)
+      → nine ≡ (refusal 9 with length xs + 1 if ltb room (length xs + 1)) → inner ≡ (seven else nine)
+      → c ≡ (earlier else inner) → c ≡ firstCause (sequenceCauses answers room s)
   unfolding later
   checks-are {k} {xs} ee ke xe se ne ie ce =
       let nine-is = ne ∙ cause9-is room (length xs + 1) ∙ ap (λ (x : List ℕ). cause9 room (length x + 1)) xe in
       let seven-is = se ∙ ap (λ (x : ℕ). commandsCause 7 mostSequence x (recordOf 3 s) (content 3 s)) ke in
-      ce ∙ ap₂ _else_ ee (ie ∙ ap₂ _else_ seven-is nine-is) ∙ checks-by (firstCause (loadCauses (sequenceNeeds answers) s)) refl ∙ sym (sequence-causes-are answers room s)
+      ce
+      ∙ ap₂ _else_ ee (ie ∙ ap₂ _else_ seven-is nine-is)
+      ∙ checks-by (firstCause (loadCauses (sequenceNeeds answers) s)) refl
+      ∙ sym (sequence-causes-are answers room s)
 
-  pub sequence-loaded : {l : Loaded} {xs : List ℕ} {seven nine inner c : Check} → LoadedFrom (sequenceNeeds answers) s l → xs ≡ content 3 s
-      → seven ≡ commandsCause 7 mostSequence (l .machine .k) (recordOf 3 s) (content 3 s) → nine ≡ (refusal 9 with length xs + 1 if ltb room (length xs + 1))
-      → inner ≡ (seven else nine) → c ≡ (l .check else inner) → SequenceLoaded answers room s (record { check = c; machine = l .machine })
+  pub sequence-loaded : {l : Loaded} {xs : List ℕ} {seven nine inner c : Check} → LoadedFrom (sequenceNeeds answers) s l
+      → xs ≡ content 3 s → seven ≡ commandsCause 7 mostSequence (l .machine .k) (recordOf 3 s) (content 3 s)
+      → nine ≡ (refusal 9 with length xs + 1 if ltb room (length xs + 1)) → inner ≡ (seven else nine)
+      → c ≡ (l .check else inner) → SequenceLoaded answers room s (record { check = c; machine = l .machine })
   sequence-loaded {l} {xs} {seven} {nine} {inner} {c} h xe se ne ie ce =
-      let check = checks-are (h .check) (sym (meaning-commands (l .machine)) ∙ ap (λ (M : Mealy). M .k) (h .holds)) xe se ne ie ce in
+      let check =
+      checks-are (h .check)
+      (sym (meaning-commands (l .machine)) ∙ ap (λ (M : Mealy). M .k) (h .holds)) xe se ne ie ce in
       let loaded : c ≡ Clear → l .check ≡ Clear = λ e. h .check ∙ load-clear answers room s (sym check ∙ e) in
       record {
         check = check;

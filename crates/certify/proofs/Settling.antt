@@ -21,7 +21,8 @@ use Rattle.certify.proofs.Growing.{marking-flat, marking-same}
 use Rattle.certify.proofs.Tables.{zeros}
 
 -- a cell more has 1
-count-rises : (a b : List ℕ) → length a ≡ length b → ((p : ℕ) → getD a p 0 ≡ 1 → getD b p 0 ≡ 1) → Risen a b → count a < count b
+count-rises : (a b : List ℕ) → length a ≡ length b → ((p : ℕ) → getD a p 0 ≡ 1 → getD b p 0 ≡ 1) → Risen a b
+    → count a < count b
 count-rises a b l h r =
     ⊎-elim (λ (e : count a < count b). e)
     (λ (e : count b ≤ count a). let z : ⊥ = omega (arith, r .was, count-same a b l h e (r .place) (r .is)) in absurd z)
@@ -36,9 +37,11 @@ pub record Settling (M : Mealy) (xs given ms known : List ℕ) (apply changed : 
   pub knows : Knows M xs given known
   pub fresh : apply ≡ false → (e : ℕ) → getD known e 0 ≡ 0
   pub closed : changed ≡ false → (r : ℕ) → r ≤ length xs → ByRule2 xs (stateAt M xs) ms r → getD ms r 0 ≡ 1
-  pub all : changed ≡ false → (i : ℕ) → i < length xs → getD ms i 0 ≡ 1 → getD ms (i + 1) 0 ≡ 1 → getD known (placeEntry M xs i) 0 ≡ 0 → ⊥
+  pub all : changed ≡ false → (i : ℕ) → i < length xs → getD ms i 0 ≡ 1 → getD ms (i + 1) 0 ≡ 1
+      → getD known (placeEntry M xs i) 0 ≡ 0 → ⊥
 
-pub settling-starts : {M : Mealy} {xs given : List ℕ} → CloseRequires M xs given → Settling M xs given given (replicate mostEntries 0) false true
+pub settling-starts : {M : Mealy} {xs given : List ℕ} → CloseRequires M xs given
+    → Settling M xs given given (replicate mostEntries 0) false true
 settling-starts h = record {
   required = h;
   marking = marking-same (h .long) (h .bits);
@@ -50,7 +53,8 @@ settling-starts h = record {
   all = λ q. absurd (true≢false q);
 }
 
-module _ {M : Mealy} {xs given ms known : List ℕ} {apply changed : Bool} (h : Settling M xs given ms known apply changed) where
+module _ {M : Mealy} {xs given ms known : List ℕ} {apply changed : Bool}
+    (h : Settling M xs given ms known apply changed) where
   knows-more : Knows M xs ms known
   knows-more e n =
       let w = h .knows e n in
@@ -64,7 +68,12 @@ module _ {M : Mealy} {xs given ms known : List ℕ} {apply changed : Bool} (h : 
 
   pub settling-sweep-required : SweepRequires M apply xs ms known
   settling-sweep-required = record {
-    close-requires = record { proper = h .required .proper; commands = h .required .commands; long = h .marking .long; bits = h .marking .bits };
+    close-requires = record {
+      proper = h .required .proper;
+      commands = h .required .commands;
+      long = h .marking .long;
+      bits = h .marking .bits;
+    };
     table = h .table;
     knows = knows-more;
     known-bits = h .known-bits;
@@ -97,7 +106,8 @@ module _ {M : Mealy} {xs given ms known : List ℕ} {apply changed : Bool} (h : 
 
     -- the places without a mark and the entries that are not known become fewer, or the last change is over
     pub settling-less : changed ≡ true
-        → (length xs + 1 - count ms′) + (mostEntries - count known′) + mark changed′ < (length xs + 1 - count ms) + (mostEntries - count known) + mark changed
+        → (length xs + 1 - count ms′) + (mostEntries - count known′) + mark changed′
+        < (length xs + 1 - count ms) + (mostEntries - count known) + mark changed
     settling-less t =
         let lm : length ms ≡ length ms′ = h .marking .long ∙ sym (s .marking .long) in
         let lk : length known ≡ length known′ = h .table ∙ sym (s .table) in
@@ -124,7 +134,9 @@ module _ {M : Mealy} {xs given ms known : List ℕ} {apply changed : Bool} (h : 
       long = h .marking .long;
       bits = h .marking .bits;
       sound = h .marking .sound;
-      complete = closed-complete xs (stateAt M xs) (MarkedIn given) ms (h .marking .long) (λ p l e. h .marking .above p e) (h .closed f);
+      complete =
+          closed-complete xs (stateAt M xs) (MarkedIn given) ms (h .marking .long) (λ p l e. h .marking .above p e)
+          (h .closed f);
     };
     knows = h .knows;
     all = h .all f;

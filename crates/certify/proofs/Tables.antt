@@ -1,5 +1,5 @@
--- The tables of a sweep: chains of alternatives and representatives of states, and what going on from place t leaves of them.
--- Assumes nothing.
+-- The tables of a sweep: chains of alternatives and representatives of states, and what going on from place t leaves
+-- of them. Assumes nothing.
 use Prim.Native.Nat.{ℕ, zero, suc, _+_, _≤_, _<_}
 use mathlib.Core.Path.{_≡_, refl, sym, ap, _∙_}
 use mathlib.Core.List.{List}
@@ -10,7 +10,8 @@ use lib.ListN.{length, getD, set, replicate, length-set}
 use lib.Seq.{getD-set-other}
 use Rattle.machine.specs.Limits.{mostSequence}
 use Rattle.machine.specs.Machine.{Mealy, stateAt}
-use Rattle.certify.specs.Folding.{From, Marking, Paired, same, tops, step, Past, here, past, Rising, byteStates, Rooted, Advanced, found, added, Folds}
+use Rattle.certify.specs.Folding.{From, Marking, Paired, same, tops, step, Past, here, past, Rising, byteStates}
+use Rattle.certify.specs.Folding.{Rooted, Advanced, found, added, Folds}
 use Rattle.certify.specs.Sweep.{NextRepresented}
 use Rattle.certify.proofs.Marking.{bit-one, set-cases}
 use Rattle.certify.proofs.Paired.{paired-sym, paired-trans, paired-past}
@@ -22,12 +23,15 @@ zeros (suc n) zero = refl
 zeros (suc n) (suc i) = zeros n i
 
 -- ---- the tables grow
-pub roots-grow : {root root′ : List ℕ} {s t r : ℕ} → Rooted root s t root′ r → (x : ℕ) → (getD root x 0 ≡ 0 → ⊥) → getD root′ x 0 ≡ getD root x 0
+pub roots-grow : {root root′ : List ℕ} {s t r : ℕ} → Rooted root s t root′ r → (x : ℕ) → (getD root x 0 ≡ 0 → ⊥)
+    → getD root′ x 0 ≡ getD root x 0
 roots-grow {root} {root′} {s} {t} (Rooted.first z re e) x n =
-    ap (λ (l : List ℕ). getD l x 0) re ∙ getD-set-other root s x (t + 1) 0 (λ q. n (ap (λ (i : ℕ). getD root i 0) q ∙ z))
+    ap (λ (l : List ℕ). getD l x 0) re
+    ∙ getD-set-other root s x (t + 1) 0 (λ q. n (ap (λ (i : ℕ). getD root i 0) q ∙ z))
 roots-grow (Rooted.again e re) x n = ap (λ (l : List ℕ). getD l x 0) re
 
-pub links-grow : {xs alt alt′ : List ℕ} {r t cur : ℕ} → Advanced xs alt r t alt′ cur → (x : ℕ) → (getD alt x 0 ≡ 0 → ⊥) → getD alt′ x 0 ≡ getD alt x 0
+pub links-grow : {xs alt alt′ : List ℕ} {r t cur : ℕ} → Advanced xs alt r t alt′ cur → (x : ℕ) → (getD alt x 0 ≡ 0 → ⊥)
+    → getD alt′ x 0 ≡ getD alt x 0
 links-grow (found v k e ae ce) x n = ap (λ (l : List ℕ). getD l x 0) ae
 links-grow {xs} {alt} {alt′} {r} {t} (added v k o z ae ce) x n =
     ap (λ (l : List ℕ). getD l x 0) ae ∙ getD-set-other alt v x t 0 (λ q. n (ap (λ (i : ℕ). getD alt i 0) q ∙ z))
@@ -40,7 +44,8 @@ module _ (M : Mealy) (xs given : List ℕ) where
   -- ---- each alternative is paired with the next, a later place below t
   pub record Linked (alt : List ℕ) (t : ℕ) : Type 0 where
     pub long : length alt ≡ mostSequence
-    pub links : (v : ℕ) → (getD alt v 0 ≡ 0 → ⊥) → (v < getD alt v 0) × (getD alt v 0 < t) × (Paired M xs given v (getD alt v 0))
+    pub links : (v : ℕ) → (getD alt v 0 ≡ 0 → ⊥)
+        → (v < getD alt v 0) × (getD alt v 0 < t) × (Paired M xs given v (getD alt v 0))
 
   pub linked-more : {alt : List ℕ} {t : ℕ} → Linked alt t → Linked alt (t + 1)
   linked-more h = record { long = h .long; links = λ u n. let l = h .links u n in (l .0, omega (arith, l .1), l .2) }
@@ -77,7 +82,8 @@ module _ (M : Mealy) (xs given : List ℕ) where
 
   module _ {alt root : List ℕ} {t : ℕ} (tl : t < length xs) (few : length xs ≤ mostSequence) (h : Linked alt t) where
     -- from a representative r of t
-    advanced : {alt′ : List ℕ} {r cur : ℕ} → Topped root (t + 1) → r ≤ t → Paired M xs given r t → Advanced xs alt r t alt′ cur → Gone alt′ root t cur
+    advanced : {alt′ : List ℕ} {r cur : ℕ} → Topped root (t + 1) → r ≤ t → Paired M xs given r t
+        → Advanced xs alt r t alt′ cur → Gone alt′ root t cur
     advanced {alt′} {r} {cur} g rl pr (found v k e ae ce) =
         let vl = past-low h k rl in
         let pv = paired-trans (paired-sym (paired-past (λ u n. h .links u n .2) k)) pr in
@@ -111,7 +117,8 @@ module _ (M : Mealy) (xs given : List ℕ) where
     pub low : r ≤ t
     pub pair : Paired M xs given r t
 
-  rooted : {root root′ : List ℕ} {s t r : ℕ} → Topped root t → s < byteStates → s ≡ stateAt M xs t → From M xs given t → Rooted root s t root′ r → Represents root′ t r
+  rooted : {root root′ : List ℕ} {s t r : ℕ} → Topped root t → s < byteStates → s ≡ stateAt M xs t → From M xs given t
+      → Rooted root s t root′ r → Represents root′ t r
   rooted {root} {root′} {s} {t} k sl se ft (Rooted.first z re e) =
       let inside : s < length root = omega (arith, k .long) in
       record {
@@ -131,9 +138,9 @@ module _ (M : Mealy) (xs given : List ℕ) where
       let l = k .tops s r e in
       record { topped = rw re (topped-more k); low = omega (arith, l .0); pair = tops (l .1) ft (l .2 ∙ se) }
 
-  pub gone : {ms alt root alt′ root′ : List ℕ} {s t cur cur′ : ℕ} → t < length xs → length xs ≤ mostSequence → Marking M xs given ms
-      → Linked alt t → Topped root t → s < byteStates → s ≡ stateAt M xs t → cur ≤ t → Paired M xs given cur t
-      → NextRepresented xs ms alt root s t cur alt′ root′ cur′ → Gone alt′ root′ t cur′
+  pub gone : {ms alt root alt′ root′ : List ℕ} {s t cur cur′ : ℕ} → t < length xs → length xs ≤ mostSequence
+      → Marking M xs given ms → Linked alt t → Topped root t → s < byteStates → s ≡ stateAt M xs t → cur ≤ t
+      → Paired M xs given cur t → NextRepresented xs ms alt root s t cur alt′ root′ cur′ → Gone alt′ root′ t cur′
   gone tl few g h k sl se cl pc (NextRepresented.unmarked z re a) = rw re (advanced tl few h (topped-more k) cl pc a)
   gone tl few g h k sl se cl pc (NextRepresented.between n n′ ae re ce) =
       rw (ae, re) (record { linked = linked-more h; topped = topped-more k; low = omega arith; pair = same ce })

@@ -21,26 +21,34 @@ use Rattle.certify.specs.Word.{Begun, Passed}
 use Rattle.certify.proofs.Marking.{set-cases}
 
 -- ---- the first places: one more is written
-pub begun-on : (marks : List ℕ) (p v count : ℕ) → p < length marks → ((q : ℕ) → q < p → getD marks q 0 ≡ mark (ltb q count)) → v ≡ mark (ltb p count)
-    → (q : ℕ) → q < p + 1 → getD (set marks p v) q 0 ≡ mark (ltb q count)
+pub begun-on : (marks : List ℕ) (p v count : ℕ) → p < length marks
+    → ((q : ℕ) → q < p → getD marks q 0 ≡ mark (ltb q count)) → v ≡ mark (ltb p count) → (q : ℕ) → q < p + 1
+    → getD (set marks p v) q 0 ≡ mark (ltb q count)
 begun-on marks p v count pl h ve q ql =
-    ⊎-elim (λ (k : (q ≡ p) × (getD (set marks p v) q 0 ≡ v)). k .1 ∙ ve ∙ ap (λ (x : ℕ). mark (ltb x count)) (sym (k .0)))
+    ⊎-elim (λ (k : (q ≡ p) × (getD (set marks p v) q 0 ≡ v)).
+    k .1 ∙ ve ∙ ap (λ (x : ℕ). mark (ltb x count)) (sym (k .0)))
     (λ (k : (q ≡ p → ⊥) × (getD (set marks p v) q 0 ≡ getD marks q 0)). k .1 ∙ h q (lt-of-le-ne (omega arith) (k .0)))
     (set-cases marks p v q pl)
 
 -- ---- a pass
 pub passed-none : (xs : List ℕ) (further c : ℕ) (marks : List ℕ) → Passed xs further c 0 marks marks
-passed-none xs further c marks = record { long = refl; cells = λ p l. let z : ⊥ = omega arith in absurd z; rest = λ p l. refl }
+passed-none xs further c marks = record {
+  long = refl;
+  cells = λ p l. let z : ⊥ = omega arith in absurd z;
+  rest = λ p l. refl;
+}
 
-pub passed-on : {xs : List ℕ} {further c p v : ℕ} {before now : List ℕ} → Passed xs further c p before now → p < length now
-    → v ≡ cond (eqb (getD xs (further + p) 0) c) (getD now p 0) 0 → Passed xs further c (p + 1) before (set now p v)
+pub passed-on : {xs : List ℕ} {further c p v : ℕ} {before now : List ℕ} → Passed xs further c p before now
+    → p < length now → v ≡ cond (eqb (getD xs (further + p) 0) c) (getD now p 0) 0
+    → Passed xs further c (p + 1) before (set now p v)
 passed-on {xs} {further} {c} {p} {v} {before} {now} h l e = record {
   long = length-set now p v ∙ h .long;
   cells = λ q ql.
       ⊎-elim (λ (k : (q ≡ p) × (getD (set now p v) q 0 ≡ v)).
       k .1 ∙ e ∙ ap (λ (m : ℕ). cond (eqb (getD xs (further + p) 0) c) m 0) (h .rest p (omega arith))
       ∙ ap (λ (x : ℕ). cond (eqb (getD xs (further + x) 0) c) (getD before x 0) 0) (sym (k .0)))
-      (λ (k : (q ≡ p → ⊥) × (getD (set now p v) q 0 ≡ getD now q 0)). k .1 ∙ h .cells q (lt-of-le-ne (omega arith) (k .0)))
+      (λ (k : (q ≡ p → ⊥) × (getD (set now p v) q 0 ≡ getD now q 0)).
+      k .1 ∙ h .cells q (lt-of-le-ne (omega arith) (k .0)))
       (set-cases now p v q l);
   rest = λ q ql.
       ⊎-elim (λ (k : (q ≡ p) × (getD (set now p v) q 0 ≡ v)). let z : ⊥ = omega (arith, k .0) in absurd z)
@@ -69,11 +77,15 @@ module _ (w xs : List ℕ) where
   begun-tells : (count p v : ℕ) → count ≡ length xs + 1 - length w → v ≡ mark (ltb p count) → Tells w xs 0 p v
   begun-tells count p v ce ve =
       ⊎-elim (λ (l : p < count).
-      inl (ve ∙ ap mark (lt-ltb p count l), record { inside = omega (arith, ce); agree = λ i il. let z : ⊥ = omega arith in absurd z }))
+      inl (
+        ve ∙ ap mark (lt-ltb p count l),
+        record { inside = omega (arith, ce); agree = λ i il. let z : ⊥ = omega arith in absurd z },
+      ))
       (λ (l : count ≤ p). inr (ve ∙ ap mark (le-ltb p count l), λ b. omega (arith, ce, b .inside)))
       (less-or-not p count)
 
-  pub written-starts : {before marks : List ℕ} {count : ℕ} → length before ≡ length xs + 1 → count ≡ length xs + 1 - length w → Begun count before marks → Written w xs marks 0
+  pub written-starts : {before marks : List ℕ} {count : ℕ} → length before ≡ length xs + 1
+      → count ≡ length xs + 1 - length w → Begun count before marks → Written w xs marks 0
   written-starts {before} {marks} {count} l ce h = record {
     upto = omega arith;
     long = h .long ∙ l;
@@ -95,7 +107,13 @@ module _ (w xs : List ℕ) where
         agrees q =
             let same : v′ ≡ v = e ∙ ap (λ (b : Bool). cond b v 0) (eq-eqb _ _ q) in
             ⊎-elim (λ (k : (v ≡ 1) × Begins w xs j p).
-            inl (same ∙ k .0, record { inside = k .1 .inside; agree = below-more (λ i. getD xs (p + i) 0 ≡ getD w i 0) j (k .1 .agree) (sym here ∙ q) }))
+            inl (
+              same ∙ k .0,
+              record {
+                inside = k .1 .inside;
+                agree = below-more (λ i. getD xs (p + i) 0 ≡ getD w i 0) j (k .1 .agree) (sym here ∙ q);
+              },
+            ))
             (λ (k : (v ≡ 0) × (Begins w xs j p → ⊥)). inr (same ∙ k .0, λ b. k .1 (fewer b)))
             h
 
@@ -109,14 +127,16 @@ module _ (w xs : List ℕ) where
         (λ (k : (v ≡ 0) × (Begins w xs j p → ⊥)). inr (e ∙ k .0, λ b. omega (arith, b .inside)))
         h
 
-  pub written-on : {marks marks′ : List ℕ} {j count c : ℕ} → Written w xs marks j → j < length w → count ≡ length xs + 1 - length w → c ≡ getD w j 0
-      → Passed xs j c count marks marks′ → Written w xs marks′ (j + 1)
+  pub written-on : {marks marks′ : List ℕ} {j count c : ℕ} → Written w xs marks j → j < length w
+      → count ≡ length xs + 1 - length w → c ≡ getD w j 0 → Passed xs j c count marks marks′
+      → Written w xs marks′ (j + 1)
   written-on {marks} {marks′} {j} {count} {c} h l ce e s = record {
     upto = omega arith;
     long = s .long ∙ h .long;
     cells = λ p pl.
         ⊎-elim (λ (k : p < count).
-        on-inside j p _ _ (s .cells p k ∙ ap (λ (x : ℕ). cond (eqb (getD xs (j + p) 0) x) (getD marks p 0) 0) e) (h .cells p pl))
+        on-inside j p _ _ (s .cells p k ∙ ap (λ (x : ℕ). cond (eqb (getD xs (j + p) 0) x) (getD marks p 0) 0) e)
+        (h .cells p pl))
         (λ (k : count ≤ p). on-outside j p _ _ (omega (arith, ce)) (s .rest p k) (h .cells p pl))
         (less-or-not p count);
   }
@@ -126,19 +146,25 @@ module _ (w xs : List ℕ) where
   whole-occurs p b = record {
     inside = b .inside;
     commands = ext-getD 0 (take (length w) (drop p xs)) w (simp (length-take, length-drop) (omega (arith, b .inside)))
-        (λ i k. let il : i < length w = omega (arith, simp length-take at k) in getD-take (length w) (drop p xs) i 0 il ∙ getD-drop p xs i 0 ∙ b .agree i il);
+        (λ i k.
+        let il : i < length w = omega (arith, simp length-take at k) in
+        getD-take (length w) (drop p xs) i 0 il ∙ getD-drop p xs i 0 ∙ b .agree i il);
   }
 
   occurs-whole : (p : ℕ) → OccursAt w xs p → Begins w xs (length w) p
   occurs-whole p h = record {
     inside = h .inside;
-    agree = λ i l. sym (getD-take (length w) (drop p xs) i 0 l ∙ getD-drop p xs i 0) ∙ ap (λ (m : List ℕ). getD m i 0) (h .commands);
+    agree = λ i l.
+        sym (getD-take (length w) (drop p xs) i 0 l ∙ getD-drop p xs i 0)
+        ∙ ap (λ (m : List ℕ). getD m i 0) (h .commands);
   }
 
   told : (p v : ℕ) → Tells w xs (length w) p v → v ≡ mark (occursAt w xs p)
   told p v h =
-      ⊎-elim (λ (k : (v ≡ 1) × Begins w xs (length w) p). k .0 ∙ sym (ap mark (true-occurs w xs p (whole-occurs p (k .1)))))
-      (λ (k : (v ≡ 0) × (Begins w xs (length w) p → ⊥)). k .0 ∙ ap mark (occurs-fails w xs p (λ s. k .1 (occurs-whole p s))))
+      ⊎-elim (λ (k : (v ≡ 1) × Begins w xs (length w) p).
+      k .0 ∙ sym (ap mark (true-occurs w xs p (whole-occurs p (k .1)))))
+      (λ (k : (v ≡ 0) × (Begins w xs (length w) p → ⊥)).
+      k .0 ∙ ap mark (occurs-fails w xs p (λ s. k .1 (occurs-whole p s))))
       h
 
   pub written-all : {marks : List ℕ} {j : ℕ} → Written w xs marks j → length w ≤ j → marks ≡ marksBy xs (occursAt w xs)

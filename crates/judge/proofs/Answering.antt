@@ -21,14 +21,19 @@ use Rattle.certify.specs.Certification.{sequenceCauses, Certifies}
 use Rattle.judge.specs.declared.answer.Answer.{Answer}
 use Rattle.judge.specs.declared.answer.Answer.the-variants.{Pass, Wrong, Unfinished, Refused as RefusedAnswer}
 use Rattle.judge.specs.Judging.{cause10, judgeCauses, cause11, verdict, Judges, Identity, valuesOf}
-use Rattle.judge.specs.Judging.Laws.{cause10-is, judge-causes-are, few-answers, judgement-refused, judgement-by, judged-refused, judged-clear, pass-identity}
+use Rattle.judge.specs.Judging.Laws.{cause10-is, judge-causes-are, few-answers, judgement-refused, judgement-by}
+use Rattle.judge.specs.Judging.Laws.{judged-refused, judged-clear, pass-identity}
 
 -- ---- the checks
-module _ (room : ℕ) (s : List ℕ) {r : Record} {xs ys : List ℕ} (re : r ≡ recordOf 4 s) (xe : xs ≡ content 3 s) (ye : ys ≡ content 4 s) where
+module _ (room : ℕ) (s : List ℕ) {r : Record} {xs ys : List ℕ} (re : r ≡ recordOf 4 s) (xe : xs ≡ content 3 s)
+    (ye : ys ≡ content 4 s) where
   pub checks-are : {earlier ten c : Check} → earlier ≡ firstCause (sequenceCauses true room s)
-      → ten ≡ (refusal 10 with r .start if ltb (length xs) (length ys)) → c ≡ (earlier else ten) → c ≡ firstCause (judgeCauses room s)
+      → ten ≡ (refusal 10 with r .start if ltb (length xs) (length ys)) → c ≡ (earlier else ten)
+      → c ≡ firstCause (judgeCauses room s)
   checks-are ee te ce =
-      let ten-is : (refusal 10 with r .start if ltb (length xs) (length ys)) ≡ cause10 (recordOf 4 s) (content 3 s) (content 4 s) = rw (re, xe, ye) (cause10-is (recordOf 4 s) (content 3 s) (content 4 s)) in
+      let ten-is : (refusal 10 with r .start if ltb (length xs) (length ys))
+      ≡ cause10 (recordOf 4 s) (content 3 s) (content 4 s) =
+      rw (re, xe, ye) (cause10-is (recordOf 4 s) (content 3 s) (content 4 s)) in
       ce ∙ ap₂ _else_ ee (te ∙ ten-is) ∙ sym (judge-causes-are room s)
 
   pub few-here : {c : Check} → c ≡ firstCause (judgeCauses room s) → c ≡ Clear → length ys ≤ length xs
@@ -52,14 +57,16 @@ module _ (s before : List ℕ) {c : Check} (ce : c ≡ firstCause (judgeCauses (
 
     -- by certifying's answer and the marks that it leaves
     module _ {after : List ℕ} {b : Certification} (h : Certifies s before after b) where
-      judges-by : {a : Answer} → a ≡ refusedOr RefusedAnswer (cause11 b) (verdict (machineIn s) (content 3 s) (content 4 s)) → Judges s before after a
+      judges-by : {a : Answer}
+          → a ≡ refusedOr RefusedAnswer (cause11 b) (verdict (machineIn s) (content 3 s) (content 4 s))
+          → Judges s before after a
       judges-by ae = record {
         answer = returns-specified valuesOf (ae ∙ sym (judgement-by (length before) s clear (sym (h .answer .is))));
         marks = h .marks ∙ sym (judged-clear s before clear);
       }
 
-      pub judges-certified : {n : ℕ} {M : Mealy} {xs ys : List ℕ} {a : Answer} → b ≡ Certified n → M ≡ machineIn s → xs ≡ content 3 s → ys ≡ content 4 s
-          → a ≡ verdict M xs ys → Judges s before after a
+      pub judges-certified : {n : ℕ} {M : Mealy} {xs ys : List ℕ} {a : Answer} → b ≡ Certified n → M ≡ machineIn s
+          → xs ≡ content 3 s → ys ≡ content 4 s → a ≡ verdict M xs ys → Judges s before after a
       unfolding cause11
       judges-certified q me xe ye ae = judges-by (ae ∙ (rw (q, me, xe, ye) refl))
 
@@ -75,10 +82,12 @@ module _ (s before : List ℕ) {c : Check} (ce : c ≡ firstCause (judgeCauses (
 pub values-pass : {a : Answer} {n e : ℕ} → a ≡ Pass n e → record { class = 100; place = n; a = 0; b = e } ≡ valuesOf a
 values-pass q = rw q
 
-pub values-wrong : {a : Answer} {p x y : ℕ} → a ≡ Wrong p x y → record { class = 101; place = p; a = x; b = y } ≡ valuesOf a
+pub values-wrong : {a : Answer} {p x y : ℕ} → a ≡ Wrong p x y
+    → record { class = 101; place = p; a = x; b = y } ≡ valuesOf a
 values-wrong q = rw q
 
-pub values-unfinished : {a : Answer} {n : ℕ} → a ≡ Unfinished n → record { class = 102; place = n; a = 0; b = 0 } ≡ valuesOf a
+pub values-unfinished : {a : Answer} {n : ℕ} → a ≡ Unfinished n
+    → record { class = 102; place = n; a = 0; b = 0 } ≡ valuesOf a
 values-unfinished q = rw q
 
 pub values-refused : {a : Answer} {n p : ℕ} → a ≡ RefusedAnswer n p → refusalValues n p ≡ valuesOf a

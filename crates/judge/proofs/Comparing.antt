@@ -10,7 +10,8 @@ use borrow.Author.Count.{below-more}
 use Rattle.machine.specs.declared.machine.Machine.{Machine}
 use Rattle.machine.specs.Limits.{mostEntries}
 use Rattle.machine.specs.Machine.{Mealy, meaning, answers, stateAt}
-use Rattle.machine.specs.Machine.Laws.{meaning-commands, meaning-start, tabled-next, tabled-answer, answers-length, answer-at, state-start, state-next, state-stays, proper-entry}
+use Rattle.machine.specs.Machine.Laws.{meaning-commands, meaning-start, tabled-next, tabled-answer, answers-length}
+use Rattle.machine.specs.Machine.Laws.{answer-at, state-start, state-next, state-stays, proper-entry}
 use Rattle.judge.specs.declared.answer.Answer.the-variants.{Pass, Wrong, Unfinished}
 use Rattle.judge.specs.Judging.{verdict}
 use Rattle.judge.specs.Comparison.{CompareRequires}
@@ -46,18 +47,27 @@ module _ (m : Machine) (xs ys : List ℕ) where
 
       specified-is : {v : ℕ} → v ≡ getD (m .answer) e 0 → v ≡ getD (answers M (M .start) xs) i 0
       specified-is ve =
-          tabled-answer (m .n) (m .k) (m .start) (m .next) (m .answer) s (getD xs i 0) ve at ∙ ap (λ (x : ℕ). M .answer x (getD xs i 0)) (c .state) ∙ sym (answer-at M xs i inside-sequence)
+          tabled-answer (m .n) (m .k) (m .start) (m .next) (m .answer) s (getD xs i 0) ve at
+          ∙ ap (λ (x : ℕ). M .answer x (getD xs i 0)) (c .state)
+          ∙ sym (answer-at M xs i inside-sequence)
 
       -- an answer that differs
-      pub compared-wrong : {v g : ℕ} → v ≡ getD (m .answer) e 0 → g ≡ getD ys i 0 → (v ≡ g → ⊥) → Wrong i v g ≡ verdict M xs ys
+      pub compared-wrong : {v g : ℕ} → v ≡ getD (m .answer) e 0 → g ≡ getD ys i 0 → (v ≡ g → ⊥)
+          → Wrong i v g ≡ verdict M xs ys
       compared-wrong ve ge d = judged-verdict M xs ys (h .few) (wrong l (c .right) d (specified-is ve) ge)
 
       -- one that is right
-      pub compared-next : {v g t : ℕ} → v ≡ getD (m .answer) e 0 → g ≡ getD ys i 0 → v ≡ g → t ≡ getD (m .next) e 0 → Compared M xs ys (i + 1) t
+      pub compared-next : {v g t : ℕ} → v ≡ getD (m .answer) e 0 → g ≡ getD ys i 0 → v ≡ g → t ≡ getD (m .next) e 0
+          → Compared M xs ys (i + 1) t
       compared-next {v} {g} ve ge q te = record {
         inside = omega arith;
-        state = tabled-next (m .n) (m .k) (m .start) (m .next) (m .answer) s (getD xs i 0) te at ∙ ap (λ (x : ℕ). M .next x (getD xs i 0)) (c .state) ∙ sym (state-next M xs i inside-sequence);
-        right = below-more (λ j. getD (answers M (M .start) xs) j 0 ≡ getD ys j 0) i (c .right) (sym (specified-is ve) ∙ q ∙ ge);
+        state =
+            tabled-next (m .n) (m .k) (m .start) (m .next) (m .answer) s (getD xs i 0) te at
+            ∙ ap (λ (x : ℕ). M .next x (getD xs i 0)) (c .state)
+            ∙ sym (state-next M xs i inside-sequence);
+        right =
+            below-more (λ j. getD (answers M (M .start) xs) j 0 ≡ getD ys j 0) i (c .right)
+            (sym (specified-is ve) ∙ q ∙ ge);
       }
 
     module _ (l : length ys ≤ i) where
@@ -72,4 +82,6 @@ module _ (m : Machine) (xs ys : List ℕ) where
           let all : i ≡ length xs = omega (arith, ended, h .few) in
           let long : length (answers M (M .start) xs) ≡ i = answers-length M (M .start) xs ∙ sym all in
           judged-verdict M xs ys (h .few)
-          (passed (sym (ext-getD 0 (answers M (M .start) xs) ys (long ∙ ended) (λ j jl. c .right j (omega (arith, long))))) all (c .state ∙ ap (stateAt M xs) all))
+          (passed (sym
+          (ext-getD 0 (answers M (M .start) xs) ys (long ∙ ended) (λ j jl. c .right j (omega (arith, long))))) all
+          (c .state ∙ ap (stateAt M xs) all))

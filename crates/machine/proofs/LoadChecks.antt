@@ -18,20 +18,24 @@ use Rattle.machine.specs.declared.machine.Machine.{Machine}
 use Rattle.machine.specs.Limits.{mostWord}
 use Rattle.machine.specs.Machine.{Mealy, meaning}
 use Rattle.machine.specs.Machine.Laws.{meaning-commands}
-use Rattle.machine.specs.Causes.{outside, cause3, cause4, byteCause, cause5, commandsCause, cause6, machineIn, held, machineCauses, wordCauses, loadCauses}
+use Rattle.machine.specs.Causes.{outside, cause3, cause4, byteCause, cause5, commandsCause, cause6, machineIn}
+use Rattle.machine.specs.Causes.{held, machineCauses, wordCauses, loadCauses}
 use Rattle.machine.specs.Causes.Laws.{commands-cause-is}
-use Rattle.machine.specs.Causes.Lists.{machine-causes-are, word-causes-are, word-causes-none, load-causes-are, clear-table, kind-reads, held-is, load-proper, word-distinguishes}
+use Rattle.machine.specs.Causes.Lists.{machine-causes-are, word-causes-are, word-causes-none, load-causes-are}
+use Rattle.machine.specs.Causes.Lists.{clear-table, kind-reads, held-is, load-proper, word-distinguishes}
 use Rattle.machine.specs.declared.loading.Loaded.{Loaded}
 use Rattle.machine.specs.Loading.{LoadedFrom}
 
 -- a record that is read, and what reading hands back, lie inside the sheet
-pub read-inside : (k : ℕ) (s : List ℕ) {r : Record} {w : List ℕ} → r ≡ recordOf k s → w ≡ content k s → r .start + length w ≤ length s
+pub read-inside : (k : ℕ) (s : List ℕ) {r : Record} {w : List ℕ} → r ≡ recordOf k s → w ≡ content k s
+    → r .start + length w ≤ length s
 read-inside k s re we = rw (re, we) (record-inside k s)
 
 -- causes 5 and 7
-pub commands-are : (number most k kind : ℕ) (s : List ℕ) {r : Record} {w : List ℕ} {o : Bool} {a b c : Check} → r ≡ recordOf kind s → w ≡ content kind s
-    → o ≡ outside 1 most (length w) → a ≡ (refusal number with r .start if o) → b ≡ first (length w) (byteCause number (r .start + header) w 0 1 k)
-    → c ≡ (a else b) → c ≡ commandsCause number most k (recordOf kind s) (content kind s)
+pub commands-are : (number most k kind : ℕ) (s : List ℕ) {r : Record} {w : List ℕ} {o : Bool} {a b c : Check}
+    → r ≡ recordOf kind s → w ≡ content kind s → o ≡ outside 1 most (length w) → a ≡ (refusal number with r .start if o)
+    → b ≡ first (length w) (byteCause number (r .start + header) w 0 1 k) → c ≡ (a else b)
+    → c ≡ commandsCause number most k (recordOf kind s) (content kind s)
 commands-are number most k kind s {r} {w} re we oe ae be ce =
     ce
     ∙ ap₂ _else_ (ae ∙ ap (λ (x : Bool). refusal number with r .start if x) oe) be
@@ -39,9 +43,9 @@ commands-are number most k kind s {r} {w} re we oe ae be ce =
     ∙ ap₂ (commandsCause number most k) re we
 
 -- causes 1 to 4
-pub table-are : (n : Needs) (s : List ℕ) {r : Record} {p : List ℕ} {kinds three four inner c : Check} → kinds ≡ firstCause (sheetCauses (needed n) s)
-    → r ≡ recordOf 1 s → p ≡ content 1 s → three ≡ cause3 r p → four ≡ cause4 r p → inner ≡ (three else four) → c ≡ (kinds else inner)
-    → c ≡ firstCause (machineCauses n s)
+pub table-are : (n : Needs) (s : List ℕ) {r : Record} {p : List ℕ} {kinds three four inner c : Check}
+    → kinds ≡ firstCause (sheetCauses (needed n) s) → r ≡ recordOf 1 s → p ≡ content 1 s → three ≡ cause3 r p
+    → four ≡ cause4 r p → inner ≡ (three else four) → c ≡ (kinds else inner) → c ≡ firstCause (machineCauses n s)
 table-are n s ke re pe te fe ie ce =
     ce ∙ ap₂ _else_ ke (ie ∙ ap₂ _else_ (te ∙ ap₂ cause3 re pe) (fe ∙ ap₂ cause4 re pe)) ∙ sym (machine-causes-are n s)
 
@@ -50,11 +54,12 @@ module _ (s : List ℕ) (m : Machine) (h : meaning m ≡ machineIn s) where
   commands-same : m .k ≡ machineIn s .k
   commands-same = sym (meaning-commands m) ∙ ap (λ (x : Mealy). x .k) h
 
-  five-is : {c : Check} → c ≡ commandsCause 5 mostWord (m .k) (recordOf 2 s) (content 2 s) → c ≡ cause5 (machineIn s .k) (recordOf 2 s) (content 2 s)
+  five-is : {c : Check} → c ≡ commandsCause 5 mostWord (m .k) (recordOf 2 s) (content 2 s)
+      → c ≡ cause5 (machineIn s .k) (recordOf 2 s) (content 2 s)
   five-is ce = ce ∙ ap (λ (x : ℕ). commandsCause 5 mostWord x (recordOf 2 s) (content 2 s)) commands-same
 
-  pub word-stops : {c : Check} → c ≡ commandsCause 5 mostWord (m .k) (recordOf 2 s) (content 2 s) → {a b : ℕ} → c ≡ Refused a b
-      → c ≡ firstCause (wordCauses true s)
+  pub word-stops : {c : Check} → c ≡ commandsCause 5 mostWord (m .k) (recordOf 2 s) (content 2 s) → {a b : ℕ}
+      → c ≡ Refused a b → c ≡ firstCause (wordCauses true s)
   word-stops ce {a} {b} e =
       e
       ∙ sym (else-refused a b (cause6 (machineIn s) (content 2 s)))
@@ -73,7 +78,8 @@ module _ (s : List ℕ) (m : Machine) (h : meaning m ≡ machineIn s) where
 pub word-off : (s : List ℕ) {b : Bool} → b ≡ false → Clear ≡ firstCause (wordCauses b s)
 word-off s e = sym (word-causes-none s) ∙ ap (λ (x : Bool). firstCause (wordCauses x s)) (sym e)
 
-pub word-on : (s : List ℕ) {b : Bool} → b ≡ true → {c : Check} → c ≡ firstCause (wordCauses true s) → c ≡ firstCause (wordCauses b s)
+pub word-on : (s : List ℕ) {b : Bool} → b ≡ true → {c : Check} → c ≡ firstCause (wordCauses true s)
+    → c ≡ firstCause (wordCauses b s)
 word-on s e ce = ce ∙ ap (λ (x : Bool). firstCause (wordCauses x s)) (sym e)
 
 -- causes 1 to 6
@@ -93,7 +99,8 @@ module _ (n : Needs) (s : List ℕ) {t : Check} (te : t ≡ firstCause (machineC
       ∙ sym (load-causes-are n s)
 
 -- all that loading promises
-pub loaded-from : (n : Needs) (s : List ℕ) (l : Loaded) → l .check ≡ firstCause (loadCauses n s) → meaning (l .machine) ≡ held s → LoadedFrom n s l
+pub loaded-from : (n : Needs) (s : List ℕ) (l : Loaded) → l .check ≡ firstCause (loadCauses n s)
+    → meaning (l .machine) ≡ held s → LoadedFrom n s l
 loaded-from n s l ce he = record {
   check = ce;
   reads = λ k m e. kind-reads n s (clear-table n s (sym ce ∙ e)) k m;

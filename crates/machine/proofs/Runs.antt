@@ -26,19 +26,26 @@ module _ (M : Mealy) (w : List ℕ) (i j : ℕ) where
     alike-end l = sym (over (drop p w) (drop-of-length-le w l)) ∙ h .keeps
       where
         over : (v : List ℕ) → v ≡ [] → same (answers M s v) (answers M t v) ≡ true
-        over v e = ap (λ (x : List ℕ). same (answers M s x) (answers M t x)) e ∙ ap₂ same (answers-none M s) (answers-none M t)
+        over v e =
+            ap (λ (x : List ℕ). same (answers M s x) (answers M t x)) e ∙ ap₂ same (answers-none M s) (answers-none M t)
 
     -- the answers to command p, and what follows
     abbrev rest : Bool
-    rest = same (answers M (M .next s (getD w p 0)) (drop (p + 1) w)) (answers M (M .next t (getD w p 0)) (drop (p + 1) w))
+    rest =
+        same (answers M (M .next s (getD w p 0)) (drop (p + 1) w)) (answers M (M .next t (getD w p 0)) (drop (p + 1) w))
 
-    split : p < length w → same (answers M s (drop p w)) (answers M t (drop p w)) ≡ (eqb (M .answer s (getD w p 0)) (M .answer t (getD w p 0)) && rest)
+    split : p < length w
+        → same (answers M s (drop p w)) (answers M t (drop p w))
+        ≡ (eqb (M .answer s (getD w p 0)) (M .answer t (getD w p 0)) && rest)
     split l = ap₂ same (answers-rest M s w p l) (answers-rest M t w p l)
 
-    pub alike-differs : p < length w → {x y : ℕ} → x ≡ M .answer s (getD w p 0) → y ≡ M .answer t (getD w p 0) → (x ≡ y → ⊥)
-        → false ≡ same (answers M i w) (answers M j w)
+    pub alike-differs : p < length w → {x y : ℕ} → x ≡ M .answer s (getD w p 0) → y ≡ M .answer t (getD w p 0)
+        → (x ≡ y → ⊥) → false ≡ same (answers M i w) (answers M j w)
     alike-differs l xe ye d =
-        sym (split l ∙ ap (λ (b : Bool). b && rest) (ne-eqb _ _ (λ (q : M .answer s (getD w p 0) ≡ M .answer t (getD w p 0)). d (xe ∙ q ∙ sym ye)))) ∙ h .keeps
+        sym (split l
+        ∙ ap (λ (b : Bool). b && rest)
+        (ne-eqb _ _ (λ (q : M .answer s (getD w p 0) ≡ M .answer t (getD w p 0)). d (xe ∙ q ∙ sym ye))))
+        ∙ h .keeps
 
     pub alike-next : p < length w → {x y : ℕ} → x ≡ M .answer s (getD w p 0) → y ≡ M .answer t (getD w p 0) → x ≡ y
         → {s′ t′ : ℕ} → s′ ≡ M .next s (getD w p 0) → t′ ≡ M .next t (getD w p 0) → Alike s′ t′ (p + 1)

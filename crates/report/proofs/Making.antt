@@ -1,5 +1,5 @@
--- The sheet that carries what was built: what a built answer shows of the lent sheet and of the buffer, and the answers.
--- Assumes nothing.
+-- The sheet that carries what was built: what a built answer shows of the lent sheet and of the buffer, and the
+-- answers. Assumes nothing.
 use Prim.Native.Nat.{ℕ, _+_, _≤_}
 use mathlib.Core.Path.{_≡_, refl, sym, ap, subst, _∙_}
 use mathlib.Core.List.{List, _++_, append-nil}
@@ -31,8 +31,11 @@ end-of {r} {w} e = sym (end-size w) ∙ ap end e
 
 -- the two records lie within the sheet
 pub front-fits : (s : List ℕ) {w : Record} → w ≡ recordOf 2 s → end (recordOf 2 s) ≤ length s
-    → (length (take (w .start + header + w .size) s) ≡ w .start + header + w .size) × (w .start + header + w .size ≤ length s)
-front-fits s {w} e l = let inside : w .start + header + w .size ≤ length s = omega (arith, end-of e) in (length-take-le (w .start + header + w .size) s inside, inside)
+    → (length (take (w .start + header + w .size) s) ≡ w .start + header + w .size)
+    × (w .start + header + w .size ≤ length s)
+front-fits s {w} e l =
+    let inside : w .start + header + w .size ≤ length s = omega (arith, end-of e) in
+    (length-take-le (w .start + header + w .size) s inside, inside)
 
 pub parts-are : (s xs : List ℕ) {n : ℕ} → n ≡ end (recordOf 2 s) → take n s ++ recordBytes 3 xs ≡ withSequence s xs
 unfolding withSequence
@@ -47,15 +50,18 @@ pub record HoldsBuilt (s buffer : List ℕ) (n : ℕ) : Type 0 where
   pub sized : n ≡ length (take n buffer)
   pub built : take n buffer ≡ sequence (machineIn s) (content 2 s)
 
-pub answer-is : {s before after : List ℕ} {a b : Answer} → length before ≡ mostSequence → Builds s before after a → a ≡ b → building mostSequence s ≡ b
+pub answer-is : {s before after : List ℕ} {a b : Answer} → length before ≡ mostSequence → Builds s before after a
+    → a ≡ b → building mostSequence s ≡ b
 answer-is {s} {before} l h e = ap (λ (room : ℕ). building room s) (sym l) ∙ sym (h .answer .is) ∙ e
 
-pub built-holds : (s before after : List ℕ) {a : Answer} {n : ℕ} → length before ≡ mostSequence → Builds s before after a → a ≡ Built n → HoldsBuilt s after n
+pub built-holds : (s before after : List ℕ) {a : Answer} {n : ℕ} → length before ≡ mostSequence
+    → Builds s before after a → a ≡ Built n → HoldsBuilt s after n
 built-holds s before after {a} {n} l h e =
     let here : building (length before) s ≡ Built n = sym (h .answer .is) ∙ e in
     let load = load-clear (length before) s (answer-built (length before) s here .0) in
     let sequence-facts = built-sequence (length before) s here in
-    let xs : take n after ≡ sequence (machineIn s) (content 2 s) = ap (take n) (h .buffer) ∙ built-buffer s before here .0 in
+    let xs : take n after ≡ sequence (machineIn s) (content 2 s) =
+    ap (take n) (h .buffer) ∙ built-buffer s before here .0 in
     let sized : n ≡ length (take n after) = sequence-facts .long ∙ sym (ap length xs) in
     record {
       behind = clear-reads 2 s (load-word buildNeeds s refl load) .inside;
@@ -67,8 +73,8 @@ built-holds s before after {a} {n} l h e =
     }
 
 -- ---- what is written to one stream
-pub writes-output : {before after : List ℕ} {size : ℕ} (xs : List ℕ) {o : Output} → o ≡ onOutput xs → Prints xs before after size
-    → Writes o before after (record { out = size; end = size })
+pub writes-output : {before after : List ℕ} {size : ℕ} (xs : List ℕ) {o : Output} → o ≡ onOutput xs
+    → Prints xs before after size → Writes o before after (record { out = size; end = size })
 writes-output {before} {after} {size} xs {o} e h =
     subst (λ (p : Output). Writes p before after (record { out = size; end = size })) (sym e) (record {
       out = h .sized;
@@ -77,8 +83,8 @@ writes-output {before} {after} {size} xs {o} e h =
       holds = h .printed ∙ ap (λ (l : List ℕ). written l before) (sym (append-nil xs));
     })
 
-pub writes-error : {before after : List ℕ} {size : ℕ} (xs : List ℕ) {o : Output} → o ≡ onError xs → Prints xs before after size
-    → Writes o before after (record { out = 0; end = size })
+pub writes-error : {before after : List ℕ} {size : ℕ} (xs : List ℕ) {o : Output} → o ≡ onError xs
+    → Prints xs before after size → Writes o before after (record { out = 0; end = size })
 writes-error {before} {after} {size} xs {o} e h =
     subst (λ (p : Output). Writes p before after (record { out = 0; end = size })) (sym e) (record {
       out = refl;

@@ -15,13 +15,17 @@ pub record Copying (before : List ℕ) (at : ℕ) (xs now : List ℕ) (i : ℕ) 
   pub copied : now ≡ paste before at xs i
   pub long : length now ≡ length before
 
-pub copying-start : (before : List ℕ) (at : ℕ) (xs : List ℕ) → at + length xs ≤ length before → Copying before at xs before 0
+pub copying-start : (before : List ℕ) (at : ℕ) (xs : List ℕ) → at + length xs ≤ length before
+    → Copying before at xs before 0
 copying-start before at xs l = record { inside = omega arith; fits = l; copied = paste-zero before at xs; long = refl }
 
-pub copying-on : {before : List ℕ} {at : ℕ} {xs now : List ℕ} {i v : ℕ} → Copying before at xs now i → i < length xs → v ≡ getD xs i 0 → Copying before at xs (set now (at + i) v) (i + 1)
+pub copying-on : {before : List ℕ} {at : ℕ} {xs now : List ℕ} {i v : ℕ} → Copying before at xs now i → i < length xs
+    → v ≡ getD xs i 0 → Copying before at xs (set now (at + i) v) (i + 1)
 copying-on {before} {at} {xs} {now} {i} {v} h l e =
     let set-is : set now (at + i) v ≡ paste before at xs (i + 1) =
-    ap₂ (λ (d : List ℕ) (x : ℕ). set d (at + i) x) (h .copied) e ∙ paste-suc before at xs i 0 (omega (arith, h .fits)) l ∙ ap (paste before at xs) (sym (add-one i)) in
+    ap₂ (λ (d : List ℕ) (x : ℕ). set d (at + i) x) (h .copied) e
+    ∙ paste-suc before at xs i 0 (omega (arith, h .fits)) l
+    ∙ ap (paste before at xs) (sym (add-one i)) in
     record {
       inside = omega arith;
       fits = h .fits;
@@ -29,5 +33,8 @@ copying-on {before} {at} {xs} {now} {i} {v} h l e =
       long = ap length set-is ∙ length-paste before at xs (i + 1) (omega (arith, h .fits)) (omega arith);
     }
 
-pub copying-done : {before : List ℕ} {at : ℕ} {xs now : List ℕ} {i : ℕ} → Copying before at xs now i → length xs ≤ i → now ≡ paste before at xs (length xs)
-copying-done {before} {at} {xs} {now} {i} h l = let z : i ≡ length xs = omega (arith, h .inside) in h .copied ∙ ap (paste before at xs) z
+pub copying-done : {before : List ℕ} {at : ℕ} {xs now : List ℕ} {i : ℕ} → Copying before at xs now i → length xs ≤ i
+    → now ≡ paste before at xs (length xs)
+copying-done {before} {at} {xs} {now} {i} h l =
+    let z : i ≡ length xs = omega (arith, h .inside) in
+    h .copied ∙ ap (paste before at xs) z

@@ -11,8 +11,10 @@ use Rattle.sheet.specs.declared.record.Found.{Found}
 use Rattle.sheet.specs.declared.record.Found.the-variants.{Missing}
 use Rattle.sheet.specs.declared.record.Record.{Record}
 use Rattle.sheet.specs.declared.record.Kind.{Kind}
-use Rattle.sheet.specs.Format.{header, recordAt, kindOf, rank, rankAt, end, causeAt, Parsed, ended, _before_, parse, parsed, ofKind, _or_, find}
-use Rattle.sheet.specs.Format.Laws.{end-is, clear-inside, parsed-is, parse-end, parse-stopped, parse-record, or-missing, missing-or, or-assoc, find-none, find-cons}
+use Rattle.sheet.specs.Format.{header, recordAt, kindOf, rank, rankAt, end, causeAt, Parsed, ended, _before_}
+use Rattle.sheet.specs.Format.{parse, parsed, ofKind, _or_, find}
+use Rattle.sheet.specs.Format.Laws.{end-is, clear-inside, parsed-is, parse-end, parse-stopped, parse-record}
+use Rattle.sheet.specs.Format.Laws.{or-missing, missing-or, or-assoc, find-none, find-cons}
 
 pub record Head (s : List ℕ) (k at last : ℕ) (found : Found) : Type 0 where
   pub inside : at ≤ length s
@@ -42,7 +44,8 @@ module _ {s : List ℕ} {k at last : ℕ} {found : Found} (h : Head s k at last 
   head-end l = answer (ended Clear) (parse-end s at last l) (find-none k)
 
   pub head-stop : at < length s → {c : Check} → c ≡ causeAt s at last → {n p : ℕ} → c ≡ Refused n p → Answer s k c found
-  head-stop l ce {n} {p} e = rw e (answer (ended (Refused n p)) (parse-stopped s at last n p l (sym ce ∙ e)) (find-none k))
+  head-stop l ce {n} {p} e =
+      rw e (answer (ended (Refused n p)) (parse-stopped s at last n p l (sym ce ∙ e)) (find-none k))
 
   pub head-on : at < length s → causeAt s at last ≡ Clear
       → Head s k (end (recordAt s at)) (rankAt s at) (found or ofKind k (recordAt s at))
@@ -54,12 +57,14 @@ module _ {s : List ℕ} {k at last : ℕ} {found : Found} (h : Head s k at last 
         inside = clear-inside s at last e;
         stop = ap (λ (x : Parsed). x .stop) (sym on) ∙ h .stop;
         finds = or-assoc found (ofKind k r) (find k (w .records))
-            ∙ ap (λ (f : Found). found or f) (sym (find-cons k r (w .records)) ∙ ap (λ (x : Parsed). find k (x .records)) (sym on))
+            ∙ ap (λ (f : Found). found or f)
+            (sym (find-cons k r (w .records)) ∙ ap (λ (x : Parsed). find k (x .records)) (sym on))
             ∙ h .finds;
       }
 
 -- the values that a turn of the code computes
-pub record Turn (s : List ℕ) (k at last : ℕ) (found : Found) (r : Record) (g f : Found) (kd : Kind) (rk : ℕ) : Type 0 where
+pub record Turn (s : List ℕ) (k at last : ℕ) (found : Found) (r : Record) (g f : Found) (kd : Kind)
+    (rk : ℕ) : Type 0 where
   pub more : at < length s
   pub clear : causeAt s at last ≡ Clear
   pub reads : r ≡ recordAt s at
@@ -77,5 +82,7 @@ module _ {s : List ℕ} {k at last : ℕ} {found : Found} {r : Record} {g f : Fo
   turn-next =
       subst₃ (λ (a b : ℕ) (x : Found). Head s k a b x) (end-is s at r (t .reads))
       (ap (λ (x : Record). rank (kindOf (x .kind))) (sym (t .reads)) ∙ ap rank (sym (t .decodes)) ∙ sym (t .ranks))
-      (ap (λ (x : Record). found or ofKind k x) (sym (t .reads)) ∙ ap (λ (x : Found). found or x) (sym (t .looks)) ∙ sym (t .takes))
+      (ap (λ (x : Record). found or ofKind k x) (sym (t .reads))
+      ∙ ap (λ (x : Found). found or x) (sym (t .looks))
+      ∙ sym (t .takes))
       (head-on h (t .more) (t .clear))

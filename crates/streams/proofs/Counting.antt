@@ -18,36 +18,43 @@ pub counts-of : (n : ℕ) (buffer : List ℕ) → n ≤ length buffer → Counts
 counts-of n buffer l = (l, sym (length-take-le n buffer l))
 
 -- the bytes that were read
-pub read-counts : (size : ℕ) (buffer : List ℕ) → size ≤ length buffer → (count : ℕ) → Read size ≡ Read count → Counts count buffer
+pub read-counts : (size : ℕ) (buffer : List ℕ) → size ≤ length buffer → (count : ℕ) → Read size ≡ Read count
+    → Counts count buffer
 read-counts size buffer l count e = let same : size ≡ count = cc in counts-of count buffer (omega (arith, same))
 
 -- a failure promises no bytes
-pub failed-counts : {input : Input} (buffer : List ℕ) → input ≡ Failed → (count : ℕ) → input ≡ Read count → Counts count buffer
+pub failed-counts : {input : Input} (buffer : List ℕ) → input ≡ Failed → (count : ℕ) → input ≡ Read count
+    → Counts count buffer
 failed-counts buffer e count f = let z : _≡_ {A = ℕ} 0 1 = cc in absurd (omega arith)
 
 -- a read that moved bytes
-pub step-moved : {moved : Bool} (ended interrupted : Bool) (size next : ℕ) → moved ≡ true → More next ≡ stepAfter moved ended interrupted size next
+pub step-moved : {moved : Bool} (ended interrupted : Bool) (size next : ℕ) → moved ≡ true
+    → More next ≡ stepAfter moved ended interrupted size next
 unfolding stepAfter
 step-moved ended interrupted size next e = rw e refl
 
 -- the end of the input
-pub step-ended : {moved ended : Bool} (interrupted : Bool) (size next : ℕ) → moved ≡ false → ended ≡ true → End ≡ stepAfter moved ended interrupted size next
+pub step-ended : {moved ended : Bool} (interrupted : Bool) (size next : ℕ) → moved ≡ false → ended ≡ true
+    → End ≡ stepAfter moved ended interrupted size next
 unfolding stepAfter
 step-ended interrupted size next e f = rw (e, f) refl
 
 -- a read that a signal interrupted
-pub step-interrupted : {moved ended interrupted : Bool} (size next : ℕ) → moved ≡ false → ended ≡ false → interrupted ≡ true → More size ≡ stepAfter moved ended interrupted size next
+pub step-interrupted : {moved ended interrupted : Bool} (size next : ℕ) → moved ≡ false → ended ≡ false
+    → interrupted ≡ true → More size ≡ stepAfter moved ended interrupted size next
 unfolding stepAfter
 step-interrupted size next e f g = rw (e, f, g) refl
 
 -- any other read failed
-pub step-failed : {moved ended interrupted : Bool} (size next : ℕ) → moved ≡ false → ended ≡ false → interrupted ≡ false → FailedStep ≡ stepAfter moved ended interrupted size next
+pub step-failed : {moved ended interrupted : Bool} (size next : ℕ) → moved ≡ false → ended ≡ false → interrupted ≡ false
+    → FailedStep ≡ stepAfter moved ended interrupted size next
 unfolding stepAfter
 step-failed size next e f g = rw (e, f, g) refl
 
 -- whatever a read tells, what then counts stands within the buffer
-pub reached-after : {step : Step} (moved ended interrupted : Bool) (size next : ℕ) (buffer : List ℕ) → step ≡ stepAfter moved ended interrupted size next → size ≤ length buffer → next ≤ length buffer
-    → (count : ℕ) → step ≡ More count → Counts count buffer
+pub reached-after : {step : Step} (moved ended interrupted : Bool) (size next : ℕ) (buffer : List ℕ)
+    → step ≡ stepAfter moved ended interrupted size next → size ≤ length buffer → next ≤ length buffer → (count : ℕ)
+    → step ≡ More count → Counts count buffer
 unfolding stepAfter
 reached-after moved ended interrupted size next buffer e l m count f =
     counts-of count buffer (by-cases moved ended interrupted (sym e ∙ f))

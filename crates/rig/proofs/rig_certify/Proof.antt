@@ -1,5 +1,5 @@
--- `rig_certify` meets its contract: the number of what certifying answers, whose values fit, and the marks as certifying leaves them.
--- Assumes nothing.
+-- `rig_certify` meets its contract: the number of what certifying answers, whose values fit, and the marks as
+-- certifying leaves them. Assumes nothing.
 use borrow.Author.Needs.{needs}
 use mathlib.Core.Path.{ap, _∙_}
 use Rattle.certify.specs.Certification.{valuesOf}
@@ -25,7 +25,10 @@ same-length c = search needs
 returns : tie.Need-returns
 returns c =
     let h = c .before .before .before .before .certify .ensures in
-    record { number = c .pack .ensures ∙ ap packed (c .before .values-of .ensures ∙ ap valuesOf (h .answer .is)); marks = h .marks }
+    record {
+      number = c .pack .ensures ∙ ap packed (c .before .values-of .ensures ∙ ap valuesOf (h .answer .is));
+      marks = h .marks;
+    }
 
 pub rig-certify-spec : {M : Type 1} → statement M
 rig-certify-spec =

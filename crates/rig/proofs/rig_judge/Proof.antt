@@ -1,5 +1,5 @@
--- `rig_judge` meets its contract: the number of what judging answers, whose values fit because the sheet is of bytes, the marks as judging leaves
--- them, and the identity claim of that number.
+-- `rig_judge` meets its contract: the number of what judging answers, whose values fit because the sheet is of bytes,
+-- the marks as judging leaves them, and the identity claim of that number.
 -- Assumes nothing.
 use borrow.Author.Needs.{needs}
 use native.Mathlib.Omega.{arith}
@@ -23,7 +23,9 @@ values-of-requires c κs = search needs
 pack-requires : tie.Need-pack-requires
 pack-requires c κs =
     let h = c .before .before .before .judge .ensures .0 in
-    rw (c .values-of .ensures, h .answer .is) (judgement-fits _ _ (λ i. omega (arith, c .before .before .before .before .before .before .shared-slice-known .given i)))
+    rw (c .values-of .ensures, h .answer .is)
+    (judgement-fits _ _
+    (λ i. omega (arith, c .before .before .before .before .before .before .shared-slice-known .given i)))
 
 same-length : tie.Need-same-length
 same-length c = search needs
@@ -31,10 +33,13 @@ same-length c = search needs
 returns : tie.Need-returns
 returns c =
     let s = now (c .before .before .before .before .before .before .before .before .args .sheet) in
-    let bytes : Bytes s = λ i. omega (arith, c .before .before .before .before .before .before .before .shared-slice-known .given i) in
+    let bytes : Bytes s = λ i.
+    omega (arith, c .before .before .before .before .before .before .before .shared-slice-known .given i) in
     let h = c .before .before .before .before .judge .ensures .0 in
-    let number = c .pack .ensures ∙ ap packed (c .before .values-of .ensures ∙ ap valuesOf (h .answer .is)) in
-    (record { number = number; marks = h .marks }, subst (λ (r : ℕ). RigIdentity s r) (sym number) (number-identity _ s bytes))
+    let number = c .pack .ensures ∙ ap packed (c .before .values-of .ensures ∙ ap valuesOf (h .answer .is)) in (
+      record { number = number; marks = h .marks },
+      subst (λ (r : ℕ). RigIdentity s r) (sym number) (number-identity _ s bytes),
+    )
 
 pub rig-judge-spec : {M : Type 1} → statement M
 rig-judge-spec =

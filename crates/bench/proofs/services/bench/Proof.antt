@@ -19,7 +19,8 @@ returns : tie.Need-returns
 unfolding bench
 returns c =
     let sheet = now (c .before .before .before .before .before .before .args .sheet) in
-    writes-same (c .perform .ensures) (ap (λ (service : Service). output service sheet) (sym (c .before .before .service-of .ensures)))
+    writes-same (c .perform .ensures)
+    (ap (λ (service : Service). output service sheet) (sym (c .before .before .service-of .ensures)))
 
 pub bench-spec : {M : Type 1} → statement M
 bench-spec = tie.close (tie.spec service-of-requires perform-requires returns)

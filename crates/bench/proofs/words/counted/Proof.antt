@@ -20,7 +20,10 @@ wrong-requires-2 : tie.Need-wrong-requires-2
 wrong-requires-2 c κs = search needs
 
 returns : tie.Need-returns
-returns c = c .wrong2 .ensures ∙ count-few _ _ _ (c .before .if1 .taken) ∙ sym (ap (counted _) (c .before .before .before .found .given .1))
+returns c =
+    c .wrong2 .ensures
+    ∙ count-few _ _ _ (c .before .if1 .taken)
+    ∙ sym (ap (counted _) (c .before .before .before .found .given .1))
 
 wrong-requires-3 : tie.Need-wrong-requires-3
 wrong-requires-3 c κs = search needs
@@ -35,7 +38,9 @@ returns-3 : tie.Need-returns-3
 returns-3 c = c .wrong .ensures ∙ count-none _ ∙ sym (ap (counted _) (c .before .enum-told .given .1))
 
 returns-4 : tie.Need-returns-4
-returns-4 c = count-right _ _ _ (c .before .if1 .left) (c .if2 .left) ∙ sym (ap (counted _) (c .before .before .before .found .given .1))
+returns-4 c =
+    count-right _ _ _ (c .before .if1 .left) (c .if2 .left)
+    ∙ sym (ap (counted _) (c .before .before .before .found .given .1))
 
 pub counted-spec : {M : Type 1} → statement M
 counted-spec =

@@ -1,5 +1,5 @@
--- `bench::words::kind_in` meets its contract. The loop's invariant: what the bytes from i on stand for, behind digits of the value so
--- far, is what the word stands for.
+-- `bench::words::kind_in` meets its contract. The loop's invariant: what the bytes from i on stand for, behind digits
+-- of the value so far, is what the word stands for.
 -- Assumes nothing.
 use borrow.Author.Needs.{needs}
 use Prim.Native.Nat.{_+_, _-_, _≤_}
@@ -59,7 +59,8 @@ returns-3 c =
     let word = now (c .before .before .before .before .before .before .before .before .args .word) in
     c .wrong3 .ensures
     ∙ sym (kind-above _ (drop (head .i + 1) word) (c .before .if3 .taken))
-    ∙ kind-digit (head .value) (head .i) word (search needs) (c .before .before .before .if1 .left) (c .before .before .if2 .left)
+    ∙ kind-digit (head .value) (head .i) word (search needs) (c .before .before .before .if1 .left)
+    (c .before .before .if2 .left)
     ∙ head .inv .2
 
 add-i : tie.Need-add-i Inv-loop μ-loop
@@ -74,7 +75,8 @@ loop-again c =
     let word = now (c .before .before .before .before .before .before .before .args .word) in (
       search needs,
       c .if3 .left,
-      kind-digit (head .value) (head .i) word (search needs) (c .before .before .if1 .left) (c .before .if2 .left) ∙ head .inv .2,
+      kind-digit (head .value) (head .i) word (search needs) (c .before .before .if1 .left) (c .before .if2 .left)
+          ∙ head .inv .2,
     )
 
 cast-t13 : tie.Need-cast-t13 Inv-loop μ-loop
@@ -87,7 +89,9 @@ returns-4 : tie.Need-returns-4 Inv-loop μ-loop
 returns-4 c =
     let head = c .before .before .loop in
     let word = now (c .before .before .before .before .args .word) in
-    c .on-sheet .ensures ∙ sym (kind-end (head .value) (head .i) word (head .inv .1) (search needs) (head .inv .0)) ∙ head .inv .2
+    c .on-sheet .ensures
+    ∙ sym (kind-end (head .value) (head .i) word (head .inv .1) (search needs) (head .inv .0))
+    ∙ head .inv .2
 
 pub kind-in-spec : {M : Type 1} → statement M
 kind-in-spec =

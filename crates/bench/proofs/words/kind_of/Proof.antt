@@ -15,7 +15,9 @@ unless-unfit-requires c κs = search needs
 
 returns : tie.Need-returns
 unfolding kindOf
-returns c = c .unless-unfit .ensures ∙ ap (unlessUnfit (now (c .before .before .before .args .word))) (c .before .kind-in .ensures)
+returns c =
+    c .unless-unfit .ensures
+    ∙ ap (unlessUnfit (now (c .before .before .before .args .word))) (c .before .kind-in .ensures)
 
 pub kind-of-spec : {M : Type 1} → statement M
 kind-of-spec = tie.close (tie.spec kind-in-requires unless-unfit-requires returns)

@@ -21,7 +21,8 @@ wrong-requires-2 c κs = search needs
 returns-2 : tie.Need-returns-2
 returns-2 c =
     let args = c .before .before .before .before .args in
-    c .wrong2 .ensures ∙ word-long (now (args .word)) (args .service) (c .before .before .if1 .left) (c .before .if2 .taken)
+    c .wrong2 .ensures
+    ∙ word-long (now (args .word)) (args .service) (c .before .before .if1 .left) (c .before .if2 .taken)
 
 returns-3 : tie.Need-returns-3
 returns-3 c =

@@ -18,7 +18,8 @@ array-write-distance c = search needs
 
 loop-holds : tie.Need-loop-holds Inv-loop μ-loop
 loop-holds c =
-    ⊎-elim (λ w. rounded-state (w .0 .taken) (search needs) (w .1)) (λ w. rounded-none (w .0 .left) (w .1)) (c .if1 .came)
+    ⊎-elim (λ w. rounded-state (w .0 .taken) (search needs) (w .1)) (λ w. rounded-none (w .0 .left) (w .1))
+    (c .if1 .came)
 
 add-loop : tie.Need-add-loop Inv-loop μ-loop
 add-loop c = search needs
@@ -33,7 +34,8 @@ loop-less : tie.Need-loop-less Inv-loop μ-loop
 loop-less c = search needs
 
 loop-again : tie.Need-loop-again Inv-loop μ-loop
-loop-again c = rounded-on (c .before .before .before .loop .inv) (c .before .before .loop-test .taken) (c .widen .ensures)
+loop-again c =
+    rounded-on (c .before .before .before .loop .inv) (c .before .before .loop-test .taken) (c .widen .ensures)
 
 returns : tie.Need-returns Inv-loop μ-loop
 returns c = rounded-all (c .before .loop .inv) (c .loop-test .left)

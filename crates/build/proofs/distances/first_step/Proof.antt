@@ -1,5 +1,5 @@
--- `build::distances::first_step` meets its contract. The loop's invariant: no command before c leads to a state at the distance.
--- Assumes nothing.
+-- `build::distances::first_step` meets its contract. The loop's invariant: no command before c leads to a state at the
+-- distance. Assumes nothing.
 use borrow.Author.Needs.{needs}
 use Prim.Native.Nat.{_-_}
 use Rattle.build.proofs.Searching.{Passing, passing-none, passing-on, passing-found, passing-all}
@@ -28,7 +28,9 @@ element-copy-out-if1 : tie.Need-element-copy-out-if1 Inv-loop μ-loop
 element-copy-out-if1 c = search needs
 
 returns : tie.Need-returns Inv-loop μ-loop
-returns c = passing-found (c .before .before .before .before .before .loop .inv) (c .before .before .before .entry-at .ensures) (c .before .before .byte .ensures) (search needs) (c .if1 .taken)
+returns c =
+    passing-found (c .before .before .before .before .before .loop .inv) (c .before .before .before .entry-at .ensures)
+    (c .before .before .byte .ensures) (search needs) (c .if1 .taken)
 
 add-c : tie.Need-add-c Inv-loop μ-loop
 add-c c = search needs
@@ -37,7 +39,10 @@ loop-less : tie.Need-loop-less Inv-loop μ-loop
 loop-less c = search needs
 
 loop-again : tie.Need-loop-again Inv-loop μ-loop
-loop-again c = passing-on (c .before .before .before .before .before .loop .inv) (c .before .before .before .before .loop-test .taken) (c .before .before .before .entry-at .ensures) (c .before .before .byte .ensures) (c .if1 .left)
+loop-again c =
+    passing-on (c .before .before .before .before .before .loop .inv)
+    (c .before .before .before .before .loop-test .taken) (c .before .before .before .entry-at .ensures)
+    (c .before .before .byte .ensures) (c .if1 .left)
 
 returns-2 : tie.Need-returns-2 Inv-loop μ-loop
 returns-2 c = passing-all (c .before .loop .inv) (c .loop-test .left)

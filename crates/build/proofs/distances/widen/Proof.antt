@@ -1,5 +1,5 @@
--- `build::distances::widen` meets its contract. The loop's invariant: the states before s are widened, the others as before.
--- Assumes nothing.
+-- `build::distances::widen` meets its contract. The loop's invariant: the states before s are widened, the others as
+-- before. Assumes nothing.
 use native.Mathlib.Omega.{arith}
 use borrow.Author.Needs.{needs}
 use Prim.Native.Nat.{_-_}
@@ -32,10 +32,14 @@ loop-less : tie.Need-loop-less Inv-loop μ-loop
 loop-less c = search needs
 
 loop-again : tie.Need-loop-again Inv-loop μ-loop
-loop-again c = widening-on (c .before .before .before .before .before .pre .0) (search needs) (c .before .before .loop-test .taken) (c .before .before .before .loop .inv) (c .widened .ensures)
+loop-again c =
+    widening-on (c .before .before .before .before .before .pre .0) (search needs) (c .before .before .loop-test .taken)
+    (c .before .before .before .loop .inv) (c .widened .ensures)
 
 returns : tie.Need-returns Inv-loop μ-loop
-returns c = widening-all (search needs) (c .before .before .before .pre .0) (λ i. omega (arith, c .before .before .shared-slice-known .given i)) (c .before .loop .inv) (c .loop-test .left)
+returns c =
+    widening-all (search needs) (c .before .before .before .pre .0)
+    (λ i. omega (arith, c .before .before .shared-slice-known .given i)) (c .before .loop .inv) (c .loop-test .left)
 
 pub widen-spec : {M : Type 1} → statement M
 widen-spec =

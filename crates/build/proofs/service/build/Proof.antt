@@ -1,10 +1,11 @@
--- `build::service::build` meets its contract: each refusal with nothing written, and the sequence where nothing is refused.
--- Assumes nothing.
+-- `build::service::build` meets its contract: each refusal with nothing written, and the sequence where nothing is
+-- refused. Assumes nothing.
 use mathlib.Core.Path.{refl, sym}
 use lib.Seq.{length-take-le}
 use denote.Ref.{now}
 use Rattle.sheet.specs.Reader.Laws.{handed-content}
-use Rattle.build.proofs.Answering.{front-none, early-refused, proper, eight-refused, write-required, nine-refused, built}
+use Rattle.build.proofs.Answering.{front-none, early-refused, proper, eight-refused, write-required}
+use Rattle.build.proofs.Answering.{nine-refused, built}
 use borrow.Author.Needs.{needs}
 use Rattle.build.proofs.service.build.Statement.{statement}
 use Rattle.build.proofs.service.build.Tie as tie
@@ -18,7 +19,8 @@ enum-known-earlier c = search needs
 returns : tie.Need-returns
 returns c =
     let start = c .before .before .before .before .before .before in
-    early-refused (now (start .args .sheet)) (now (start .args .buffer)) (c .before .before .before .load-sheet .result) (c .before .before .before .load-sheet .ensures) (c .before .earlier .given .1)
+    early-refused (now (start .args .sheet)) (now (start .args .buffer)) (c .before .before .before .load-sheet .result)
+    (c .before .before .before .load-sheet .ensures) (c .before .earlier .given .1)
 
 enum-told : tie.Need-enum-told
 enum-told c = search needs
@@ -34,8 +36,12 @@ connect-requires c κs =
     let word = c .before in
     let early = word .before .before in
     let load = early .before .before in
-    let start = load .before .before .before in
-    (proper (now (start .args .sheet)) (now (start .args .buffer)) (load .load-sheet .result) (load .load-sheet .ensures) (early .enum-told .given .1) (now (word .read .result)) (handed-content _ (start .args .sheet) (word .read .result) (word .read .ensures)), refl)
+    let start = load .before .before .before in (
+      proper (now (start .args .sheet)) (now (start .args .buffer)) (load .load-sheet .result)
+          (load .load-sheet .ensures) (early .enum-told .given .1) (now (word .read .result))
+          (handed-content _ (start .args .sheet) (word .read .result) (word .read .ensures)),
+      refl,
+    )
 
 enum-known-eight : tie.Need-enum-known-eight
 enum-known-eight c = search needs
@@ -48,7 +54,10 @@ returns-2 c =
     let early = word .before .before in
     let load = early .before .before in
     let start = load .before .before .before in
-    eight-refused (now (start .args .sheet)) (now (start .args .buffer)) (load .load-sheet .result) (load .load-sheet .ensures) (early .enum-told .given .1) (now (word .read .result)) (handed-content _ (start .args .sheet) (word .read .result) (word .read .ensures)) (table .connect .ensures .0) (refused .eight .given .1)
+    eight-refused (now (start .args .sheet)) (now (start .args .buffer)) (load .load-sheet .result)
+    (load .load-sheet .ensures) (early .enum-told .given .1) (now (word .read .result))
+    (handed-content _ (start .args .sheet) (word .read .result) (word .read .ensures)) (table .connect .ensures .0)
+    (refused .eight .given .1)
 
 enum-told-2 : tie.Need-enum-told-2
 enum-told-2 c = search needs
@@ -61,7 +70,9 @@ slice-relend-prefix-write-sequence c = search needs
 
 slice-aggregate-write-sequence-2 : tie.Need-slice-aggregate-write-sequence-2
 slice-aggregate-write-sequence-2 c =
-    sym (length-take-le _ (now (c .before .before .before .before .before .before .before .before .before .before .before .before .before .before .args .buffer)) (search needs))
+    sym (length-take-le _ (now (c .before .before .before .before .before .before .before .before .before .before
+    .before .before .before .before .args .buffer))
+    (search needs))
 
 write-sequence-requires : tie.Need-write-sequence-requires
 write-sequence-requires c κs =
@@ -71,7 +82,10 @@ write-sequence-requires c κs =
     let early = word .before .before in
     let load = early .before .before in
     let start = load .before .before .before in
-    write-required (now (start .args .sheet)) (now (start .args .buffer)) (load .load-sheet .result) (load .load-sheet .ensures) (early .enum-told .given .1) (now (word .read .result)) (handed-content _ (start .args .sheet) (word .read .result) (word .read .ensures)) (table .connect .ensures .0) (eight .enum-told2 .given .1) _ (table .connect .ensures .1 (eight .enum-told2 .given .1))
+    write-required (now (start .args .sheet)) (now (start .args .buffer)) (load .load-sheet .result)
+    (load .load-sheet .ensures) (early .enum-told .given .1) (now (word .read .result))
+    (handed-content _ (start .args .sheet) (word .read .result) (word .read .ensures)) (table .connect .ensures .0)
+    (eight .enum-told2 .given .1) _ (table .connect .ensures .1 (eight .enum-told2 .given .1))
 
 refuse-requires : tie.Need-refuse-requires
 refuse-requires c κs = search needs
@@ -93,7 +107,13 @@ returns-3 c =
     let early = word .before .before in
     let load = early .before .before in
     let start = load .before .before .before in
-    nine-refused (now (start .args .sheet)) (now (start .args .buffer)) (load .load-sheet .result) (load .load-sheet .ensures) (early .enum-told .given .1) (now (word .read .result)) (handed-content _ (start .args .sheet) (word .read .result) (word .read .ensures)) (table .connect .ensures .0) (eight .enum-told2 .given .1) (counted .write-sequence .ensures .ends) (front-none (counted .write-sequence .last .1 .1 .1 .0) (now (start .args .buffer)) (counted .write-sequence .kept .1 .1 .1 .0)) (check .refuse .ensures) (refused .nine .given .1)
+    nine-refused (now (start .args .sheet)) (now (start .args .buffer)) (load .load-sheet .result)
+    (load .load-sheet .ensures) (early .enum-told .given .1) (now (word .read .result))
+    (handed-content _ (start .args .sheet) (word .read .result) (word .read .ensures)) (table .connect .ensures .0)
+    (eight .enum-told2 .given .1) (counted .write-sequence .ensures .ends)
+    (front-none (counted .write-sequence .last .1 .1 .1 .0) (now (start .args .buffer))
+    (counted .write-sequence .kept .1 .1 .1 .0))
+    (check .refuse .ensures) (refused .nine .given .1)
 
 enum-told-3 : tie.Need-enum-told-3
 enum-told-3 c = search needs
@@ -109,7 +129,10 @@ write-sequence-requires-2 c κs =
     let early = word .before .before in
     let load = early .before .before in
     let start = load .before .before .before in
-    write-required (now (start .args .sheet)) (now (start .args .buffer)) (load .load-sheet .result) (load .load-sheet .ensures) (early .enum-told .given .1) (now (word .read .result)) (handed-content _ (start .args .sheet) (word .read .result) (word .read .ensures)) (table .connect .ensures .0) (eight .enum-told2 .given .1) _ (table .connect .ensures .1 (eight .enum-told2 .given .1))
+    write-required (now (start .args .sheet)) (now (start .args .buffer)) (load .load-sheet .result)
+    (load .load-sheet .ensures) (early .enum-told .given .1) (now (word .read .result))
+    (handed-content _ (start .args .sheet) (word .read .result) (word .read .ensures)) (table .connect .ensures .0)
+    (eight .enum-told2 .given .1) _ (table .connect .ensures .1 (eight .enum-told2 .given .1))
 
 same-length-2 : tie.Need-same-length-2
 same-length-2 c = search needs
@@ -126,7 +149,13 @@ returns-4 c =
     let early = word .before .before in
     let load = early .before .before in
     let start = load .before .before .before in
-    built (now (start .args .sheet)) (now (start .args .buffer)) (load .load-sheet .result) (load .load-sheet .ensures) (early .enum-told .given .1) (now (word .read .result)) (handed-content _ (start .args .sheet) (word .read .result) (word .read .ensures)) (table .connect .ensures .0) (eight .enum-told2 .given .1) (counted .write-sequence .ensures .ends) (front-none (counted .write-sequence .last .1 .1 .1 .0) (now (start .args .buffer)) (counted .write-sequence .kept .1 .1 .1 .0)) (check .refuse .ensures) (nine .enum-told3 .given .1) (written .write-sequence2 .ensures)
+    built (now (start .args .sheet)) (now (start .args .buffer)) (load .load-sheet .result) (load .load-sheet .ensures)
+    (early .enum-told .given .1) (now (word .read .result))
+    (handed-content _ (start .args .sheet) (word .read .result) (word .read .ensures)) (table .connect .ensures .0)
+    (eight .enum-told2 .given .1) (counted .write-sequence .ensures .ends)
+    (front-none (counted .write-sequence .last .1 .1 .1 .0) (now (start .args .buffer))
+    (counted .write-sequence .kept .1 .1 .1 .0))
+    (check .refuse .ensures) (nine .enum-told3 .given .1) (written .write-sequence2 .ensures)
 
 pub build-spec : {M : Type 1} → statement M
 build-spec =

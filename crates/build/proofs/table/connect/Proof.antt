@@ -1,5 +1,5 @@
--- `build::table::connect` meets its contract. The loop's invariant: the transfers of the states before s are found and stored.
--- Assumes nothing.
+-- `build::table::connect` meets its contract. The loop's invariant: the transfers of the states before s are found and
+-- stored. Assumes nothing.
 use Prim.Native.Nat.{_-_, _≤_, _<_}
 use mathlib.Core.Path.{_≡_, refl, sym, _∙_}
 use lib.ListN.{length}
@@ -8,7 +8,8 @@ use Rattle.sheet.specs.Check.Laws.{clear-refused}
 use Rattle.machine.specs.Machine.{meaning}
 use Rattle.machine.specs.Machine.Laws.{meaning-states}
 use Rattle.build.proofs.Parts.{below, not-below}
-use Rattle.build.proofs.Connecting.{Connecting, connecting-start, connecting-stops, size-low, connecting-on, connecting-clear, connecting-filled}
+use Rattle.build.proofs.Connecting.{Connecting, connecting-start, connecting-stops, size-low, connecting-on}
+use Rattle.build.proofs.Connecting.{connecting-clear, connecting-filled}
 use borrow.Author.Needs.{needs}
 use native.Mathlib.Omega.{arith}
 use Rattle.build.proofs.table.connect.Statement.{statement}
@@ -57,8 +58,14 @@ returns c =
     let end = to .before in
     let turn = end .before .before in
     let loop = turn .before .before in
-    let start = loop .before .before .before .before in
-    (connecting-stops (meaning (start .args .m)) (now (start .args .w)) (loop .loop .s) (found .transfer .result) (end .word-end .result) (to .following .result) (sym (meaning-states (start .args .m))) (end .word-end .ensures (start .args .m .n) (start .args .m .start) (start .args .m .answer)) (to .following .ensures) (found .transfer .ensures) (check .refuse .ensures) (loop .loop .inv .1) (below (sym (meaning-states (start .args .m))) (turn .if1 .taken)) (c .enum-told .given .1), λ e. clear-refused e (c .enum-told .given .1))
+    let start = loop .before .before .before .before in (
+      connecting-stops (meaning (start .args .m)) (now (start .args .w)) (loop .loop .s) (found .transfer .result)
+          (end .word-end .result) (to .following .result) (sym (meaning-states (start .args .m)))
+          (end .word-end .ensures (start .args .m .n) (start .args .m .start) (start .args .m .answer))
+          (to .following .ensures) (found .transfer .ensures) (check .refuse .ensures) (loop .loop .inv .1)
+          (below (sym (meaning-states (start .args .m))) (turn .if1 .taken)) (c .enum-told .given .1),
+      λ e. clear-refused e (c .enum-told .given .1),
+    )
 
 enum-told-2 : tie.Need-enum-told-2 Inv-loop μ-loop
 enum-told-2 c = search needs
@@ -78,8 +85,17 @@ store-requires c κs =
     let end = to .before in
     let turn = end .before .before in
     let loop = turn .before .before in
-    let start = loop .before .before .before .before in
-    (omega (arith, below (sym (meaning-states (start .args .m))) (turn .if1 .taken), start .pre .0 .few-states), (size-low (meaning (start .args .m)) (now (start .args .w)) (loop .loop .s) (found .transfer .result) (end .word-end .result) (to .following .result) (sym (meaning-states (start .args .m))) (end .word-end .ensures (start .args .m .n) (start .args .m .start) (start .args .m .answer)) (to .following .ensures) (found .transfer .ensures) (check .refuse .ensures) (loop .loop .inv .1) (start .pre .0) few (clear .enum-told2 .given .1), (few, loop .loop .inv .1 .filled .long)))
+    let start = loop .before .before .before .before in (
+      omega (arith, below (sym (meaning-states (start .args .m))) (turn .if1 .taken), start .pre .0 .few-states),
+      (
+        size-low (meaning (start .args .m)) (now (start .args .w)) (loop .loop .s) (found .transfer .result)
+            (end .word-end .result) (to .following .result) (sym (meaning-states (start .args .m)))
+            (end .word-end .ensures (start .args .m .n) (start .args .m .start) (start .args .m .answer))
+            (to .following .ensures) (found .transfer .ensures) (check .refuse .ensures) (loop .loop .inv .1)
+            (start .pre .0) few (clear .enum-told2 .given .1),
+        (few, loop .loop .inv .1 .filled .long),
+      ),
+    )
 
 add-s : tie.Need-add-s Inv-loop μ-loop
 add-s c = search needs
@@ -98,8 +114,15 @@ loop-again c =
     let turn = end .before .before in
     let loop = turn .before .before in
     let start = loop .before .before .before .before in
-    let few = store-requires (c .before .before .before) (stored .store .lifetimes) .1 .1 .0 in
-    (stored .store .kept .0 ∙ loop .loop .inv .0, connecting-on (meaning (start .args .m)) (now (start .args .w)) (loop .loop .s) (found .transfer .result) (end .word-end .result) (to .following .result) (sym (meaning-states (start .args .m))) (end .word-end .ensures (start .args .m .n) (start .args .m .start) (start .args .m .answer)) (to .following .ensures) (found .transfer .ensures) (check .refuse .ensures) (loop .loop .inv .1) (start .pre .0) few (clear .enum-told2 .given .1) (below (sym (meaning-states (start .args .m))) (turn .if1 .taken)) (stored .store .ensures))
+    let few = store-requires (c .before .before .before) (stored .store .lifetimes) .1 .1 .0 in (
+      stored .store .kept .0 ∙ loop .loop .inv .0,
+      connecting-on (meaning (start .args .m)) (now (start .args .w)) (loop .loop .s) (found .transfer .result)
+          (end .word-end .result) (to .following .result) (sym (meaning-states (start .args .m)))
+          (end .word-end .ensures (start .args .m .n) (start .args .m .start) (start .args .m .answer))
+          (to .following .ensures) (found .transfer .ensures) (check .refuse .ensures) (loop .loop .inv .1)
+          (start .pre .0) few (clear .enum-told2 .given .1)
+          (below (sym (meaning-states (start .args .m))) (turn .if1 .taken)) (stored .store .ensures),
+    )
 
 same-length-2 : tie.Need-same-length-2 Inv-loop μ-loop
 same-length-2 c = c .before .before .loop .inv .0
@@ -107,8 +130,10 @@ same-length-2 c = c .before .before .loop .inv .0
 returns-2 : tie.Need-returns-2 Inv-loop μ-loop
 returns-2 c =
     let start = c .before .before .before .before .before .before in
-    let l = not-below (sym (meaning-states (start .args .m))) (c .if1 .left) in
-    (connecting-clear (meaning (start .args .m)) (now (start .args .w)) _ (c .before .before .loop .inv .1) l, λ e. connecting-filled (meaning (start .args .m)) (now (start .args .w)) _ (c .before .before .loop .inv .1) l)
+    let l = not-below (sym (meaning-states (start .args .m))) (c .if1 .left) in (
+      connecting-clear (meaning (start .args .m)) (now (start .args .w)) _ (c .before .before .loop .inv .1) l,
+      λ e. connecting-filled (meaning (start .args .m)) (now (start .args .w)) _ (c .before .before .loop .inv .1) l,
+    )
 
 pub connect-spec : {M : Type 1} → statement M
 connect-spec =

@@ -26,12 +26,14 @@ put-requires c κs = search needs
 
 same-length : tie.Need-same-length
 same-length c =
-    c .before .before .put .kept .1 .1 .0 ∙ length-set (now (c .before .before .before .before .before .before .before .args .rows)) _ _
+    c .before .before .put .kept .1 .1 .0
+    ∙ length-set (now (c .before .before .before .before .before .before .before .args .rows)) _ _
 
 returns : tie.Need-returns
 returns c =
     let start = c .before .before .before .before .before .before .before in
-    row-stored (now (start .args .rows)) (now (start .args .commands)) (start .args .s) (start .args .size) (start .pre .0) (start .pre .1 .0) (start .pre .1 .1 .0) (start .pre .1 .1 .1) (c .before .before .put .ensures .0)
+    row-stored (now (start .args .rows)) (now (start .args .commands)) (start .args .s) (start .args .size)
+    (start .pre .0) (start .pre .1 .0) (start .pre .1 .1 .0) (start .pre .1 .1 .1) (c .before .before .put .ensures .0)
 
 pub store-spec : {M : Type 1} → statement M
 store-spec =

@@ -1,5 +1,5 @@
--- `build::transfers::descend` meets its contract. The loop's invariant: a way down from s, behind the commands so far, is one from the beginning.
--- Assumes nothing.
+-- `build::transfers::descend` meets its contract. The loop's invariant: a way down from s, behind the commands so far,
+-- is one from the beginning. Assumes nothing.
 use borrow.Author.Needs.{needs}
 use Prim.Native.Nat.{ℕ, _-_}
 use lib.ListN.{length-replicate}
@@ -44,7 +44,10 @@ loop-less : tie.Need-loop-less Inv-loop μ-loop
 loop-less c = search needs
 
 loop-again : tie.Need-loop-again Inv-loop μ-loop
-loop-again c = descending-on (search needs) (c .before .before .before .loop-test .taken) (c .before .before .before .before .loop .inv) (c .before .before .first-step .ensures) (c .before .entry-at .ensures) (c .byte .ensures)
+loop-again c =
+    descending-on (search needs) (c .before .before .before .loop-test .taken)
+    (c .before .before .before .before .loop .inv) (c .before .before .first-step .ensures)
+    (c .before .entry-at .ensures) (c .byte .ensures)
 
 returns : tie.Need-returns Inv-loop μ-loop
 returns c = descending-all (c .before .loop .inv) (c .loop-test .left)

@@ -15,7 +15,10 @@ array-read-length : tie.Need-array-read-length
 array-read-length c = search needs
 
 returns : tie.Need-returns
-returns c = let m = c .before .before .before .before .args .m in answer-none (m .n) (m .k) (m .start) (m .next) (m .answer) _ _ (search needs) (search needs) (c .before .distances .ensures _ _) _ (c .if1 .taken)
+returns c =
+    let m = c .before .before .before .before .args .m in
+    answer-none (m .n) (m .k) (m .start) (m .next) (m .answer) _ _ (search needs) (search needs)
+    (c .before .distances .ensures _ _) _ (c .if1 .taken)
 
 slice-aggregate-descend : tie.Need-slice-aggregate-descend
 slice-aggregate-descend c = search needs
@@ -24,7 +27,11 @@ descend-requires : tie.Need-descend-requires
 descend-requires c κs = search needs
 
 returns-2 : tie.Need-returns-2
-returns-2 c = let m = c .before .before .before .before .before .before .before .args .m in answer-some (m .n) (m .k) (m .start) (m .next) (m .answer) _ _ (search needs) (search needs) (c .before .before .before .before .distances .ensures _ _) (c .before .before .before .if1 .left) (c .descend .ensures)
+returns-2 c =
+    let m = c .before .before .before .before .before .before .before .args .m in
+    answer-some (m .n) (m .k) (m .start) (m .next) (m .answer) _ _ (search needs) (search needs)
+    (c .before .before .before .before .distances .ensures _ _) (c .before .before .before .if1 .left)
+    (c .descend .ensures)
 
 pub transfer-spec : {M : Type 1} → statement M
 transfer-spec =

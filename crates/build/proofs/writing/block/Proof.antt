@@ -43,8 +43,11 @@ same-length c = search needs
 
 returns : tie.Need-returns
 returns c =
-    let start = c .before .before .before .before .before .before .before .before .before .before .before .before .before in
-    writes-append (now (start .args .w)) _ (c .before .before .before .before .before .before .before .before .put .ensures) (writes-row (now (start .args .rows)) (start .args .s) refl (c .before .before .put2 .ensures))
+    let start =
+    c .before .before .before .before .before .before .before .before .before .before .before .before .before in
+    writes-append (now (start .args .w)) _
+    (c .before .before .before .before .before .before .before .before .put .ensures)
+    (writes-row (now (start .args .rows)) (start .args .s) refl (c .before .before .put2 .ensures))
 
 pub block-spec : {M : Type 1} → statement M
 block-spec =

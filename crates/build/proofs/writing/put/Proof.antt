@@ -19,7 +19,10 @@ same-length c = search needs
 returns : tie.Need-returns
 returns c =
     let args = c .before .before .before .before .before .before .args in
-    record { ends = refl; written = λ l. c .before .before .put .ensures .0 ∙ put-fits (now (args .buffer)) (args .at) (now (args .xs)) l }
+    record {
+      ends = refl;
+      written = λ l. c .before .before .put .ensures .0 ∙ put-fits (now (args .buffer)) (args .at) (now (args .xs)) l;
+    }
 
 pub put-spec : {M : Type 1} → statement M
 put-spec = tie.close (tie.spec put-requires add-result same-length returns)

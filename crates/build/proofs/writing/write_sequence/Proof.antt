@@ -13,7 +13,8 @@ opening-requires c κs = search needs
 tests-requires : tie.Need-tests-requires
 tests-requires c κs =
     let start = c .before .before .before .before .before .before .before .before in
-    tests-required (meaning (start .args .m)) (now (start .args .w)) (now (start .args .rows)) (now (start .args .buffer)) (start .pre) (c .before .before .before .opening .ensures)
+    tests-required (meaning (start .args .m)) (now (start .args .w)) (now (start .args .rows))
+    (now (start .args .buffer)) (start .pre) (c .before .before .before .opening .ensures)
 
 same-length : tie.Need-same-length
 same-length c = search needs
@@ -21,7 +22,9 @@ same-length c = search needs
 returns : tie.Need-returns
 returns c =
     let start = c .before .before .before .before .before .before .before .before .before .before .before in
-    sequence-written (meaning (start .args .m)) (now (start .args .w)) (now (start .args .rows)) (now (start .args .buffer)) (start .pre) (c .before .before .before .before .before .before .opening .ensures) (c .before .before .tests .ensures)
+    sequence-written (meaning (start .args .m)) (now (start .args .w)) (now (start .args .rows))
+    (now (start .args .buffer)) (start .pre) (c .before .before .before .before .before .before .opening .ensures)
+    (c .before .before .tests .ensures)
 
 pub write-sequence-spec : {M : Type 1} → statement M
 write-sequence-spec = tie.close (tie.spec opening-requires tests-requires same-length returns)

@@ -7,7 +7,8 @@ use Rattle.cases.proofs.buffers.lent.Statement.{statement}
 use Rattle.cases.proofs.buffers.lent.Tie as tie
 
 slice-aggregate-result : tie.Need-slice-aggregate-result
-slice-aggregate-result c = omega (arith, length-take (c .before .before .args .size) (c .before .before .args .buf .now))
+slice-aggregate-result c =
+    omega (arith, length-take (c .before .before .args .size) (c .before .before .args .buf .now))
 
 returns : tie.Need-returns
 returns c = search needs

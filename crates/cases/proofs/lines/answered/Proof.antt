@@ -1,5 +1,5 @@
--- `cases::lines::answered` meets its contract: no more cases than bytes are passed, and what is left of the input falls.
--- Assumes nothing.
+-- `cases::lines::answered` meets its contract: no more cases than bytes are passed, and what is left of the input
+-- falls. Assumes nothing.
 use borrow.Author.Needs.{needs}
 use Prim.Native.Nat.{_-_, _≤_}
 use mathlib.Core.Path.{_≡_}
@@ -8,7 +8,8 @@ use Rattle.cases.proofs.lines.answered.Statement.{statement}
 use Rattle.cases.proofs.lines.answered.Tie as tie
 
 abbrev Inv-loop : tie.InvT-loop
-Inv-loop input parts₀ buf₀ out₀ used₀ cases₀ at₀ t11 t12 parts buf out used cases at = (cases ≤ at) × (length parts ≡ length parts₀) × (length buf ≡ length buf₀) × (length out ≡ length out₀)
+Inv-loop input parts₀ buf₀ out₀ used₀ cases₀ at₀ t11 t12 parts buf out used cases at =
+    (cases ≤ at) × (length parts ≡ length parts₀) × (length buf ≡ length buf₀) × (length out ≡ length out₀)
 
 abbrev μ-loop : tie.MeasureT-loop
 μ-loop input parts₀ buf₀ out₀ used₀ cases₀ at₀ t11 t12 parts buf out used cases at = length input - at

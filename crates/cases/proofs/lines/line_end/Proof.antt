@@ -1,5 +1,5 @@
--- `cases::lines::line_end` meets its contract: the end lies between the start and the end of the input, and what is left of that falls.
--- Assumes nothing.
+-- `cases::lines::line_end` meets its contract: the end lies between the start and the end of the input, and what is
+-- left of that falls. Assumes nothing.
 use borrow.Author.Needs.{needs}
 use Prim.Native.Nat.{_-_, _≤_}
 use lib.ListN.{length}

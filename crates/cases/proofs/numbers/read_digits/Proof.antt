@@ -1,5 +1,5 @@
--- `cases::numbers::read_digits` meets its contract: each place is below the line's length, and what is left of the line falls.
--- Assumes nothing.
+-- `cases::numbers::read_digits` meets its contract: each place is below the line's length, and what is left of the line
+-- falls. Assumes nothing.
 use borrow.Author.Needs.{needs}
 use Prim.Native.Nat.{_-_}
 use lib.ListN.{length}

@@ -32,7 +32,9 @@ add-result : tie.Need-add-result
 add-result c = search needs
 
 returns : tie.Need-returns
-returns c = let h = c .before .before .before .alternative .ensures in added _ (h .path) (c .if1 .taken) (h .last (c .if1 .taken)) refl refl
+returns c =
+    let h = c .before .before .before .alternative .ensures in
+    added _ (h .path) (c .if1 .taken) (h .last (c .if1 .taken)) refl refl
 
 add-result-2 : tie.Need-add-result-2
 add-result-2 c = omega (arith, c .before .before .before .alternative .ensures .inside)

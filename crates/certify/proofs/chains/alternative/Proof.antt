@@ -35,10 +35,18 @@ returns : tie.Need-returns Inv-loop μ-loop
 returns c = along-last (c .before .before .before .before .before .loop .inv) (c .before .wide .ensures) (c .if2 .taken)
 
 loop-less : tie.Need-loop-less Inv-loop μ-loop
-loop-less c = omega (arith, c .before .before .before .before .before .loop .inv .inside, along-less (c .before .before .before .before .before .loop .inv) (c .before .before .before .before .before .before .before .pre .1 .1) (c .before .wide .ensures) (c .if2 .left))
+loop-less c = omega (
+  arith,
+  c .before .before .before .before .before .loop .inv .inside,
+  along-less (c .before .before .before .before .before .loop .inv)
+      (c .before .before .before .before .before .before .before .pre .1 .1) (c .before .wide .ensures) (c .if2 .left),
+)
 
 loop-again : tie.Need-loop-again Inv-loop μ-loop
-loop-again c = along-on (c .before .before .before .before .before .loop .inv) (c .before .before .before .before .before .before .before .pre .1 .1) (c .before .wide .ensures) (c .if2 .left) (c .before .before .before .if1 .taken)
+loop-again c =
+    along-on (c .before .before .before .before .before .loop .inv)
+    (c .before .before .before .before .before .before .before .pre .1 .1) (c .before .wide .ensures) (c .if2 .left)
+    (c .before .before .before .if1 .taken)
 
 returns-2 : tie.Need-returns-2 Inv-loop μ-loop
 returns-2 c = along-found (c .before .before .loop .inv) (c .if1 .left)

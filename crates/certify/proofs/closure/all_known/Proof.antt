@@ -35,7 +35,8 @@ loop-less c = search needs
 
 loop-again : tie.Need-loop-again Inv-loop μ-loop
 loop-again c =
-    below-more (λ (e : ℕ). getD (now (c .before .before .before .before .args .known)) e 0 ≡ 0 → ⊥) (c .before .before .before .loop .e) (c .before .before .before .loop .inv) (c .if1 .left)
+    below-more (λ (e : ℕ). getD (now (c .before .before .before .before .args .known)) e 0 ≡ 0 → ⊥)
+    (c .before .before .before .loop .e) (c .before .before .before .loop .inv) (c .if1 .left)
 
 returns-2 : tie.Need-returns-2 Inv-loop μ-loop
 returns-2 c t e l = c .before .loop .inv e (omega (arith, c .loop-test .left))

@@ -1,5 +1,5 @@
--- `certify::closure::mark_behind` meets its contract. The loop's invariant: the marks before p are written, and seen is 1 exactly behind a
--- marked place.
+-- `certify::closure::mark_behind` meets its contract. The loop's invariant: the marks before p are written, and seen is
+-- 1 exactly behind a marked place.
 -- Assumes nothing.
 use borrow.Author.Needs.{needs}
 use native.Mathlib.Omega.{arith}

@@ -31,9 +31,12 @@ first-of-requires-2 c κs = search needs
 returns : tie.Need-returns
 returns c =
     let start = c .before .before .before .before .before .before .before .before in
-    sequence-loaded (start .args .answers) (start .args .room) (now (start .args .sheet)) (c .before .before .before .before .before .before .load-sheet .ensures)
-    (handed-content _ (start .args .sheet) (c .before .before .before .before .read .result) (c .before .before .before .before .read .ensures))
-    (c .before .before .before .commands .ensures) (c .before .before .refuse .ensures) (c .before .first-of .ensures) (c .first-of2 .ensures)
+    sequence-loaded (start .args .answers) (start .args .room) (now (start .args .sheet))
+    (c .before .before .before .before .before .before .load-sheet .ensures)
+    (handed-content _ (start .args .sheet) (c .before .before .before .before .read .result)
+    (c .before .before .before .before .read .ensures))
+    (c .before .before .before .commands .ensures) (c .before .before .refuse .ensures) (c .before .first-of .ensures)
+    (c .first-of2 .ensures)
 
 pub load-sequence-spec : {M : Type 1} → statement M
 load-sequence-spec =

@@ -47,9 +47,17 @@ same-length c = search needs
 
 returns-4 : tie.Need-returns-4
 returns-4 c =
-    Followed.steps (c .before .before .before .before .before .before .before .before .alternative .result) (c .before .before .before .byte .result) (omega (arith, c .before .before .before .before .before .before .before .before .before .before .if2 .left)) (c .before .before .before .before .before .before .before .before .alternative .ensures .inside)
-    (c .before .before .before .before .before .before .before .before .alternative .ensures .path) (c .before .before .before .before .before .before .if3 .left)
-    (c .before .before .before .byte .ensures ∙ ap (λ (e : ℕ). getD (c .before .before .before .before .before .before .before .before .before .before .before .before .before .before .before .args .next .now) e 0) (c .before .before .before .before .before .entry-at .ensures)) (c .before .before .equalise .ensures)
+    Followed.steps (c .before .before .before .before .before .before .before .before .alternative .result)
+    (c .before .before .before .byte .result)
+    (omega (arith, c .before .before .before .before .before .before .before .before .before .before .if2 .left))
+    (c .before .before .before .before .before .before .before .before .alternative .ensures .inside)
+    (c .before .before .before .before .before .before .before .before .alternative .ensures .path)
+    (c .before .before .before .before .before .before .if3 .left)
+    (c .before .before .before .byte .ensures
+    ∙ ap (λ (e : ℕ). getD (c .before .before .before .before .before .before .before .before .before .before .before
+    .before .before .before .before .args .next .now) e 0)
+    (c .before .before .before .before .before .entry-at .ensures))
+    (c .before .before .equalise .ensures)
 
 pub follow-spec : {M : Type 1} → statement M
 follow-spec =

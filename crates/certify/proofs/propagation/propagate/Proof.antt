@@ -1,5 +1,5 @@
--- `certify::propagation::propagate` meets its contract: the loop keeps the marks in the closure and the two places paired.
--- Assumes nothing.
+-- `certify::propagation::propagate` meets its contract: the loop keeps the marks in the closure and the two places
+-- paired. Assumes nothing.
 use borrow.Author.Needs.{needs}
 use Prim.Native.Nat.{_+_}
 use mathlib.Core.Path.{_≡_}
@@ -12,7 +12,8 @@ use Rattle.certify.proofs.propagation.propagate.Tie as tie
 
 abbrev Inv-loop : tie.InvT-loop
 Inv-loop xs next k marks₀ alt root p s steps left₀ at₀ marks left at =
-    (length marks ≡ length xs + 1) × ((M : Mealy) → PropagateRequires M xs marks₀ next alt root k p s → Propagating M xs marks₀ marks at)
+    (length marks ≡ length xs + 1)
+    × ((M : Mealy) → PropagateRequires M xs marks₀ next alt root k p s → Propagating M xs marks₀ marks at)
 
 abbrev μ-loop : tie.MeasureT-loop
 μ-loop xs next k marks₀ alt root p s steps left₀ at₀ marks left at = left
@@ -21,7 +22,10 @@ restart-requires : tie.Need-restart-requires Inv-loop μ-loop
 restart-requires c κs = search needs
 
 loop-holds : tie.Need-loop-holds Inv-loop μ-loop
-loop-holds c = (c .before .before .before .before .pre .0, λ M h. propagation-starts h (c .before .before .before .before .pre .0) (c .restart .ensures))
+loop-holds c = (
+  c .before .before .before .before .pre .0,
+  λ M h. propagation-starts h (c .before .before .before .before .pre .0) (c .restart .ensures),
+)
 
 enum-known-at : tie.Need-enum-known-at Inv-loop μ-loop
 enum-known-at c = search needs
@@ -45,7 +49,11 @@ loop-less : tie.Need-loop-less Inv-loop μ-loop
 loop-less c = search needs
 
 loop-again : tie.Need-loop-again Inv-loop μ-loop
-loop-again c = (search needs, λ M h. propagation-on h (c .before .before .before .before .before .before .before .before .loop .inv .1 M h) (c .before .before .before .before .before .at .given .1) (c .before .before .follow .ensures))
+loop-again c = (
+  search needs,
+  λ M h. propagation-on h (c .before .before .before .before .before .before .before .before .loop .inv .1 M h)
+      (c .before .before .before .before .before .at .given .1) (c .before .before .follow .ensures),
+)
 
 same-length-2 : tie.Need-same-length-2 Inv-loop μ-loop
 same-length-2 c = search needs

@@ -20,7 +20,8 @@ enum-known-check c = search needs
 returns : tie.Need-returns
 returns c =
     let start = c .before .before .before .before .before .before .before in
-    certifies-refused (now (start .args .sheet)) (now (start .args .marks)) (c .before .before .before .before .load-sequence .ensures .check) (c .before .check .given .1)
+    certifies-refused (now (start .args .sheet)) (now (start .args .marks))
+    (c .before .before .before .before .load-sequence .ensures .check) (c .before .check .given .1)
 
 enum-told : tie.Need-enum-told
 enum-told c = search needs
@@ -61,16 +62,24 @@ recognise-requires c κs =
 
 same-length : tie.Need-same-length
 same-length c =
-    length-front (now (c .before .before .before .before .before .before .before .before .before .before .before .before .args .marks)) (c .before .before .recognise .last .1 .1 .1 .0) (length (now (c .before .before .before .before .read2 .result)) + 1) (c .before .before .recognise .kept .1 .1 .1 .0)
+    length-front (now
+    (c .before .before .before .before .before .before .before .before .before .before .before .before .args .marks))
+    (c .before .before .recognise .last .1 .1 .1 .0)
+    (length (now (c .before .before .before .before .read2 .result)) + 1)
+    (c .before .before .recognise .kept .1 .1 .1 .0)
 
 returns-2 : tie.Need-returns-2
 returns-2 c =
     let start = c .before .before .before .before .before .before .before .before .before .before .before .before in
     let h = c .before .before .before .before .before .before .before .before .before .load-sequence .ensures in
     let clear = c .before .before .before .before .before .before .enum-told .given .1 in
-    let xe = handed-content _ (start .args .sheet) (c .before .before .before .before .read2 .result) (c .before .before .before .before .read2 .ensures) in
+    let xe =
+    handed-content _ (start .args .sheet) (c .before .before .before .before .read2 .result)
+    (c .before .before .before .before .read2 .ensures) in
     certifies-clear (now (start .args .sheet)) (now (start .args .marks)) (h .check) clear (h .machine clear)
-    (handed-content _ (start .args .sheet) (c .before .before .before .before .before .read .result) (c .before .before .before .before .before .read .ensures)) xe (c .before .before .recognise .ensures .0) (c .before .before .recognise .ensures .1) refl
+    (handed-content _ (start .args .sheet) (c .before .before .before .before .before .read .result)
+    (c .before .before .before .before .before .read .ensures)) xe
+    (c .before .before .recognise .ensures .0) (c .before .before .recognise .ensures .1) refl
 
 pub certify-spec : {M : Type 1} → statement M
 certify-spec =

@@ -28,7 +28,9 @@ element-write-known : tie.Need-element-write-known
 element-write-known c = search needs
 
 returns-3 : tie.Need-returns-3
-returns-3 c = Learnt.learns (c .before .before .before .before .if1 .left) (c .before .before .if2 .taken) (c .if3 .left) refl refl refl
+returns-3 c =
+    Learnt.learns (c .before .before .before .before .if1 .left) (c .before .before .if2 .taken)
+    (c .if3 .left) refl refl refl
 
 element-copy-out-if4 : tie.Need-element-copy-out-if4
 element-copy-out-if4 c = search needs
@@ -43,7 +45,9 @@ same-length : tie.Need-same-length
 same-length c = search needs
 
 returns-5 : tie.Need-returns-5
-returns-5 c = Learnt.applies (c .before .before .before .before .before .if1 .left) (c .before .before .before .if2 .left) (c .before .if4 .left) refl refl refl
+returns-5 c =
+    Learnt.applies (c .before .before .before .before .before .if1 .left) (c .before .before .before .if2 .left)
+    (c .before .if4 .left) refl refl refl
 
 returns-6 : tie.Need-returns-6
 returns-6 c = Learnt.waits (c .before .before .before .if2 .left) (c .if5 .left) refl refl refl

@@ -29,10 +29,17 @@ represent-requires : tie.Need-represent-requires
 represent-requires c κs = search needs
 
 advance-requires-2 : tie.Need-advance-requires-2
-advance-requires-2 c κs = let h = rooted-inside (c .before .before .before .before .before .before .before .before .before .pre .1 .0) (c .before .before .before .before .before .before .before .before .before .pre .1 .1 .1 .1 .1) (c .before .represent .ensures) in search needs
+advance-requires-2 c κs =
+    let h =
+    rooted-inside (c .before .before .before .before .before .before .before .before .before .pre .1 .0)
+    (c .before .before .before .before .before .before .before .before .before .pre .1 .1 .1 .1 .1)
+    (c .before .represent .ensures) in
+    search needs
 
 returns-3 : tie.Need-returns-3
-returns-3 c = NextRepresented.marked (c .before .before .before .before .before .before .if1 .left) (c .before .before .before .before .if2 .left) _ (c .before .before .represent .ensures) (c .advance2 .ensures)
+returns-3 c =
+    NextRepresented.marked (c .before .before .before .before .before .before .if1 .left)
+    (c .before .before .before .before .if2 .left) _ (c .before .before .represent .ensures) (c .advance2 .ensures)
 
 pub represent-next-spec : {M : Type 1} → statement M
 represent-next-spec =

@@ -34,7 +34,13 @@ add-n : tie.Need-add-n Inv-loop μ-loop
 add-n c =
     let marks = now (c .before .before .before .before .before .args .marks) in
     let next = count-next marks (c .before .before .before .loop .i) (c .before .before .loop-test .taken) in
-    omega (arith, c .before .before .before .loop .inv .1, c .bit .ensures, count-most (take (c .before .before .before .loop .i + 1) marks), length-take (c .before .before .before .loop .i + 1) marks)
+    omega (
+      arith,
+      c .before .before .before .loop .inv .1,
+      c .bit .ensures,
+      count-most (take (c .before .before .before .loop .i + 1) marks),
+      length-take (c .before .before .before .loop .i + 1) marks,
+    )
 
 add-i : tie.Need-add-i Inv-loop μ-loop
 add-i c = search needs
@@ -43,10 +49,17 @@ loop-less : tie.Need-loop-less Inv-loop μ-loop
 loop-less c = search needs
 
 loop-again : tie.Need-loop-again Inv-loop μ-loop
-loop-again c = (search needs, ap₂ _+_ (c .before .before .before .loop .inv .1) (c .bit .ensures) ∙ sym (count-next (now (c .before .before .before .before .before .args .marks)) (c .before .before .before .loop .i) (c .before .before .loop-test .taken)))
+loop-again c = (
+  search needs,
+  ap₂ _+_ (c .before .before .before .loop .inv .1) (c .bit .ensures)
+      ∙ sym (count-next (now (c .before .before .before .before .before .args .marks))
+      (c .before .before .before .loop .i) (c .before .before .loop-test .taken)),
+)
 
 returns : tie.Need-returns Inv-loop μ-loop
-returns c = c .before .loop .inv .1 ∙ ap count (take-all (c .before .loop .i) (now (c .before .before .before .args .marks)) (c .loop-test .left))
+returns c =
+    c .before .loop .inv .1
+    ∙ ap count (take-all (c .before .loop .i) (now (c .before .before .before .args .marks)) (c .loop-test .left))
 
 pub count-spec : {M : Type 1} → statement M
 count-spec =

@@ -32,7 +32,9 @@ enum-told : tie.Need-enum-told Inv-loop μ-loop
 enum-told c = search needs
 
 returns : tie.Need-returns Inv-loop μ-loop
-returns c = first-stops _ (search needs) (c .before .before .before .before .before .loop .inv .1) (c .before .before .refuse .ensures) (c .enum-told .given .1)
+returns c =
+    first-stops _ (search needs) (c .before .before .before .before .before .loop .inv .1)
+    (c .before .before .refuse .ensures) (c .enum-told .given .1)
 
 enum-told-2 : tie.Need-enum-told-2 Inv-loop μ-loop
 enum-told-2 c = search needs
@@ -44,7 +46,11 @@ loop-less : tie.Need-loop-less Inv-loop μ-loop
 loop-less c = search needs
 
 loop-again : tie.Need-loop-again Inv-loop μ-loop
-loop-again c = (search needs, first-goes-on _ _ (c .before .before .before .before .before .loop .inv .1) (c .before .before .refuse .ensures) (c .enum-told2 .given .1))
+loop-again c = (
+  search needs,
+  first-goes-on _ _ (c .before .before .before .before .before .loop .inv .1) (c .before .before .refuse .ensures)
+      (c .enum-told2 .given .1),
+)
 
 returns-2 : tie.Need-returns-2 Inv-loop μ-loop
 returns-2 c = first-ends _ (c .before .loop .inv .0) (c .loop-test .left) (c .before .loop .inv .1)

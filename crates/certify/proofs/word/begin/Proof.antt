@@ -12,7 +12,8 @@ use Rattle.certify.proofs.word.begin.Statement.{statement}
 use Rattle.certify.proofs.word.begin.Tie as tie
 
 abbrev Inv-loop : tie.InvT-loop
-Inv-loop count marks₀ p₀ marks p = (length marks ≡ length marks₀) × ((q : ℕ) → q < p → getD marks q 0 ≡ mark (ltb q count))
+Inv-loop count marks₀ p₀ marks p =
+    (length marks ≡ length marks₀) × ((q : ℕ) → q < p → getD marks q 0 ≡ mark (ltb q count))
 
 abbrev μ-loop : tie.MeasureT-loop
 μ-loop count marks₀ p₀ marks p = length marks₀ - p
@@ -34,8 +35,11 @@ loop-less c = omega (arith, c .before .before .loop .inv .0, c .before .loop-tes
 
 loop-again : tie.Need-loop-again Inv-loop μ-loop
 loop-again c =
-    let head = c .before .before .loop in
-    (length-set (head .marks) (head .p) (c .bit .result) ∙ head .inv .0, begun-on (head .marks) (head .p) (c .bit .result) (c .before .before .before .before .args .count) (c .before .loop-test .taken) (head .inv .1) (c .bit .ensures))
+    let head = c .before .before .loop in (
+      length-set (head .marks) (head .p) (c .bit .result) ∙ head .inv .0,
+      begun-on (head .marks) (head .p) (c .bit .result) (c .before .before .before .before .args .count)
+          (c .before .loop-test .taken) (head .inv .1) (c .bit .ensures),
+    )
 
 same-length : tie.Need-same-length Inv-loop μ-loop
 same-length c = c .before .loop .inv .0

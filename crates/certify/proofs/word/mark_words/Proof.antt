@@ -1,5 +1,5 @@
--- `certify::word::mark_words` meets its contract. The loop's invariant: a mark tells whether the first j commands of the word stand at its place.
--- Assumes nothing.
+-- `certify::word::mark_words` meets its contract. The loop's invariant: a mark tells whether the first j commands of
+-- the word stand at its place. Assumes nothing.
 use native.Mathlib.Omega.{arith}
 use borrow.Author.Needs.{needs}
 use Prim.Native.Nat.{_-_}
@@ -25,7 +25,8 @@ begin-requires c κs = search needs
 loop-holds : tie.Need-loop-holds Inv-loop μ-loop
 loop-holds c =
     let start = c .before .before .before .before .before .before .before .before in
-    written-starts (now (start .args .w)) (now (start .args .xs)) (start .pre) (c .before .before .before .before .places .ensures) (c .before .before .begin .ensures)
+    written-starts (now (start .args .w)) (now (start .args .xs)) (start .pre)
+    (c .before .before .before .before .places .ensures) (c .before .before .begin .ensures)
 
 shared-slice-read-pass : tie.Need-shared-slice-read-pass Inv-loop μ-loop
 shared-slice-read-pass c = search needs
@@ -44,14 +45,27 @@ loop-less c = search needs
 
 loop-again : tie.Need-loop-again Inv-loop μ-loop
 loop-again c =
-    let start = c .before .before .before .before .before .before .before .before .before .before .before .before .before .before .before in
-    written-on (now (start .args .w)) (now (start .args .xs)) (c .before .before .before .before .before .before .loop .inv) (c .before .before .before .before .before .loop-test .taken) (c .before .before .before .before .before .before .before .before .before .before .before .places .ensures) refl (c .before .before .pass .ensures)
+    let start =
+    c .before .before .before .before .before .before .before .before .before .before .before .before .before .before
+    .before in
+    written-on (now (start .args .w)) (now (start .args .xs))
+    (c .before .before .before .before .before .before .loop .inv)
+    (c .before .before .before .before .before .loop-test .taken)
+    (c .before .before .before .before .before .before .before .before .before .before .before .places .ensures) refl
+    (c .before .before .pass .ensures)
 
 same-length : tie.Need-same-length Inv-loop μ-loop
-same-length c = omega (arith, c .before .loop .inv .long, c .before .before .before .before .before .before .before .before .before .before .pre)
+same-length c = omega (
+  arith,
+  c .before .loop .inv .long,
+  c .before .before .before .before .before .before .before .before .before .before .pre,
+)
 
 returns : tie.Need-returns Inv-loop μ-loop
-returns c = written-all (now (c .before .before .before .before .before .before .before .before .before .before .args .w)) (now (c .before .before .before .before .before .before .before .before .before .before .args .xs)) (c .before .loop .inv) (c .loop-test .left)
+returns c =
+    written-all (now (c .before .before .before .before .before .before .before .before .before .before .args .w))
+    (now (c .before .before .before .before .before .before .before .before .before .before .args .xs))
+    (c .before .loop .inv) (c .loop-test .left)
 
 pub mark-words-spec : {M : Type 1} → statement M
 mark-words-spec =

@@ -1,5 +1,5 @@
--- `judge::comparison::compare` meets its contract. The loop's invariant: the answers before i are right, and s is the state there.
--- Assumes nothing.
+-- `judge::comparison::compare` meets its contract. The loop's invariant: the answers before i are right, and s is the
+-- state there. Assumes nothing.
 use borrow.Author.Needs.{needs}
 use native.Mathlib.Omega.{arith}
 use denote.Ref.{now}
@@ -7,7 +7,8 @@ use mathlib.Core.Path.{refl}
 use Prim.Native.Nat.{_-_}
 use lib.ListN.{length}
 use Rattle.machine.specs.Machine.{meaning}
-use Rattle.judge.proofs.Comparing.{Compared, compared-start, entry-inside, compared-wrong, compared-next, compared-unfinished, compared-passed}
+use Rattle.judge.proofs.Comparing.{Compared, compared-start, entry-inside, compared-wrong, compared-next}
+use Rattle.judge.proofs.Comparing.{compared-unfinished, compared-passed}
 use Rattle.judge.proofs.comparison.compare.Statement.{statement}
 use Rattle.judge.proofs.comparison.compare.Tie as tie
 
@@ -34,7 +35,8 @@ entry-at-requires c κs =
 array-read-specified : tie.Need-array-read-specified Inv-loop μ-loop
 array-read-specified c =
     let start = c .before .before .before .before .before .before .before .before in
-    entry-inside (start .args .m) (now (start .args .xs)) (now (start .args .ys)) (start .pre) (c .before .before .before .loop .inv) (c .before .before .loop-test .taken) (c .entry-at .ensures)
+    entry-inside (start .args .m) (now (start .args .xs)) (now (start .args .ys)) (start .pre)
+    (c .before .before .before .loop .inv) (c .before .before .loop-test .taken) (c .entry-at .ensures)
 
 shared-slice-read-given : tie.Need-shared-slice-read-given Inv-loop μ-loop
 shared-slice-read-given c =
@@ -43,12 +45,16 @@ shared-slice-read-given c =
 returns : tie.Need-returns Inv-loop μ-loop
 returns c =
     let start = c .before .before .before .before .before .before .before .before .before .before in
-    compared-wrong (start .args .m) (now (start .args .xs)) (now (start .args .ys)) (start .pre) (c .before .before .before .before .before .loop .inv) (c .before .before .before .before .loop-test .taken) (c .before .before .entry-at .ensures) refl refl (c .if1 .taken)
+    compared-wrong (start .args .m) (now (start .args .xs)) (now (start .args .ys)) (start .pre)
+    (c .before .before .before .before .before .loop .inv) (c .before .before .before .before .loop-test .taken)
+    (c .before .before .entry-at .ensures) refl refl (c .if1 .taken)
 
 array-read-s : tie.Need-array-read-s Inv-loop μ-loop
 array-read-s c =
     let start = c .before .before .before .before .before .before .before .before .before .before in
-    entry-inside (start .args .m) (now (start .args .xs)) (now (start .args .ys)) (start .pre) (c .before .before .before .before .before .loop .inv) (c .before .before .before .before .loop-test .taken) (c .before .before .entry-at .ensures)
+    entry-inside (start .args .m) (now (start .args .xs)) (now (start .args .ys)) (start .pre)
+    (c .before .before .before .before .before .loop .inv) (c .before .before .before .before .loop-test .taken)
+    (c .before .before .entry-at .ensures)
 
 add-i : tie.Need-add-i Inv-loop μ-loop
 add-i c =
@@ -61,17 +67,21 @@ loop-less c =
 loop-again : tie.Need-loop-again Inv-loop μ-loop
 loop-again c =
     let start = c .before .before .before .before .before .before .before .before .before .before in
-    compared-next (start .args .m) (now (start .args .xs)) (now (start .args .ys)) (start .pre) (c .before .before .before .before .before .loop .inv) (c .before .before .before .before .loop-test .taken) (c .before .before .entry-at .ensures) refl refl (c .if1 .left) refl
+    compared-next (start .args .m) (now (start .args .xs)) (now (start .args .ys)) (start .pre)
+    (c .before .before .before .before .before .loop .inv) (c .before .before .before .before .loop-test .taken)
+    (c .before .before .entry-at .ensures) refl refl (c .if1 .left) refl
 
 returns-2 : tie.Need-returns-2 Inv-loop μ-loop
 returns-2 c =
     let start = c .before .before .before .before .before .before .before in
-    compared-unfinished (start .args .m) (now (start .args .xs)) (now (start .args .ys)) (start .pre) (c .before .before .loop .inv) (c .before .loop-test .left) (omega (arith, c .if2 .taken, start .pre .few))
+    compared-unfinished (start .args .m) (now (start .args .xs)) (now (start .args .ys)) (start .pre)
+    (c .before .before .loop .inv) (c .before .loop-test .left) (omega (arith, c .if2 .taken, start .pre .few))
 
 returns-3 : tie.Need-returns-3 Inv-loop μ-loop
 returns-3 c =
     let start = c .before .before .before .before .before .before .before in
-    compared-passed (start .args .m) (now (start .args .xs)) (now (start .args .ys)) (start .pre) (c .before .before .loop .inv) (c .before .loop-test .left) (omega (arith, c .if2 .left))
+    compared-passed (start .args .m) (now (start .args .xs)) (now (start .args .ys)) (start .pre)
+    (c .before .before .loop .inv) (c .before .loop-test .left) (omega (arith, c .if2 .left))
 
 pub compare-spec : {M : Type 1} → statement M
 compare-spec =

@@ -1,5 +1,5 @@
--- `judge::service::judge` meets its contract: a refusal, or certifying's marks and refusal 11 or the verdict; and the identity claim.
--- Assumes nothing.
+-- `judge::service::judge` meets its contract: a refusal, or certifying's marks and refusal 11 or the verdict; and the
+-- identity claim. Assumes nothing.
 use borrow.Author.Needs.{needs}
 use denote.Ref.{now}
 use Prim.Native.Nat.{ℕ}
@@ -12,7 +12,8 @@ use Rattle.sheet.specs.Reader.{content}
 use Rattle.sheet.specs.Reader.Laws.{handed-content}
 use Rattle.judge.specs.Judging.{judgeCauses}
 use Rattle.judge.specs.Judging.Laws.{marking-clear}
-use Rattle.judge.proofs.Answering.{checks-are, few-here, promised, judges-refused, judges-certified, judges-open, judges-refused-there}
+use Rattle.judge.proofs.Answering.{checks-are, few-here, promised, judges-refused, judges-certified, judges-open}
+use Rattle.judge.proofs.Answering.{judges-refused-there}
 use Rattle.judge.proofs.service.judge.Statement.{statement}
 use Rattle.judge.proofs.service.judge.Tie as tie
 
@@ -45,17 +46,26 @@ abbrev buffer : tie.After-first-of → List ℕ
 buffer d = now (d .before .before .before .before .before .before .before .before .args .marks)
 
 sequence-is : (d : tie.After-first-of) → now (d .before .before .before .read .result) ≡ content 3 (sheet d)
-sequence-is d = handed-content _ (d .before .before .before .before .before .before .before .before .args .sheet) (d .before .before .before .read .result) (d .before .before .before .read .ensures)
+sequence-is d =
+    handed-content _ (d .before .before .before .before .before .before .before .before .args .sheet)
+    (d .before .before .before .read .result) (d .before .before .before .read .ensures)
 
 answers-are : (d : tie.After-first-of) → now (d .before .before .read2 .result) ≡ content 4 (sheet d)
-answers-are d = handed-content _ (d .before .before .before .before .before .before .before .before .args .sheet) (d .before .before .read2 .result) (d .before .before .read2 .ensures)
+answers-are d =
+    handed-content _ (d .before .before .before .before .before .before .before .before .args .sheet)
+    (d .before .before .read2 .result) (d .before .before .read2 .ensures)
 
 check-is : (d : tie.After-first-of) → d .first-of .result ≡ firstCause (judgeCauses (length (buffer d)) (sheet d))
 check-is d =
-    checks-are (length (buffer d)) (sheet d) (d .before .before .before .before .record-of .ensures) (sequence-is d) (answers-are d) (d .before .before .before .before .before .load-sequence .ensures .check) (d .before .refuse .ensures) (d .first-of .ensures)
+    checks-are (length (buffer d)) (sheet d) (d .before .before .before .before .record-of .ensures) (sequence-is d)
+    (answers-are d) (d .before .before .before .before .before .load-sequence .ensures .check)
+    (d .before .refuse .ensures) (d .first-of .ensures)
 
-loaded-clear : (d : tie.After-first-of) → d .first-of .result ≡ Clear → d .before .before .before .before .before .load-sequence .result .check ≡ Clear
-loaded-clear d clear = d .before .before .before .before .before .load-sequence .ensures .check ∙ marking-clear (length (buffer d)) (sheet d) (sym (check-is d) ∙ clear)
+loaded-clear : (d : tie.After-first-of) → d .first-of .result ≡ Clear
+    → d .before .before .before .before .before .load-sequence .result .check ≡ Clear
+loaded-clear d clear =
+    d .before .before .before .before .before .load-sequence .ensures .check
+    ∙ marking-clear (length (buffer d)) (sheet d) (sym (check-is d) ∙ clear)
 
 returns : tie.Need-returns
 returns c =
@@ -80,7 +90,9 @@ compare-requires c κs =
     record {
       proper = loaded .proper loading-clear;
       commands = rw (sequence-is d) (loaded .commands loading-clear);
-      few = few-here (length (buffer d)) (sheet d) (d .before .before .before .before .record-of .ensures) (sequence-is d) (answers-are d) (check-is d) clear;
+      few =
+          few-here (length (buffer d)) (sheet d) (d .before .before .before .before .record-of .ensures) (sequence-is d)
+          (answers-are d) (check-is d) clear;
     }
 
 enum-known-certified : tie.Need-enum-known-certified
@@ -96,7 +108,10 @@ returns-2 : tie.Need-returns-2
 returns-2 c =
     let d = c .before .before .before .before .before .before .before .before .before in
     let clear = c .before .before .before .before .before .before .before .enum-told .given .1 in
-    promised (judges-certified (sheet d) (buffer d) (check-is d) clear (c .before .before .before .before .before .certify .ensures) (c .before .enum-told2 .given .1) (d .before .before .before .before .before .load-sequence .ensures .machine (loaded-clear d clear)) (sequence-is d) (answers-are d) (c .compare .ensures))
+    promised (judges-certified (sheet d) (buffer d) (check-is d) clear
+    (c .before .before .before .before .before .certify .ensures) (c .before .enum-told2 .given .1)
+    (d .before .before .before .before .before .load-sequence .ensures .machine (loaded-clear d clear)) (sequence-is d)
+    (answers-are d) (c .compare .ensures))
 
 same-length-2 : tie.Need-same-length-2
 same-length-2 c = search needs
@@ -104,7 +119,9 @@ same-length-2 c = search needs
 returns-3 : tie.Need-returns-3
 returns-3 c =
     let d = c .before .before .before .before .before .before .before .before .before in
-    promised (judges-open (sheet d) (buffer d) (check-is d) (c .before .before .before .before .before .before .before .enum-told .given .1) (c .before .before .before .before .before .certify .ensures) (c .before .certified .given .1))
+    promised (judges-open (sheet d) (buffer d) (check-is d)
+    (c .before .before .before .before .before .before .before .enum-told .given .1)
+    (c .before .before .before .before .before .certify .ensures) (c .before .certified .given .1))
 
 same-length-3 : tie.Need-same-length-3
 same-length-3 c = search needs
@@ -112,7 +129,9 @@ same-length-3 c = search needs
 returns-4 : tie.Need-returns-4
 returns-4 c =
     let d = c .before .before .before .before .before .before .before .before .before in
-    promised (judges-refused-there (sheet d) (buffer d) (check-is d) (c .before .before .before .before .before .before .before .enum-told .given .1) (c .before .before .before .before .before .certify .ensures) (c .before .certified2 .given .1))
+    promised (judges-refused-there (sheet d) (buffer d) (check-is d)
+    (c .before .before .before .before .before .before .before .enum-told .given .1)
+    (c .before .before .before .before .before .certify .ensures) (c .before .certified2 .given .1))
 
 pub judge-spec : {M : Type 1} → statement M
 judge-spec =

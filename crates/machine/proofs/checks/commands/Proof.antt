@@ -23,12 +23,22 @@ refuse-requires c κs = search needs
 add-scan : tie.Need-add-scan
 add-scan c =
     let start = c .before .before .before .before .before .before in
-    omega (arith, read-inside (start .args .kind) (now (start .args .sheet)) (c .before .before .before .before .record-of .ensures) (handed-content _ (start .args .sheet) (c .before .before .before .read .result) (c .before .before .before .read .ensures)))
+    omega (
+      arith,
+      read-inside (start .args .kind) (now (start .args .sheet)) (c .before .before .before .before .record-of .ensures)
+          (handed-content _ (start .args .sheet) (c .before .before .before .read .result)
+          (c .before .before .before .read .ensures)),
+    )
 
 scan-requires : tie.Need-scan-requires
 scan-requires c κs =
     let start = c .before .before .before .before .before .before in
-    omega (arith, read-inside (start .args .kind) (now (start .args .sheet)) (c .before .before .before .before .record-of .ensures) (handed-content _ (start .args .sheet) (c .before .before .before .read .result) (c .before .before .before .read .ensures)))
+    omega (
+      arith,
+      read-inside (start .args .kind) (now (start .args .sheet)) (c .before .before .before .before .record-of .ensures)
+          (handed-content _ (start .args .sheet) (c .before .before .before .read .result)
+          (c .before .before .before .read .ensures)),
+    )
 
 first-of-requires : tie.Need-first-of-requires
 first-of-requires c κs = search needs
@@ -36,9 +46,12 @@ first-of-requires c κs = search needs
 returns : tie.Need-returns
 returns c =
     let start = c .before .before .before .before .before .before .before .before in
-    commands-are _ _ _ (start .args .kind) (now (start .args .sheet)) (c .before .before .before .before .before .before .record-of .ensures)
-    (handed-content _ (start .args .sheet) (c .before .before .before .before .before .read .result) (c .before .before .before .before .before .read .ensures))
-    (c .before .before .before .before .outside .ensures) (c .before .before .before .refuse .ensures) (c .before .scan .ensures) (c .first-of .ensures)
+    commands-are _ _ _ (start .args .kind) (now (start .args .sheet))
+    (c .before .before .before .before .before .before .record-of .ensures)
+    (handed-content _ (start .args .sheet) (c .before .before .before .before .before .read .result)
+    (c .before .before .before .before .before .read .ensures))
+    (c .before .before .before .before .outside .ensures) (c .before .before .before .refuse .ensures)
+    (c .before .scan .ensures) (c .first-of .ensures)
 
 pub commands-spec : {M : Type 1} → statement M
 commands-spec =

@@ -28,15 +28,24 @@ cast-scan-2 : tie.Need-cast-scan-2
 cast-scan-2 c = search needs
 
 mul-scan : tie.Need-mul-scan
-mul-scan c = omega (arith, bytes-product (c .before .before .byte .result) (c .before .byte2 .result) (search needs) (search needs))
+mul-scan c = omega (
+  arith,
+  bytes-product (c .before .before .byte .result) (c .before .byte2 .result) (search needs) (search needs),
+)
 
 scan-requires : tie.Need-scan-requires
-scan-requires c κs = omega (arith, bytes-product (c .before .before .byte .result) (c .before .byte2 .result) (search needs) (search needs))
+scan-requires c κs = omega (
+  arith,
+  bytes-product (c .before .before .byte .result) (c .before .byte2 .result) (search needs) (search needs),
+)
 
 returns : tie.Need-returns
 returns c =
     c .scan .ensures
-    ∙ ap₂ (λ (n k : ℕ). first (n * k) (byteCause 4 (c .before .before .before .before .before .args .r .start + 6) (now (c .before .before .before .before .before .args .p)) 2 2 n)) (c .before .before .before .byte .ensures) (c .before .before .byte2 .ensures)
+    ∙ ap₂ (λ (n k : ℕ). first (n * k)
+    (byteCause 4 (c .before .before .before .before .before .args .r .start + 6)
+    (now (c .before .before .before .before .before .args .p)) 2 2 n))
+    (c .before .before .before .byte .ensures) (c .before .before .byte2 .ensures)
     ∙ cause4-is _ _
 
 pub next-states-spec : {M : Type 1} → statement M

@@ -14,7 +14,8 @@ use Rattle.machine.proofs.checks.scan.Statement.{statement}
 use Rattle.machine.proofs.checks.scan.Tie as tie
 
 abbrev Inv-loop : tie.InvT-loop
-Inv-loop number base part from stride count bound i₀ i = (i ≤ count) × (first i (byteCause number base part from stride bound) ≡ Clear)
+Inv-loop number base part from stride count bound i₀ i =
+    (i ≤ count) × (first i (byteCause number base part from stride bound) ≡ Clear)
 
 abbrev μ-loop : tie.MeasureT-loop
 μ-loop number base part from stride count bound i₀ i = count - i
@@ -25,17 +26,29 @@ loop-holds c = (search needs, first-none _)
 mul-at : tie.Need-mul-at Inv-loop μ-loop
 mul-at c =
     let start = c .before .before .before in
-    omega (arith, index-fits (start .args .base) (start .args .from) (start .args .stride) (c .before .loop .i) (start .args .count) (search needs) (start .pre))
+    omega (
+      arith,
+      index-fits (start .args .base) (start .args .from) (start .args .stride) (c .before .loop .i) (start .args .count)
+          (search needs) (start .pre),
+    )
 
 add-at : tie.Need-add-at Inv-loop μ-loop
 add-at c =
     let start = c .before .before .before in
-    omega (arith, index-fits (start .args .base) (start .args .from) (start .args .stride) (c .before .loop .i) (start .args .count) (search needs) (start .pre))
+    omega (
+      arith,
+      index-fits (start .args .base) (start .args .from) (start .args .stride) (c .before .loop .i) (start .args .count)
+          (search needs) (start .pre),
+    )
 
 add-refuse : tie.Need-add-refuse Inv-loop μ-loop
 add-refuse c =
     let start = c .before .before .before in
-    omega (arith, index-fits (start .args .base) (start .args .from) (start .args .stride) (c .before .loop .i) (start .args .count) (search needs) (start .pre))
+    omega (
+      arith,
+      index-fits (start .args .base) (start .args .from) (start .args .stride) (c .before .loop .i) (start .args .count)
+          (search needs) (start .pre),
+    )
 
 byte-requires : tie.Need-byte-requires Inv-loop μ-loop
 byte-requires c κs = search needs

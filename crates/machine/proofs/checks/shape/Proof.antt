@@ -27,19 +27,34 @@ outside-requires-2 : tie.Need-outside-requires-2
 outside-requires-2 c κs = search needs
 
 mul-refuse : tie.Need-mul-refuse
-mul-refuse c = omega (arith, bytes-product (c .before .before .before .byte .result) (c .before .before .byte2 .result) (search needs) (search needs))
+mul-refuse c = omega (
+  arith,
+  bytes-product (c .before .before .before .byte .result) (c .before .before .byte2 .result) (search needs)
+      (search needs),
+)
 
 mul-refuse-2 : tie.Need-mul-refuse-2
-mul-refuse-2 c = omega (arith, bytes-product (c .before .before .before .byte .result) (c .before .before .byte2 .result) (search needs) (search needs))
+mul-refuse-2 c = omega (
+  arith,
+  bytes-product (c .before .before .before .byte .result) (c .before .before .byte2 .result) (search needs)
+      (search needs),
+)
 
 add-refuse : tie.Need-add-refuse
-add-refuse c = omega (arith, bytes-product (c .before .before .before .byte .result) (c .before .before .byte2 .result) (search needs) (search needs))
+add-refuse c = omega (
+  arith,
+  bytes-product (c .before .before .before .byte .result) (c .before .before .byte2 .result) (search needs)
+      (search needs),
+)
 
 refuse-requires : tie.Need-refuse-requires
 refuse-requires c κs = search needs
 
 returns : tie.Need-returns
-returns c = c .refuse .ensures ∙ cause3-is _ _ (c .before .before .before .before .byte .ensures) (c .before .before .before .byte2 .ensures) (c .before .before .outside .ensures) (c .before .outside2 .ensures)
+returns c =
+    c .refuse .ensures
+    ∙ cause3-is _ _ (c .before .before .before .before .byte .ensures) (c .before .before .before .byte2 .ensures)
+    (c .before .before .outside .ensures) (c .before .outside2 .ensures)
 
 pub shape-spec : {M : Type 1} → statement M
 shape-spec =

@@ -1,5 +1,5 @@
--- `machine::house::house_payload` meets its contract. The loop's invariant: the bytes before entry e are those of the record.
--- Assumes nothing.
+-- `machine::house::house_payload` meets its contract. The loop's invariant: the bytes before entry e are those of the
+-- record. Assumes nothing.
 use native.Mathlib.Omega.{arith}
 use borrow.Author.Needs.{needs}
 use Prim.Native.Nat.{ℕ, _-_, _≤_, _<_}
@@ -14,7 +14,8 @@ use Rattle.machine.proofs.house.house_payload.Statement.{statement}
 use Rattle.machine.proofs.house.house_payload.Tie as tie
 
 abbrev Inv-loop : tie.InvT-loop
-Inv-loop payload₀ e₀ payload e = (e ≤ 16) × (length payload ≡ 34) × ((j : ℕ) → j < pairAt e → getD payload j 0 ≡ getD housePayload j 0)
+Inv-loop payload₀ e₀ payload e =
+    (e ≤ 16) × (length payload ≡ 34) × ((j : ℕ) → j < pairAt e → getD payload j 0 ≡ getD housePayload j 0)
 
 abbrev μ-loop : tie.MeasureT-loop
 μ-loop payload₀ e₀ payload e = 16 - e

@@ -1,5 +1,5 @@
--- `machine::loading::all_checks` meets its contract: causes 1 to 4, and where they are clear 5 and 6 of the sheet's machine.
--- Assumes nothing.
+-- `machine::loading::all_checks` meets its contract: causes 1 to 4, and where they are clear 5 and 6 of the sheet's
+-- machine. Assumes nothing.
 use borrow.Author.Needs.{needs}
 use mathlib.Core.Path.{sym, _∙_}
 use denote.Ref.{now}
@@ -17,7 +17,8 @@ enum-told c = search needs
 returns : tie.Need-returns
 returns c =
     let start = c .before .before .before .before in
-    load-stops (start .args .needs) (now (start .args .sheet)) (c .before .before .table-check .ensures) (c .enum-told .given .1)
+    load-stops (start .args .needs) (now (start .args .sheet)) (c .before .before .table-check .ensures)
+    (c .enum-told .given .1)
 
 enum-told-2 : tie.Need-enum-told-2
 enum-told-2 c = search needs
@@ -25,12 +26,15 @@ enum-told-2 c = search needs
 word-check-requires : tie.Need-word-check-requires
 word-check-requires c κs =
     let start = c .before .before .before .before in
-    start .pre ∙ held-is (start .args .needs) (now (start .args .sheet)) (sym (c .before .before .table-check .ensures) ∙ c .enum-told2 .given .1)
+    start .pre
+    ∙ held-is (start .args .needs) (now (start .args .sheet))
+    (sym (c .before .before .table-check .ensures) ∙ c .enum-told2 .given .1)
 
 returns-2 : tie.Need-returns-2
 returns-2 c =
     let start = c .before .before .before .before .before in
-    load-goes-on (start .args .needs) (now (start .args .sheet)) (c .before .before .before .table-check .ensures) (c .before .enum-told2 .given .1)
+    load-goes-on (start .args .needs) (now (start .args .sheet)) (c .before .before .before .table-check .ensures)
+    (c .before .enum-told2 .given .1)
     (c .word-check .ensures)
 
 pub all-checks-spec : {M : Type 1} → statement M

@@ -1,5 +1,5 @@
--- `machine::loading::load_sheet` meets its contract: the machine that it loads is the one that is held, and the checks say the rest.
--- Assumes nothing.
+-- `machine::loading::load_sheet` meets its contract: the machine that it loads is the one that is held, and the checks
+-- say the rest. Assumes nothing.
 use borrow.Author.Needs.{needs}
 use denote.Ref.{now}
 use Rattle.sheet.specs.Reader.Laws.{handed-content}
@@ -17,13 +17,16 @@ load-requires c κs = search needs
 all-checks-requires : tie.Need-all-checks-requires
 all-checks-requires c κs =
     let start = c .before .before .before in
-    held-loaded (now (start .args .sheet)) (handed-content _ (start .args .sheet) (c .before .read .result) (c .before .read .ensures)) (c .load .ensures)
+    held-loaded (now (start .args .sheet))
+    (handed-content _ (start .args .sheet) (c .before .read .result) (c .before .read .ensures)) (c .load .ensures)
 
 returns : tie.Need-returns
 returns c =
     let start = c .before .before .before .before in
     loaded-from (start .args .needs) (now (start .args .sheet)) _ (c .all-checks .ensures)
-    (held-loaded (now (start .args .sheet)) (handed-content _ (start .args .sheet) (c .before .before .read .result) (c .before .before .read .ensures)) (c .before .load .ensures))
+    (held-loaded (now (start .args .sheet))
+    (handed-content _ (start .args .sheet) (c .before .before .read .result) (c .before .before .read .ensures))
+    (c .before .load .ensures))
 
 pub load-sheet-spec : {M : Type 1} → statement M
 load-sheet-spec =

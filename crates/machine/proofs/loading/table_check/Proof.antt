@@ -23,7 +23,11 @@ shape-requires c κs = search needs
 next-states-requires : tie.Need-next-states-requires
 next-states-requires c κs =
     let start = c .before .before .before .before .before in
-    omega (arith, read-inside 1 (now (start .args .sheet)) (c .before .before .record-of .ensures) (handed-content _ (start .args .sheet) (c .before .read .result) (c .before .read .ensures)))
+    omega (
+      arith,
+      read-inside 1 (now (start .args .sheet)) (c .before .before .record-of .ensures)
+          (handed-content _ (start .args .sheet) (c .before .read .result) (c .before .read .ensures)),
+    )
 
 first-of-requires : tie.Need-first-of-requires
 first-of-requires c κs = search needs
@@ -34,9 +38,13 @@ first-of-requires-2 c κs = search needs
 returns : tie.Need-returns
 returns c =
     let start = c .before .before .before .before .before .before .before .before in
-    table-are (start .args .needs) (now (start .args .sheet)) (c .before .before .before .before .before .before .checks .ensures) (c .before .before .before .before .before .record-of .ensures)
-    (handed-content _ (start .args .sheet) (c .before .before .before .before .read .result) (c .before .before .before .before .read .ensures))
-    (c .before .before .before .shape .ensures) (c .before .before .next-states .ensures) (c .before .first-of .ensures) (c .first-of2 .ensures)
+    table-are (start .args .needs) (now (start .args .sheet))
+    (c .before .before .before .before .before .before .checks .ensures)
+    (c .before .before .before .before .before .record-of .ensures)
+    (handed-content _ (start .args .sheet) (c .before .before .before .before .read .result)
+    (c .before .before .before .before .read .ensures))
+    (c .before .before .before .shape .ensures) (c .before .before .next-states .ensures) (c .before .first-of .ensures)
+    (c .first-of2 .ensures)
 
 pub table-check-spec : {M : Type 1} → statement M
 table-check-spec =

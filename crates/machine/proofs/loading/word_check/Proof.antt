@@ -34,7 +34,8 @@ returns-2 c =
     let start = c .before .before .before .before .before .before .before in
     let s = now (start .args .sheet) in
     word-on s (c .before .before .before .before .before .if1 .taken)
-    (word-goes-on s (start .args .m) (start .pre) (c .before .before .before .before .commands .ensures) (c .before .before .enum-told2 .given .1)
+    (word-goes-on s (start .args .m) (start .pre) (c .before .before .before .before .commands .ensures)
+    (c .before .before .enum-told2 .given .1)
     (handed-content _ (start .args .sheet) (c .before .read .result) (c .before .read .ensures))
     (c .separation .ensures))
 

@@ -12,7 +12,8 @@ use Rattle.machine.proofs.machine.column.Statement.{statement}
 use Rattle.machine.proofs.machine.column.Tie as tie
 
 abbrev Inv-loop : tie.InvT-loop
-Inv-loop p from cells₀ e₀ cells e = (e ≤ mostEntries) × (length cells ≡ mostEntries) × ((j : ℕ) → j < e → getD cells j 0 ≡ getD p (from + 2 * j) 0)
+Inv-loop p from cells₀ e₀ cells e =
+    (e ≤ mostEntries) × (length cells ≡ mostEntries) × ((j : ℕ) → j < e → getD cells j 0 ≡ getD p (from + 2 * j) 0)
 
 abbrev μ-loop : tie.MeasureT-loop
 μ-loop p from cells₀ e₀ cells e = mostEntries - e
@@ -44,7 +45,8 @@ loop-again c =
     let head = c .before .before .loop in (
       search needs,
       simp length-set (head .inv .1),
-      column-more (head .cells) (λ (j : ℕ). getD (now (start .args .p)) (start .args .from + 2 * j) 0) (head .e) (c .byte .result) (search needs) (head .inv .2)
+      column-more (head .cells) (λ (j : ℕ). getD (now (start .args .p)) (start .args .from + 2 * j) 0) (head .e)
+          (c .byte .result) (search needs) (head .inv .2)
           (c .byte .ensures),
     )
 

@@ -1,5 +1,5 @@
--- `machine::separation::agree` meets its contract. The loop's invariant is `Alike`: the runs from here compare as those from the front.
--- Assumes nothing.
+-- `machine::separation::agree` meets its contract. The loop's invariant is `Alike`: the runs from here compare as those
+-- from the front. Assumes nothing.
 use borrow.Author.Needs.{needs}
 use Prim.Native.Nat.{_-_}
 use lib.ListN.{length}
@@ -41,9 +41,12 @@ returns : tie.Need-returns Inv-loop μ-loop
 returns c =
     let start = c .before .before .before .before .before .before .before .before .before .before .before .before in
     let head = c .before .before .before .before .before .before .before .before in
-    alike-differs _ _ _ _ (head .loop .inv) (c .before .before .before .before .before .before .before .loop-test .taken)
-    (tabled-answer _ _ _ (now (start .args .next)) (now (start .args .answer)) _ _ (c .before .before .byte .ensures) (c .before .before .before .before .before .entry-at .ensures))
-    (tabled-answer _ _ _ (now (start .args .next)) (now (start .args .answer)) _ _ (c .before .byte2 .ensures) (c .before .before .before .entry-at2 .ensures))
+    alike-differs _ _ _ _ (head .loop .inv)
+    (c .before .before .before .before .before .before .before .loop-test .taken)
+    (tabled-answer _ _ _ (now (start .args .next)) (now (start .args .answer)) _ _ (c .before .before .byte .ensures)
+    (c .before .before .before .before .before .entry-at .ensures))
+    (tabled-answer _ _ _ (now (start .args .next)) (now (start .args .answer)) _ _ (c .before .byte2 .ensures)
+    (c .before .before .before .entry-at2 .ensures))
     (c .if1 .taken)
 
 byte-requires-3 : tie.Need-byte-requires-3 Inv-loop μ-loop
@@ -60,14 +63,21 @@ loop-less c = search needs
 
 loop-again : tie.Need-loop-again Inv-loop μ-loop
 loop-again c =
-    let start = c .before .before .before .before .before .before .before .before .before .before .before .before .before .before in
+    let start =
+    c .before .before .before .before .before .before .before .before .before .before .before .before .before .before in
     let head = c .before .before .before .before .before .before .before .before .before .before in
-    alike-next _ _ _ _ (head .loop .inv) (c .before .before .before .before .before .before .before .before .before .loop-test .taken)
-    (tabled-answer _ _ _ (now (start .args .next)) (now (start .args .answer)) _ _ (c .before .before .before .before .byte .ensures) (c .before .before .before .before .before .before .before .entry-at .ensures))
-    (tabled-answer _ _ _ (now (start .args .next)) (now (start .args .answer)) _ _ (c .before .before .before .byte2 .ensures) (c .before .before .before .before .before .entry-at2 .ensures))
+    alike-next _ _ _ _ (head .loop .inv)
+    (c .before .before .before .before .before .before .before .before .before .loop-test .taken)
+    (tabled-answer _ _ _ (now (start .args .next)) (now (start .args .answer)) _ _
+    (c .before .before .before .before .byte .ensures)
+    (c .before .before .before .before .before .before .before .entry-at .ensures))
+    (tabled-answer _ _ _ (now (start .args .next)) (now (start .args .answer)) _ _
+    (c .before .before .before .byte2 .ensures) (c .before .before .before .before .before .entry-at2 .ensures))
     (c .before .before .if1 .left)
-    (tabled-next _ _ _ (now (start .args .next)) (now (start .args .answer)) _ _ (c .before .byte3 .ensures) (c .before .before .before .before .before .before .before .entry-at .ensures))
-    (tabled-next _ _ _ (now (start .args .next)) (now (start .args .answer)) _ _ (c .byte4 .ensures) (c .before .before .before .before .before .entry-at2 .ensures))
+    (tabled-next _ _ _ (now (start .args .next)) (now (start .args .answer)) _ _ (c .before .byte3 .ensures)
+    (c .before .before .before .before .before .before .before .entry-at .ensures))
+    (tabled-next _ _ _ (now (start .args .next)) (now (start .args .answer)) _ _ (c .byte4 .ensures)
+    (c .before .before .before .before .before .entry-at2 .ensures))
 
 returns-2 : tie.Need-returns-2 Inv-loop μ-loop
 returns-2 c = alike-end _ _ _ _ (c .before .loop .inv) (c .loop-test .left)

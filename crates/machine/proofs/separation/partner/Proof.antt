@@ -33,7 +33,8 @@ pair-place-requires c κs = search needs
 returns : tie.Need-returns Inv-loop μ-loop
 returns c =
     first-stops _ (search needs) (c .before .before .before .before .loop .inv .2)
-    (ap (Refused 6) (c .pair-place .ensures) ∙ pair-present _ _ _ _ (search needs) (c .before .before .agree .ensures) (c .before .if1 .taken)) refl
+    (ap (Refused 6) (c .pair-place .ensures)
+    ∙ pair-present _ _ _ _ (search needs) (c .before .before .agree .ensures) (c .before .if1 .taken)) refl
 
 add-j-2 : tie.Need-add-j-2 Inv-loop μ-loop
 add-j-2 c = search needs
@@ -42,7 +43,12 @@ loop-less : tie.Need-loop-less Inv-loop μ-loop
 loop-less c = search needs
 
 loop-again : tie.Need-loop-again Inv-loop μ-loop
-loop-again c = (search needs, search needs, first-goes-on _ _ (c .before .before .before .loop .inv .2) (pair-absent _ _ _ _ (search needs) (c .before .agree .ensures) (c .if1 .left)) refl)
+loop-again c = (
+  search needs,
+  search needs,
+  first-goes-on _ _ (c .before .before .before .loop .inv .2)
+      (pair-absent _ _ _ _ (search needs) (c .before .agree .ensures) (c .if1 .left)) refl,
+)
 
 returns-2 : tie.Need-returns-2 Inv-loop μ-loop
 returns-2 c = first-ends _ (c .before .loop .inv .1) (c .loop-test .left) (c .before .loop .inv .2)

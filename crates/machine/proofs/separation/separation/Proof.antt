@@ -16,7 +16,8 @@ pair-requires : tie.Need-pair-requires
 pair-requires c κs = search needs
 
 returns : tie.Need-returns
-returns c = c .pair .ensures ∙ cause6-tabled _ _ 0 (c .before .before .before .before .before .before .args .m .start) _ _ _
+returns c =
+    c .pair .ensures ∙ cause6-tabled _ _ 0 (c .before .before .before .before .before .before .args .m .start) _ _ _
 
 pub separation-spec : {M : Type 1} → statement M
 separation-spec =

@@ -22,7 +22,8 @@ returns : tie.Need-returns
 unfolding certifiedLine
 returns c =
     let args = c .before .before .before .before .before .before .args in
-    prints-line (certifiedLine (args .recognised)) (puts-append _ _ (c .before .before .before .put-labelled .ensures .0) (c .put .ensures))
+    prints-line (certifiedLine (args .recognised))
+    (puts-append _ _ (c .before .before .before .put-labelled .ensures .0) (c .put .ensures))
 
 pub certified-spec : {M : Type 1} → statement M
 certified-spec =

@@ -28,7 +28,10 @@ returns : tie.Need-returns
 unfolding passLine
 returns c =
     let args = c .before .before .before .before .before .before .before .before .before .args in
-    prints-line (passLine (args .size) (args .end)) (puts-append _ _ (puts-append _ _ (c .before .before .before .before .before .before .put-labelled .ensures .0) (c .before .before .before .put-labelled2 .ensures .0)) (c .put .ensures))
+    prints-line (passLine (args .size) (args .end))
+    (puts-append _ _ (puts-append _ _ (c .before .before .before .before .before .before .put-labelled .ensures .0)
+    (c .before .before .before .put-labelled2 .ensures .0))
+    (c .put .ensures))
 
 pub passed-spec : {M : Type 1} → statement M
 passed-spec =

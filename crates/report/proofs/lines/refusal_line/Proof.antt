@@ -31,7 +31,12 @@ returns : tie.Need-returns
 unfolding refusalLine
 returns c =
     let args = c .before .before .before .before .before .before .before .before .before .before .before .args in
-    prints-line (refusalLine (args .number) (args .place)) (puts-append _ _ (puts-append _ _ (puts-append _ _ (c .before .before .before .before .before .before .before .before .put-labelled .ensures .0) (c .before .before .before .before .before .put-labelled2 .ensures .0)) (c .before .before .before .put-phrase .ensures .0)) (c .put .ensures))
+    prints-line (refusalLine (args .number) (args .place))
+    (puts-append _ _ (puts-append _ _
+    (puts-append _ _ (c .before .before .before .before .before .before .before .before .put-labelled .ensures .0)
+    (c .before .before .before .before .before .put-labelled2 .ensures .0))
+    (c .before .before .before .put-phrase .ensures .0))
+    (c .put .ensures))
 
 pub refusal-line-spec : {M : Type 1} → statement M
 refusal-line-spec =

@@ -28,7 +28,10 @@ returns : tie.Need-returns
 unfolding openLine
 returns c =
     let args = c .before .before .before .before .before .before .before .before .before .args in
-    prints-line (openLine (args .recognised) (args .number)) (puts-append _ _ (puts-append _ _ (c .before .before .before .before .before .before .put-labelled .ensures .0) (c .before .before .before .put-labelled2 .ensures .0)) (c .put .ensures))
+    prints-line (openLine (args .recognised) (args .number))
+    (puts-append _ _ (puts-append _ _ (c .before .before .before .before .before .before .put-labelled .ensures .0)
+    (c .before .before .before .put-labelled2 .ensures .0))
+    (c .put .ensures))
 
 pub still-open-spec : {M : Type 1} → statement M
 still-open-spec =

@@ -22,7 +22,8 @@ returns : tie.Need-returns
 unfolding unfinishedLine
 returns c =
     let args = c .before .before .before .before .before .before .args in
-    prints-line (unfinishedLine (args .number)) (puts-append _ _ (c .before .before .before .put-labelled .ensures .0) (c .put .ensures))
+    prints-line (unfinishedLine (args .number))
+    (puts-append _ _ (c .before .before .before .put-labelled .ensures .0) (c .put .ensures))
 
 pub unfinished-spec : {M : Type 1} → statement M
 unfinished-spec =

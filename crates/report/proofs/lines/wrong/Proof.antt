@@ -33,8 +33,15 @@ put-requires c κs = search needs
 returns : tie.Need-returns
 unfolding wrongLine
 returns c =
-    let args = c .before .before .before .before .before .before .before .before .before .before .before .before .args in
-    prints-line (wrongLine (args .place) (args .specified) (args .given)) (puts-append _ _ (puts-append _ _ (puts-append _ _ (c .before .before .before .before .before .before .before .before .before .put-labelled .ensures .0) (c .before .before .before .before .before .before .put-labelled2 .ensures .0)) (c .before .before .before .put-labelled3 .ensures .0)) (c .put .ensures))
+    let args =
+    c .before .before .before .before .before .before .before .before .before .before .before .before .args in
+    prints-line (wrongLine (args .place) (args .specified) (args .given))
+    (puts-append _ _ (puts-append _ _
+    (puts-append _ _
+    (c .before .before .before .before .before .before .before .before .before .put-labelled .ensures .0)
+    (c .before .before .before .before .before .before .put-labelled2 .ensures .0))
+    (c .before .before .before .put-labelled3 .ensures .0))
+    (c .put .ensures))
 
 pub wrong-spec : {M : Type 1} → statement M
 wrong-spec =

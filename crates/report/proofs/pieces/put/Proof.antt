@@ -20,7 +20,11 @@ returns c =
     let fits = c .before .before .before .before .before .before .pre in
     let put = c .before .before .put in
     let ends = put .ensures .1 ∙ end-fits (now (args .out)) (args .at) (now (args .text)) fits in
-    record { ends = ends; inside = omega (arith, ends); written = put .ensures .0 ∙ put-fits (now (args .out)) (args .at) (now (args .text)) fits }
+    record {
+      ends = ends;
+      inside = omega (arith, ends);
+      written = put .ensures .0 ∙ put-fits (now (args .out)) (args .at) (now (args .text)) fits;
+    }
 
 pub put-spec : {M : Type 1} → statement M
 put-spec = tie.close (tie.spec put-requires same-length returns)

@@ -20,7 +20,12 @@ slice-aggregate-put c = search needs
 put-requires : tie.Need-put-requires
 put-requires c κs =
     let made = c .before .before .decimal in
-    omega (arith, few-digits (c .before .before .before .before .before .args .n) (made .result) (c .before .before .before .before .before .fits .n .fits) (made .ensures .1 .0), made .ensures .0 .1)
+    omega (
+      arith,
+      few-digits (c .before .before .before .before .before .args .n) (made .result)
+          (c .before .before .before .before .before .fits .n .fits) (made .ensures .1 .0),
+      made .ensures .0 .1,
+    )
 
 same-length : tie.Need-same-length
 same-length c = search needs
@@ -29,8 +34,17 @@ returns : tie.Need-returns
 returns c =
     let made = c .before .before .before .before .before .decimal in
     let put = c .before .before .put in (
-      puts-same (made .ensures .1 .1 ∙ digits-decimal (c .before .before .before .before .before .before .before .before .args .n) (made .result) (made .ensures .1 .0)) (put .ensures),
-      omega (arith, few-digits (c .before .before .before .before .before .before .before .before .args .n) (made .result) (c .before .before .before .before .before .before .before .before .fits .n .fits) (made .ensures .1 .0), made .ensures .0 .1, put .ensures .ends),
+      puts-same (made .ensures .1 .1
+          ∙ digits-decimal (c .before .before .before .before .before .before .before .before .args .n) (made .result)
+          (made .ensures .1 .0))
+          (put .ensures),
+      omega (
+        arith,
+        few-digits (c .before .before .before .before .before .before .before .before .args .n) (made .result)
+            (c .before .before .before .before .before .before .before .before .fits .n .fits) (made .ensures .1 .0),
+        made .ensures .0 .1,
+        put .ensures .ends,
+      ),
     )
 
 pub put-decimal-spec : {M : Type 1} → statement M

@@ -14,8 +14,12 @@ phrase-of-requires c κs =
 
 returns : tie.Need-returns
 returns c =
-    let p = c .before .before .phrase-of in
-    (puts-same (no-phrase (p .result .bytes) _ (c .if1 .taken) (p .ensures .0)) (puts-none (now (c .before .before .before .before .args .out)) (c .before .before .before .before .args .at) (omega (arith, c .before .before .before .before .pre))), omega arith)
+    let p = c .before .before .phrase-of in (
+      puts-same (no-phrase (p .result .bytes) _ (c .if1 .taken) (p .ensures .0))
+          (puts-none (now (c .before .before .before .before .args .out)) (c .before .before .before .before .args .at)
+          (omega (arith, c .before .before .before .before .pre))),
+      omega arith,
+    )
 
 slice-aggregate-put : tie.Need-slice-aggregate-put
 slice-aggregate-put c =
@@ -44,9 +48,20 @@ same-length c =
 
 returns-2 : tie.Need-returns-2
 returns-2 c =
-    let p = c .before .before .before .before .before .before .before .before .before .before .before .before .phrase-of in (
-      puts-same (some-phrase (p .result .bytes) _ (p .ensures .1 .0) (c .before .before .before .before .before .before .before .before .before .before .if1 .left) (p .ensures .0)) (puts-append _ _ (c .before .before .before .before .before .before .before .put .ensures) (c .before .before .put2 .ensures)),
-      omega (arith, p .ensures .1 .1, p .ensures .1 .0 .1, c .before .before .before .before .before .before .before .put .ensures .ends, c .before .before .put2 .ensures .ends),
+    let p =
+    c .before .before .before .before .before .before .before .before .before .before .before .before .phrase-of in (
+      puts-same (some-phrase (p .result .bytes) _ (p .ensures .1 .0)
+          (c .before .before .before .before .before .before .before .before .before .before .if1 .left)
+          (p .ensures .0))
+          (puts-append _ _ (c .before .before .before .before .before .before .before .put .ensures)
+          (c .before .before .put2 .ensures)),
+      omega (
+        arith,
+        p .ensures .1 .1,
+        p .ensures .1 .0 .1,
+        c .before .before .before .before .before .before .before .put .ensures .ends,
+        c .before .before .put2 .ensures .ends,
+      ),
     )
 
 pub put-phrase-spec : {M : Type 1} → statement M

@@ -28,7 +28,8 @@ returns : tie.Need-returns
 returns c =
     let made = c .before .before .before .before .before .before .before .before .before in
     puts-same (ap (λ (h : List ℕ). h ++ now (made .before .before .before .args .payload)) (made .header-of .ensures))
-    (puts-append _ _ (c .before .before .before .before .before .before .put .ensures) (c .before .before .put2 .ensures))
+    (puts-append _ _ (c .before .before .before .before .before .before .put .ensures)
+    (c .before .before .put2 .ensures))
 
 pub put-record-spec : {M : Type 1} → statement M
 put-record-spec =

@@ -1,5 +1,5 @@
--- `report::services::certify_sheet` meets its contract: the line of the answer, for a buffer of as many marks as the longest sequence has places.
--- Assumes nothing.
+-- `report::services::certify_sheet` meets its contract: the line of the answer, for a buffer of as many marks as the
+-- longest sequence has places. Assumes nothing.
 use borrow.Author.Needs.{needs}
 use mathlib.Core.Path.{refl, sym, ap}
 use Rattle.report.specs.Lines.{certifyLine}
@@ -22,7 +22,8 @@ returns : tie.Need-returns
 unfolding certified
 returns c =
     writes-output _ refl
-    (prints-same (ap certifyLine (sym (c .before .before .before .certify .ensures .answer .is))) (c .certify-line .ensures))
+    (prints-same (ap certifyLine (sym (c .before .before .before .certify .ensures .answer .is)))
+    (c .certify-line .ensures))
 
 pub certify-sheet-spec : {M : Type 1} → statement M
 certify-sheet-spec =

@@ -1,5 +1,5 @@
--- `report::services::judge_sheet` meets its contract: the line of the answer, for a buffer of as many marks as the longest sequence has places.
--- Assumes nothing.
+-- `report::services::judge_sheet` meets its contract: the line of the answer, for a buffer of as many marks as the
+-- longest sequence has places. Assumes nothing.
 use borrow.Author.Needs.{needs}
 use mathlib.Core.Path.{refl, sym, ap}
 use Rattle.report.specs.Lines.{judgeLine}
@@ -22,7 +22,8 @@ returns : tie.Need-returns
 unfolding judged
 returns c =
     writes-output _ refl
-    (prints-same (ap judgeLine (sym (c .before .before .before .judge .ensures .0 .answer .is))) (c .judge-line .ensures))
+    (prints-same (ap judgeLine (sym (c .before .before .before .judge .ensures .0 .answer .is)))
+    (c .judge-line .ensures))
 
 pub judge-sheet-spec : {M : Type 1} → statement M
 judge-sheet-spec =

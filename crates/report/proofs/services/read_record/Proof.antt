@@ -26,7 +26,8 @@ read-requires c κs = search needs
 put-requires : tie.Need-put-requires
 put-requires c κs =
     let start = c .before .before .before .before .before .before in
-    let clear = sym (c .before .before .before .before .refusal .ensures .is) ∙ c .before .before .enum-told .given .1 in
+    let clear =
+    sym (c .before .before .before .before .refusal .ensures .is) ∙ c .before .before .enum-told .given .1 in
     let short = read-short (start .args .kind) (now (start .args .sheet)) clear in
     let handed = handed-content _ (start .args .sheet) (c .before .read .result) (c .before .read .ensures) in
     omega (arith, short, ap length handed)
@@ -40,14 +41,20 @@ refused-requires c κs = search needs
 returns : tie.Need-returns
 returns c =
     let start = c .before .before .before .before .before .before .before in
-    let clear = sym (c .before .before .before .before .before .refusal .ensures .is) ∙ c .before .before .before .enum-told .given .1 in
-    let handed = handed-content _ (start .args .sheet) (c .before .before .read .result) (c .before .before .read .ensures) in
-    writes-output _ (read-clear (now (start .args .sheet)) (start .args .kind) clear) (prints-line _ (puts-same handed (c .put .ensures)))
+    let clear =
+    sym (c .before .before .before .before .before .refusal .ensures .is)
+    ∙ c .before .before .before .enum-told .given .1 in
+    let handed =
+    handed-content _ (start .args .sheet) (c .before .before .read .result) (c .before .before .read .ensures) in
+    writes-output _ (read-clear (now (start .args .sheet)) (start .args .kind) clear)
+    (prints-line _ (puts-same handed (c .put .ensures)))
 
 returns-2 : tie.Need-returns-2
 returns-2 c =
     let start = c .before .before .before .before .before .before .before in
-    let refusal = sym (c .before .before .before .before .before .refusal .ensures .is) ∙ c .before .before .before .check .given .1 in
+    let refusal =
+    sym (c .before .before .before .before .before .refusal .ensures .is)
+    ∙ c .before .before .before .check .given .1 in
     writes-same (c .refused .ensures) (read-refused (now (start .args .sheet)) (start .args .kind) refusal)
 
 pub read-record-spec : {M : Type 1} → statement M

@@ -27,17 +27,26 @@ enum-known-answer c = search needs
 
 array-share-prefix-sequence : tie.Need-array-share-prefix-sequence
 array-share-prefix-sequence c =
-    let holds = built-holds (now (c .before .before .before .before .before .before .before .args .sheet)) _ _ (length-replicate {A = ℕ} mostSequence 0) (c .before .before .before .before .build .ensures) (c .before .answer .given .1) in
+    let holds =
+    built-holds (now (c .before .before .before .before .before .before .before .args .sheet)) _ _
+    (length-replicate {A = ℕ} mostSequence 0) (c .before .before .before .before .build .ensures)
+    (c .before .answer .given .1) in
     holds .inside
 
 slice-aggregate-compose : tie.Need-slice-aggregate-compose
 slice-aggregate-compose c =
-    let holds = built-holds (now (c .before .before .before .before .before .before .before .before .args .sheet)) _ _ (length-replicate {A = ℕ} mostSequence 0) (c .before .before .before .before .before .build .ensures) (c .before .before .answer .given .1) in
+    let holds =
+    built-holds (now (c .before .before .before .before .before .before .before .before .args .sheet)) _ _
+    (length-replicate {A = ℕ} mostSequence 0) (c .before .before .before .before .before .build .ensures)
+    (c .before .before .answer .given .1) in
     holds .sized
 
 compose-requires : tie.Need-compose-requires
 compose-requires c κs =
-    let holds = built-holds (now (c .before .before .before .before .before .before .before .before .before .args .sheet)) _ _ (length-replicate {A = ℕ} mostSequence 0) (c .before .before .before .before .before .before .build .ensures) (c .before .before .before .answer .given .1) in
+    let holds =
+    built-holds (now (c .before .before .before .before .before .before .before .before .before .args .sheet)) _ _
+    (length-replicate {A = ℕ} mostSequence 0) (c .before .before .before .before .before .before .build .ensures)
+    (c .before .before .before .answer .given .1) in
     (holds .behind, (holds .short, omega (arith, holds .few, holds .sized)))
 
 enum-known-answer-2 : tie.Need-enum-known-answer-2
@@ -60,7 +69,8 @@ returns-2 c =
     let s = now (c .before .before .before .before .before .before .before .before .before .args .sheet) in
     let build = c .before .before .before .before .before .before .build .ensures in
     writes-same (c .refused .ensures)
-    (built-refused s (answer-is (length-replicate {A = ℕ} mostSequence 0) build (c .before .before .before .answer2 .given .1)))
+    (built-refused s
+    (answer-is (length-replicate {A = ℕ} mostSequence 0) build (c .before .before .before .answer2 .given .1)))
 
 pub build-sheet-spec : {M : Type 1} → statement M
 build-sheet-spec =

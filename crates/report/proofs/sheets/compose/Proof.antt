@@ -22,7 +22,8 @@ started d = d .before .before .before
 abbrev behind : tie.After-record-of → ℕ
 behind d = d .record-of .result .start + header + d .record-of .result .size
 
-front : (d : tie.After-record-of) → (length (take (behind d) (now (started d .args .sheet))) ≡ behind d) × (behind d ≤ length (now (started d .args .sheet)))
+front : (d : tie.After-record-of) → (length (take (behind d) (now (started d .args .sheet))) ≡ behind d)
+    × (behind d ≤ length (now (started d .args .sheet)))
 front d = front-fits (now (started d .args .sheet)) (d .record-of .ensures) (started d .pre .0)
 
 -- ---- the parts fit one behind the other

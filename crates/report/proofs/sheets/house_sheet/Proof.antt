@@ -29,7 +29,11 @@ slice-aggregate-put-record-2 c = search needs
 
 put-record-requires-2 : tie.Need-put-record-requires-2
 put-record-requires-2 c κs =
-    omega (arith, c .before .before .put-record .ensures .ends, record-size 1 (c .before .before .before .before .before .house-payload .result))
+    omega (
+      arith,
+      c .before .before .put-record .ensures .ends,
+      record-size 1 (c .before .before .before .before .before .house-payload .result),
+    )
 
 returns : tie.Need-returns
 unfolding houseWritten houseSheet

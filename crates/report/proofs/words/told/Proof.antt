@@ -25,7 +25,8 @@ returns : tie.Need-returns
 unfolding mistakeOf
 returns c =
     prints-line _ (puts-append _ _ (puts-append _ _
-    (c .before .before .before .before .before .put .ensures) (c .before .before .before .put2 .ensures)) (c .put3 .ensures))
+    (c .before .before .before .before .before .put .ensures) (c .before .before .before .put2 .ensures))
+    (c .put3 .ensures))
 
 pub told-spec : {M : Type 1} → statement M
 told-spec =

@@ -1,6 +1,6 @@
--- `sheet::parse::parse` meets its contract. The loop's invariant is `Head`: what is found so far and what the parse from here finds are
--- what the whole parse finds. Each turn passes a record, so the measure is the bytes that are left.
--- Assumes nothing.
+-- `sheet::parse::parse` meets its contract. The loop's invariant is `Head`: what is found so far and what the
+-- parse from here finds are what the whole parse finds. Each turn passes a record, so the measure is the bytes
+-- that are left. Assumes nothing.
 use native.Mathlib.Omega.{arith}
 use borrow.Author.Needs.{needs}
 use Prim.Native.Nat.{ℕ, _+_, _-_, _≤_}
@@ -28,7 +28,11 @@ enum-told : tie.Need-enum-told Inv-loop μ-loop
 enum-told c = search needs
 
 returns : tie.Need-returns Inv-loop μ-loop
-returns c = let a = head-stop (c .before .before .before .before .loop .inv) (search needs) (c .before .before .check-at .ensures) (c .enum-told .given .1) in (a .stop, a .finds)
+returns c =
+    let a =
+    head-stop (c .before .before .before .before .loop .inv) (search needs) (c .before .before .check-at .ensures)
+    (c .enum-told .given .1) in
+    (a .stop, a .finds)
 
 enum-told-2 : tie.Need-enum-told-2 Inv-loop μ-loop
 enum-told-2 c = search needs
@@ -56,11 +60,14 @@ abbrev bytes : tie.After-rank Inv-loop μ-loop → List ℕ
 bytes c = now (head c .before .before .args .s)
 
 turn : (c : tie.After-rank Inv-loop μ-loop)
-    → Turn (bytes c) (head c .before .before .args .kind) (head c .loop .at) (head c .loop .last) (head c .loop .found) (c .before .before .before .before .record-at .result)
-    (c .before .before .before .of-kind .result) (c .before .before .first-found .result) (c .before .kind-of .result) (c .rank .result)
+    → Turn (bytes c) (head c .before .before .args .kind) (head c .loop .at) (head c .loop .last) (head c .loop .found)
+    (c .before .before .before .before .record-at .result) (c .before .before .before .of-kind .result)
+    (c .before .before .first-found .result) (c .before .kind-of .result) (c .rank .result)
 turn c = record {
   more = c .before .before .before .before .before .before .before .before .loop-test .taken;
-  clear = sym (c .before .before .before .before .before .before .before .check-at .ensures) ∙ c .before .before .before .before .before .enum-told2 .given .1;
+  clear =
+      sym (c .before .before .before .before .before .before .before .check-at .ensures)
+      ∙ c .before .before .before .before .before .enum-told2 .given .1;
   reads = c .before .before .before .before .record-at .ensures .0;
   looks = c .before .before .before .of-kind .ensures;
   takes = c .before .before .first-found .ensures;
@@ -68,7 +75,8 @@ turn c = record {
   ranks = c .rank .ensures;
 }
 
-inside : (c : tie.After-rank Inv-loop μ-loop) → head c .loop .at + 6 + c .before .before .before .before .record-at .result .size ≤ length (bytes c)
+inside : (c : tie.After-rank Inv-loop μ-loop)
+    → head c .loop .at + 6 + c .before .before .before .before .record-at .result .size ≤ length (bytes c)
 inside c = turn-inside (head c .loop .inv) (turn c)
 
 add-at : tie.Need-add-at Inv-loop μ-loop

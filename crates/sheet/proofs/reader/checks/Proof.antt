@@ -34,7 +34,9 @@ returns c =
     ∙ ap₂ _else_ (c .before .before .before .before .before .before .refusal .ensures .is)
     (c .before .first-of2 .ensures
     ∙ ap₂ _else_ (c .before .before .before .before .before .required .ensures)
-    (c .before .before .first-of .ensures ∙ ap₂ _else_ (c .before .before .before .before .required2 .ensures) (c .before .before .before .required3 .ensures)))
+    (c .before .before .first-of .ensures
+    ∙ ap₂ _else_ (c .before .before .before .before .required2 .ensures)
+    (c .before .before .before .required3 .ensures)))
     ∙ sym (checks-are (c .before .before .before .before .before .before .before .before .args .needs) _)
 
 pub checks-spec : {M : Type 1} → statement M

@@ -23,7 +23,12 @@ enum-known-found c = search needs
 add-from : tie.Need-add-from
 add-from c =
     let start = c .before .before .before .before .before .before .before .before .before in
-    omega (arith, payload-inside (now (start .args .sheet)) (start .args .kind) _ (sym (c .before .before .found .given .1) ∙ c .before .before .before .before .before .before .before .parse .ensures .1))
+    omega (
+      arith,
+      payload-inside (now (start .args .sheet)) (start .args .kind) _
+          (sym (c .before .before .found .given .1)
+          ∙ c .before .before .before .before .before .before .before .parse .ensures .1),
+    )
 
 enum-told-2 : tie.Need-enum-told-2
 enum-told-2 c = search needs
@@ -33,13 +38,21 @@ enum-told-3 c = search needs
 
 returns : tie.Need-returns
 returns c =
-    let found = sym (c .before .before .found .given .1) ∙ c .before .before .before .before .before .before .before .parse .ensures .1 in
-    (part-clear _ _ (c .before .before .before .before .before .before .refusal-by .ensures) (c .before .before .before .before .enum-told .given .1) found, payload-inside _ _ _ found)
+    let found =
+    sym (c .before .before .found .given .1)
+    ∙ c .before .before .before .before .before .before .before .parse .ensures .1 in (
+      part-clear _ _ (c .before .before .before .before .before .before .refusal-by .ensures)
+          (c .before .before .before .before .enum-told .given .1) found,
+      payload-inside _ _ _ found,
+    )
 
 returns-2 : tie.Need-returns-2
 returns-2 c =
-    let found = sym (c .enum-told2 .given .1) ∙ c .before .before .before .before .before .parse .ensures .1 in
-    (part-clear _ _ (c .before .before .before .before .refusal-by .ensures) (c .before .before .enum-told .given .1) found, search needs)
+    let found = sym (c .enum-told2 .given .1) ∙ c .before .before .before .before .before .parse .ensures .1 in (
+      part-clear _ _ (c .before .before .before .before .refusal-by .ensures)
+          (c .before .before .enum-told .given .1) found,
+      search needs,
+    )
 
 returns-3 : tie.Need-returns-3
 returns-3 c = (part-refused _ _ (c .before .before .refusal-by .ensures) (c .enum-told3 .given .1), search needs)

@@ -1,5 +1,5 @@
--- `sheet::reader::read` meets its contract: the slice from the part's start to its end is the part, in the sheet's own block.
--- Assumes nothing.
+-- `sheet::reader::read` meets its contract: the slice from the part's start to its end is the part, in the sheet's own
+-- block. Assumes nothing.
 use borrow.Author.Needs.{needs}
 use native.Mathlib.Nat.{add-comm, add-sub-cancel-left}
 use Rattle.sheet.specs.Reader.{handed, bytes}

@@ -32,7 +32,11 @@ returns c =
     ∙ ap₂ _else_ (c .before .before .before .before .too-long .ensures)
     (c .before .first-of .ensures
     ∙ ap₂ _else_ (c .before .before .before .before .before .before .pre .0)
-    (c .before .before .refuse .ensures ∙ ap (λ (b : Bool). refusal 2 with length (now (c .before .before .before .before .before .before .args .sheet)) if b) (c .before .before .before .is-missing .ensures ∙ ap isMissing (c .before .before .before .before .before .before .pre .1))))
+    (c .before .before .refuse .ensures
+    ∙ ap (λ (b : Bool).
+    refusal 2 with length (now (c .before .before .before .before .before .before .args .sheet)) if b)
+    (c .before .before .before .is-missing .ensures
+    ∙ ap isMissing (c .before .before .before .before .before .before .pre .1))))
     ∙ sym (refusal-is _ _)
 
 pub refusal-by-spec : {M : Type 1} → statement M

@@ -23,7 +23,9 @@ refuse-requires c κs = search needs
 returns : tie.Need-returns
 returns c =
     c .refuse .ensures
-    ∙ ap (λ (b : Bool). refusal 2 with length (now (c .before .before .before .before .args .sheet)) if (c .before .before .before .before .args .needed && b)) (c .before .is-missing .ensures ∙ ap isMissing (c .before .before .parse .ensures .1))
+    ∙ ap (λ (b : Bool). refusal 2 with length (now (c .before .before .before .before .args .sheet))
+    if (c .before .before .before .before .args .needed && b))
+    (c .before .is-missing .ensures ∙ ap isMissing (c .before .before .parse .ensures .1))
     ∙ when-missing _ _ (c .before .before .before .before .args .needed)
 
 pub required-spec : {M : Type 1} → statement M

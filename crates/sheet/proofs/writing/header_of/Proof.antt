@@ -26,7 +26,14 @@ low-requires-6 c κs = search needs
 returns : tie.Need-returns
 unfolding headerOf
 returns c =
-    rw (c .before .before .before .before .before .low .ensures, c .before .before .before .before .low2 .ensures, c .before .before .before .low3 .ensures, c .before .before .low4 .ensures, c .before .low5 .ensures, c .low6 .ensures)
+    rw (
+      c .before .before .before .before .before .low .ensures,
+      c .before .before .before .before .low2 .ensures,
+      c .before .before .before .low3 .ensures,
+      c .before .before .low4 .ensures,
+      c .before .low5 .ensures,
+      c .low6 .ensures,
+    )
 
 pub header-of-spec : {M : Type 1} → statement M
 header-of-spec =

@@ -27,12 +27,14 @@ returns c =
     let bytes = now (c .before .args .bytes) in
     let at = c .before .args .at in
     let buffer = now (c .before .args .buffer) in
-    let over : length buffer < at + length bytes = ⊎-elim (λ t. omega arith) (λ t. omega (arith, ltb-true)) (c .if1 .came) in
+    let over : length buffer < at + length bytes =
+    ⊎-elim (λ t. omega arith) (λ t. omega (arith, ltb-true)) (c .if1 .came) in
     (sym (put-not buffer at bytes over), sym (end-not buffer at bytes over))
 
 loop-holds : tie.Need-loop-holds Inv-loop μ-loop
 loop-holds c =
-    copying-start (now (c .before .before .args .buffer)) (c .before .before .args .at) (now (c .before .before .args .bytes)) (omega (arith, ltb-false))
+    copying-start (now (c .before .before .args .buffer)) (c .before .before .args .at)
+    (now (c .before .before .args .bytes)) (omega (arith, ltb-false))
 
 shared-slice-read-buffer : tie.Need-shared-slice-read-buffer Inv-loop μ-loop
 shared-slice-read-buffer c = search needs
@@ -63,8 +65,10 @@ returns-2 c =
     let bytes = now (c .before .before .before .before .args .bytes) in
     let at = c .before .before .before .before .args .at in
     let buffer = now (c .before .before .before .before .args .buffer) in
-    let copying = c .before .loop .inv in
-    (copying-done copying (c .loop-test .left) ∙ sym (put-fits buffer at bytes (copying .fits)), omega (arith, copying .inside, end-fits buffer at bytes (copying .fits)))
+    let copying = c .before .loop .inv in (
+      copying-done copying (c .loop-test .left) ∙ sym (put-fits buffer at bytes (copying .fits)),
+      omega (arith, copying .inside, end-fits buffer at bytes (copying .fits)),
+    )
 
 pub put-spec : {M : Type 1} → statement M
 put-spec =

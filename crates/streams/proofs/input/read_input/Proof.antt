@@ -1,5 +1,5 @@
--- `streams::input::read_input` meets its contract. The loop's invariant: what was read stands within the buffer. The measure is what is left of the turns.
--- Assumes nothing.
+-- `streams::input::read_input` meets its contract. The loop's invariant: what was read stands within the buffer. The
+-- measure is what is left of the turns. Assumes nothing.
 use borrow.Author.Needs.{needs}
 use native.Mathlib.Omega.{arith}
 use Prim.Native.Nat.{_≤_}
@@ -54,7 +54,11 @@ sub-turns c = search needs
 
 loop-less : tie.Need-loop-less Inv-loop μ-loop
 loop-less c =
-    omega (arith, ltb-true 0 (c .before .before .before .before .before .before .before .before .before .loop .turns) (c .before .before .before .before .before .before .before .if1 .taken))
+    omega (
+      arith,
+      ltb-true 0 (c .before .before .before .before .before .before .before .before .before .loop .turns)
+          (c .before .before .before .before .before .before .before .if1 .taken),
+    )
 
 loop-again : tie.Need-loop-again Inv-loop μ-loop
 loop-again c =

@@ -35,7 +35,8 @@ same-length c = search needs
 
 returns : tie.Need-returns
 returns c =
-    reached-after _ _ _ _ _ _ (c .step-after .ensures) (omega (arith, same-length c)) (omega (arith, same-length c, c .before .before .before .count .ensures .0 .0))
+    reached-after _ _ _ _ _ _ (c .step-after .ensures) (omega (arith, same-length c))
+    (omega (arith, same-length c, c .before .before .before .count .ensures .0 .0))
 
 pub read-more-spec : {M : Type 1} → statement M
 read-more-spec =

@@ -20,7 +20,8 @@ byte-requires-2 c κs = search needs
 
 returns : tie.Need-returns
 returns c =
-    load-is (now (c .before .before .before .before .before .args .p)) (c .before .before .before .column .result) (c .before .before .column2 .result) _ _ (c .before .byte .ensures) (c .byte2 .ensures)
+    load-is (now (c .before .before .before .before .before .args .p)) (c .before .before .before .column .result)
+    (c .before .before .column2 .result) _ _ (c .before .byte .ensures) (c .byte2 .ensures)
     (search needs) (search needs) (c .before .before .before .column .ensures) (c .before .before .column2 .ensures)
 
 pub load-spec : {M : Type 1} → statement M
