@@ -1,5 +1,5 @@
--- The bench (§8.2): from the words that it is started with and the bytes on its standard input to the bytes that it
--- writes to standard output and to standard error.
+-- The bench (§8.2): from its arguments, here called words, and the bytes on its standard input to the bytes that it
+-- writes to standard output and to standard error. The laws stand in Bench.Laws and Bench.Input.
 use Prim.Native.Nat.{ℕ}
 use mathlib.Core.Bool.{Bool, true, false}
 use mathlib.Core.List.{List}

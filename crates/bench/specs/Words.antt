@@ -1,4 +1,4 @@
--- From the words that the bench is started with to the service that they ask for (§8.2). The laws stand in Words.Laws.
+-- From the arguments of the bench, here called words, to the service that they ask for (§8.2). The laws: Words.Laws.
 use Prim.Native.Nat.{ℕ, zero, suc, _+_, _*_, _-_}
 use Prim.Native.String.{String}
 use mathlib.Core.Bool.{Bool, true, cond, _&&_}
@@ -15,25 +15,25 @@ use Rattle.bench.specs.declared.words.Service.the-variants.{Wrong, OnShe
 use Rattle.bench.specs.declared.words.SheetService.the-variants.{Judge, Certify, Build, Read}
 pub mod Laws
 
--- ---- one word
--- the most bytes of a word: those of the longest file name
+-- ---- one argument
+-- the most bytes of an argument (§8.2)
 abbrev pub mostBytes : ℕ
 mostBytes = 4095
 
--- what a word stands for, unless it is empty or too long
+-- the service that an argument asks for, unless it is empty or too long, which are mistakes (§8.2)
 unfoldable pub unlessUnfit : List ℕ → Service → Service
 unlessUnfit w service = cond (eqb (length w) 0) (Wrong Empty) (cond (ltb mostBytes (length w)) (Wrong Long) service)
 
--- a byte that is a decimal digit
+-- whether a byte is a decimal digit
 abbrev pub isDigit : ℕ → Bool
 isDigit b = leb 48 b && leb b 57
 
--- decimal digits alone
+-- whether all bytes are decimal digits
 unfoldable pub allDigits : List ℕ → Bool
 allDigits [] = true
 allDigits (b ∷ bs) = isDigit b && allDigits bs
 
--- the number that more digits make, behind digits of this value
+-- the value of decimal digits that follow digits of this value
 unfoldable pub valueFrom : ℕ → List ℕ → ℕ
 valueFrom value [] = value
 valueFrom value (b ∷ bs) = valueFrom (10 * value + (b - 48)) bs
@@ -42,25 +42,26 @@ valueFrom value (b ∷ bs) = valueFrom (10 * value + (b - 48)) bs
 abbrev pub mostKind : ℕ
 mostKind = 65535
 
--- decimal digits that make at most 65535 are a kind, to be read
+-- reading the kind that an argument of one digit or more gives, at most 65535 (§8.2); other arguments are a mistake
 unfoldable pub kindIn : List ℕ → Service
 kindIn w = cond (allDigits w && leb (valueFrom 0 w) mostKind) (OnSheet (Read (valueFrom 0 w))) (Wrong Kind)
 
--- a word that is to be a kind
+-- reading the kind that the argument KIND gives, or what is wrong with that argument (§8.2)
 unfoldable pub kindOf : List ℕ → Service
 kindOf w = unlessUnfit w (kindIn w)
 
 -- ---- the services
--- a service's name, how many words stand behind it, and which service it is, by the word behind it
+-- a service's name, how many arguments follow it, and which service it is, by the argument after the name
 pub record Row : Type 0 where
   pub name : List ℕ
   pub behind : ℕ
   pub service : List ℕ → Service
 
--- whatever stands behind it
+-- the same service, whatever argument follows
 abbrev pub always : Service → List ℕ → Service
 always service w = service
 
+-- a row whose name is this text
 abbrev pub row : String → ℕ → (List ℕ → Service) → Row
 row name behind service = record { name = bytes name; behind = behind; service = service }
 
@@ -69,7 +70,7 @@ infixl 20 _and_
 abbrev pub _and_ : List Row → Row → List Row
 rows and r = r ∷ rows
 
--- one row a name
+-- the services, a row for each name (§8.2)
 unfoldable pub services : List Row
 services =
     []
@@ -82,31 +83,34 @@ services =
     and row "--help" 0 (always Help)
     and row "-h" 0 (always Help)
 
--- where a word is a name: so many words behind it, and the service
+-- where an argument is this name: how many arguments follow it, and the service; else the other
 unfoldable pub foundOr : List ℕ → List ℕ → ℕ → Service → Lookup → Lookup
 foundOr w name behind service other = cond (same w name) (Found behind service) other
 
--- the row whose name the first word is, with the word behind it
+-- the row whose name is w, with v for the argument after it; Nothing where no row has that name
 unfoldable pub named : List Row → List ℕ → List ℕ → Lookup
 named [] w v = Nothing
 named (r ∷ rows) w v = foundOr w (r .name) (r .behind) (r .service v) (named rows w v)
 
--- as many words behind the name as it takes
+-- the service, where as many arguments follow its name as it takes; else too few or too many; no name is a mistake too
 unfoldable pub counted : ℕ → Lookup → Service
 counted n Nothing = Wrong Unknown
 counted n (Found behind service) = cond (ltb n behind) (Wrong Few) (cond (ltb behind n) (Wrong Many) service)
 
--- what the words ask for; without one the bench judges
+-- what the arguments ask for (§8.2); without one the bench judges
 unfoldable pub serviceOf : List (List ℕ) → Service
 serviceOf [] = OnSheet Judge
 serviceOf (w ∷ ws) = unlessUnfit w (counted (length ws) (named services w (getD ws 0 [])))
 
--- ---- the words as the program has them: how many there are, and the first two. Words behind these are counted, and
--- not looked at: words-are, in Words.Laws, says that this is enough
+-- ---- the arguments as the program has them: their number and the first two. Later ones are counted and not looked at,
+-- which is enough: words-are, in Words.Laws
+
+-- n arguments after the first: the second, and empty ones for those after it
 unfoldable pub behindFirst : ℕ → List ℕ → List (List ℕ)
 behindFirst zero second = []
 behindFirst (suc n) second = second ∷ replicate n []
 
+-- n arguments: the first, the second, and empty ones for those after them
 unfoldable pub wordsOf : ℕ → List ℕ → List ℕ → List (List ℕ)
 wordsOf zero first second = []
 wordsOf (suc n) first second = first ∷ behindFirst n second

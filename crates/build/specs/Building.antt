@@ -32,29 +32,29 @@ pub mod Twin
 abbrev pub buildNeeds : Needs
 buildNeeds = record { word = true; sequence = false; answers = false }
 
--- there is no transfer
+-- whether there is no transfer
 abbrev pub noTransfer : Option (List ℕ) → Bool
 noTransfer none = true
 noTransfer (some t) = false
 
--- not connected (§4.2): the lowest s that has no transfer B(s). That no commands at all lead there is a law:
+-- not connected (§4.2): the lowest s that has no transfer B(s). That no command string leads there is a law:
 -- refused-unconnected and unconnected-refused, in Building.Connection
 unfoldable pub cause8 : Mealy → List ℕ → Check
 cause8 M w = first (M .n) (λ s. refusal 8 with s if noTransfer (B M w s))
 
--- causes 1 to 6, then 8, then 9 with the length of the sequence
+-- the causes of building in order (§4.1): 1 to 6, then 8, then 9, for which the length of the sequence is needed
 unfoldable pub buildCauses : ℕ → List ℕ → List Check
 buildCauses room s =
     loadCauses buildNeeds s
     ++ (cause8 (machineIn s) (content 2 s) ∷ cause9 room (length (sequence (machineIn s) (content 2 s))) ∷ [])
 
 -- ---- the service
--- what building answers to a sheet and a room: the length of the sequence (§6.4)
+-- what building answers to a sheet and a room: the length of the sequence (§6.4), or a refusal
 unfoldable pub building : ℕ → List ℕ → Answer
 building room s =
     refusedOr RefusedAnswer (firstCause (buildCauses room s)) (Built (length (sequence (machineIn s) (content 2 s))))
 
--- the lent buffer after building (§6.4)
+-- the lent buffer after building: it begins with the sequence (§6.4); on a refusal it is as before (§4.3)
 unfoldable pub bufferAfter : List ℕ → List ℕ → List ℕ
 bufferAfter s buffer =
     unlessRefused (firstCause (buildCauses (length buffer) s))

@@ -1,6 +1,6 @@
--- The prescribed sequence (§6.2, §6.3), of a machine M and a word w: the field's checking sequence. Sequence.Cycle has
--- the laws of the states counted round, Sequence.Laws where each part leads; Sequence.Certified shows that the sequence
--- is certified, Sequence.Length how long it is at most. In the laws T(s) is called a block.
+-- The prescribed sequence (§6.2, §6.3) of a machine M and a word w. T(s) is also called a block. Sequence.Cycle has the
+-- laws of the states counted round, Sequence.Laws where each part leads, Sequence.Certified that the sequence is
+-- certified, which makes it a checking sequence, and Sequence.Length how long it is at most.
 use Prim.Native.Nat.{ℕ, zero, suc, _+_, _-_, _*_}
 use mathlib.Core.Bool.{Bool, true, false}
 use mathlib.Core.List.{List, [], _∷_, _++_}
@@ -15,7 +15,7 @@ pub mod Laws
 pub mod Certified
 pub mod Length
 
--- 0, or one more
+-- 0 after the last state, else one more
 abbrev pub nextOr : Bool → ℕ → ℕ
 nextOr true s = 0
 nextOr false s = s + 1
@@ -24,11 +24,11 @@ nextOr false s = s + 1
 unfoldable pub following : ℕ → ℕ → ℕ
 following n s = nextOr (eqb (s + 1) n) s
 
--- B(s) (§6.2): the transfer to the state after s, from the state in which the word leaves s
+-- B(s) (§6.2): the transfer to the state after s, from the state to which the word leads from s
 abbrev pub B : Mealy → List ℕ → ℕ → Option (List ℕ)
 B M w s = transfer M (run M s w) (following (M .n) s)
 
--- T(s) (§6.2), the field's T-sequence. Where there is no B(s) cause 8 is present and nothing is built
+-- T(s) (§6.2): the word and after it B(s). Where there is no B(s) cause 8 is present and nothing is built
 unfoldable pub T : Mealy → List ℕ → ℕ → List ℕ
 T M w s = w ++ Option·getD (B M w s) []
 
@@ -43,11 +43,11 @@ unfoldable pub firstBlocks : Mealy → List ℕ → ℕ → List ℕ
 firstBlocks M w zero = []
 firstBlocks M w (suc i) = firstBlocks M w i ++ T M w (nthState M i)
 
--- the opening (§6.3, 1): a block for each state, then that of the start again. It is the field's α-sequence
+-- the opening (§6.3, 1): a block for each state, then that of the start again; in the literature an α-sequence
 unfoldable pub opening : Mealy → List ℕ → List ℕ
 opening M w = firstBlocks M w (M .n) ++ T M w (M .start)
 
--- commands, unless a state is reached already
+-- commands, or none where the state is reached already
 abbrev pub unless : Bool → List ℕ → List ℕ
 unless true xs = []
 unless false xs = xs
@@ -59,17 +59,17 @@ approach M w zero present s = []
 approach M w (suc i) present s =
     unless (eqb present s) (T M w present ++ approach M w i (run M present (T M w present)) s)
 
--- an entry's test (§6.3, 2): the way there, the command, and the block of the entry's next state. Command and block are
--- the field's transition test
+-- an entry's test (§6.3, 2): the way to its state, the command, and the block of the entry's next state. Command and
+-- block are a transition test in the literature
 unfoldable pub test : Mealy → List ℕ → ℕ → ℕ → ℕ → List ℕ
 test M w present s c = approach M w (M .n) present s ++ (c ∷ T M w (M .next s c))
 
--- the tests of a state's first entries by rising command, from the present state on
+-- the tests of the first c entries of state s, by rising command (§6.3, 2), from the present state on
 unfoldable pub stateTests : Mealy → List ℕ → ℕ → ℕ → ℕ → List ℕ
 stateTests M w present s zero = []
 stateTests M w present s (suc c) = let xs = stateTests M w present s c in xs ++ test M w (run M present xs) s c
 
--- the tests of the first states by rising state
+-- the tests of the first states' entries, by rising state (§6.3, 2), from the present state on
 unfoldable pub tests : Mealy → List ℕ → ℕ → ℕ → List ℕ
 tests M w present zero = []
 tests M w present (suc s) = let xs = tests M w present s in xs ++ stateTests M w (run M present xs) s (M .k)
@@ -78,7 +78,7 @@ tests M w present (suc s) = let xs = tests M w present s in xs ++ stateTests M w
 unfoldable pub sequence : Mealy → List ℕ → List ℕ
 sequence M w = let xs = opening M w in xs ++ tests M w (run M (M .start) xs) (M .n)
 
--- c of the length formula (§6.4), which no T(s) exceeds
+-- c of the length formula (§6.4): no T(s) has more commands
 abbrev pub blockBound : Mealy → List ℕ → ℕ
 blockBound M w = length w + M .n - 1
 

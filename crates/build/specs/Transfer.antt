@@ -13,48 +13,48 @@ pub mod Laws
 pub mod Paths
 
 -- ---- as the specification says it
--- a command string that leads from a to b: the field's transfer sequence, of any length
+-- a command string, of any length, that leads from a to b (§6.1)
 pub record Leads (M : Mealy) (a b : ℕ) (u : List ℕ) : Type 0 where
   pub commands : (i : ℕ) → i < length u → getD u i 0 < M .k
   pub ends : run M a u ≡ b
 
--- byte order, of strings of one length: at the first place where they differ, u has the lower command
+-- byte order (§1.2), of strings of one length: at the first place where they differ, u has the lower command
 pub record Before (u v : List ℕ) : Type 0 where
   pub place : ℕ
   pub inside : place < length u
   pub same : take place u ≡ take place v
   pub lower : getD u place 0 < getD v place 0
 
--- the transfer from a to b (§6.1): of the strings that lead there none is shorter, and none of its length comes
--- before it in byte order
+-- the transfer from state a to state b (§6.1): of the strings that lead there none is shorter, and none of its length
+-- comes before it in byte order. That a and b are states is not asked; from or to other numbers `transfer` has none
 pub record IsTransfer (M : Mealy) (a b : ℕ) (t : List ℕ) : Type 0 where
   pub leads : Leads M a b t
   pub shortest : (u : List ℕ) → Leads M a b u → length t ≤ length u
   pub first : (u : List ℕ) → Leads M a b u → length u ≡ length t → Before u t → ⊥
 
 -- ---- computed
--- a string, where a test holds
+-- a string or none, where a test holds; else none
 unfoldable pub guard : Bool → Option (List ℕ) → Option (List ℕ)
 guard true o = o
 guard false o = none
 
--- the first of f 0, f 1, .., f (n - 1) that there is
+-- the first string among f 0, f 1, .., f (n - 1), or none
 unfoldable pub firstOf : ℕ → (ℕ → Option (List ℕ)) → Option (List ℕ)
 firstOf zero f = none
 firstOf (suc n) f = orElse (firstOf n f) (f n)
 
--- firstPath M b m a: the first string in byte order of exactly m commands that leads from a to b along states of the
--- machine; of m + 1 it is the least command that has one behind it
+-- firstPath M b m a: of the strings of exactly m commands that lead from a to b along states of the machine, the first
+-- in byte order. One of m + 1 commands begins with the least command after which there is one of m
 unfoldable pub firstPath : Mealy → ℕ → ℕ → ℕ → Option (List ℕ)
 firstPath M b zero a = guard (ltb a (M .n) && eqb a b) (some [])
 firstPath M b (suc m) a =
     guard (ltb a (M .n)) (firstOf (M .k) (λ c. Option·map (_∷_ c) (firstPath M b m (M .next a c))))
 
--- the transfer from a to b: the least length below n that has a string, and the first string of that length. Where a
--- string of any length leads from a to b, there is one of a length below n: leads-some, in Transfer.Laws
+-- the transfer from a to b (§6.1): the first string of the least length below n that has one. Where a string of any
+-- length leads from a to b, one of a length below n does: leads-some, in Transfer.Laws
 unfoldable pub transfer : Mealy → ℕ → ℕ → Option (List ℕ)
 transfer M a b = firstOf (M .n) (λ m. firstPath M b m a)
 
--- the transfer in the program's answer: the first commands of its array, where one is found
+-- the transfer in what `build::transfer` returns: the first commands of its array where one was found, else none
 abbrev pub transferIn : MaybeTransfer → Option (List ℕ)
 transferIn p = guard (p .found) (some (take (p .length) (p .commands)))

@@ -11,7 +11,7 @@ use machine::Entry;
 use machine::Limits;
 use sheet::Check;
 
-// A buffer, or what reading handed back, behind its bar.
+// A buffer, or what reading gave, behind its bar.
 pub(crate) fn buffer(part: &[u8], out: &mut [u8], used: usize) -> usize {
     let at = text(b" | ", out, used);
     bytes(part, out, at)

@@ -1,9 +1,8 @@
--- Certifying: causes 1 to 7 and 9 (§4.2), the open number, the answer, what is written (§5.4), and the contract. Shut
--- are `verified`, `openCause`, `openIn`, `outcome`, `certification` and `marksAfter`: what an answer and a mark mean is
--- said by the contract itself, in the words of Recognition, and Certification.Contract shows that it holds of these
--- definitions. Certification.Laws has the laws of the causes and what building and the starred cases need,
--- Certification.Program the open number by a table of known entries, as the program finds it, and in Certification.Twin
--- the starred sequences are computed.
+-- Certifying: causes 1 to 7 and 9 (§4.2), the answer and what is written (§5.4), and the contract (§4.4), which says by
+-- Recognition what an answer and a mark mean. No other module can unfold `verified`, `openCause`, `openIn`, `outcome`,
+-- `certification` and `marksAfter`; Certification.Contract shows that the contract holds of them. Certification.Laws
+-- has the laws of causes, answer and buffer, Certification.Bounds how large the values are, Certification.Program what
+-- the program's own functions need; Certification.Twin computes the starred sequences.
 use Prim.Native.Nat.{ℕ, _+_, _*_}
 use mathlib.Core.Path.{_≡_}
 use mathlib.Core.Bool.{Bool, true, false, not, _&&_}
@@ -39,11 +38,11 @@ pub mod Twin
 abbrev pub sequenceNeeds : Bool → Needs
 sequenceNeeds answers = record { word = true; sequence = true; answers = answers }
 
--- sequence (§4.2)
+-- cause 7, sequence (§4.2)
 abbrev pub cause7 : ℕ → Record → List ℕ → Check
 cause7 k r xs = commandsCause 7 mostSequence k r xs
 
--- room (§4.2), with the bytes that are needed
+-- cause 9, room (§4.2): the room is smaller than the bytes that are needed; these are the place
 unfoldable pub cause9 : ℕ → ℕ → Check
 cause9 room bytes = refusal 9 with bytes if ltb room bytes
 
@@ -51,18 +50,18 @@ cause9 room bytes = refusal 9 with bytes if ltb room bytes
 abbrev pub markBytes : List ℕ → ℕ
 markBytes xs = length xs + 1
 
--- causes 1 to 7, then 9, of a service that certifies, by whether it needs the answers, and of a room for marks
+-- causes 1 to 7, then 9, of a service that certifies (§4.1), by whether it needs the answers and by the room for marks
 unfoldable pub sequenceCauses : Bool → ℕ → List ℕ → List Check
 sequenceCauses answers room s =
     loadCauses (sequenceNeeds answers) s
     ++ (cause7 (machineIn s .k) (recordOf 3 s) (content 3 s) ∷ cause9 room (markBytes (content 3 s)) ∷ [])
 
--- those of certifying itself
+-- the causes of certifying (§4.1)
 abbrev pub certifyCauses : ℕ → List ℕ → List Check
 certifyCauses room s = sequenceCauses false room s
 
 -- ---- what is certified
--- Verified of Recognition, computed from marks
+-- whether entry (s, c) is verified by these marks: Verified of Recognition, computed
 pub verified : Mealy → List ℕ → List ℕ → ℕ → ℕ → Bool
 verified M xs ms s c =
     any (length xs) (λ i. eqb (stateAt M xs i) s && (eqb (getD xs i 0) c && (marked ms i && marked ms (i + 1))))
@@ -71,42 +70,43 @@ verified M xs ms s c =
 abbrev pub entryCause : Mealy → List ℕ → List ℕ → ℕ → ℕ → Check
 entryCause M xs ms s c = refusal 11 with 1 + (s * M .k + c) if not (verified M xs ms s c)
 
--- OpenNumber of Recognition, computed from marks, as cause 11 with the number as its place; Clear where there is none
+-- the open number by these marks, as cause 11 with the number as its place (`OpenNumber` of Recognition, computed);
+-- Clear where there is none
 pub openCause : Mealy → List ℕ → List ℕ → Check
 openCause M xs ms =
     (refusal 11 with 0 if not (marked ms 0))
     else first (M .n) (λ s. first (M .k) (entryCause M xs ms s))
 
--- the same by the sequence's own marks
+-- the open number by the sequence's own marks, in the same form
 pub openIn : Mealy → List ℕ → List ℕ → Check
 openIn M w xs = openCause M xs (marks M w xs)
 
--- certified or open (§5.4), by the open number and by how many places are recognised
+-- certified where there is no open number, else open (§5.4); both with the number of recognised places
 abbrev pub answerOf : Check → ℕ → Answer
 answerOf Clear recognised = CertifiedAnswer recognised
 answerOf (Refused number place) recognised = Open recognised place
 
--- the answer where nothing is refused
+-- what certifying answers where nothing is refused (§5.4)
 pub outcome : Mealy → List ℕ → List ℕ → Answer
 outcome M w xs = answerOf (openIn M w xs) (count (marks M w xs))
 
 -- ---- the service
--- what certifying answers to a sheet and a room for marks
+-- what certifying answers to a sheet and a room for marks (§4.1, §5.4)
 pub certification : ℕ → List ℕ → Answer
 certification room s =
     refusedOr RefusedAnswer (firstCause (certifyCauses room s)) (outcome (machineIn s) (content 2 s) (content 3 s))
 
--- how marks are kept in a buffer (§5.4): they are its first bytes, and the bytes behind keep their values
+-- marks in a buffer (§5.4): one byte each, written to its start, and the bytes after them keep their values
 unfoldable pub kept : List ℕ → List ℕ → List ℕ
 kept ms buffer = written ms buffer
 
--- the lent buffer after certifying
+-- the lent buffer after certifying: it begins with the marks (§5.4); on a refusal it is as before (§4.3)
 pub marksAfter : List ℕ → List ℕ → List ℕ
 marksAfter s buffer =
     unlessRefused (firstCause (certifyCauses (length buffer) s))
     (kept (marks (machineIn s) (content 2 s) (content 3 s)) buffer) buffer
 
--- the marks of a sequence that a buffer holds
+-- the first N + 1 bytes of a buffer, where the marks of a sequence are (§5.4)
 unfoldable pub keptIn : List ℕ → List ℕ → List ℕ
 keptIn xs buffer = take (markBytes xs) buffer
 
@@ -118,28 +118,27 @@ valuesOf (CertifiedAnswer recognised) = record { class = 110; place = recognised
 valuesOf (Open recognised number) = record { class = 111; place = recognised; a = 0; b = number }
 valuesOf (RefusedAnswer number place) = refusalValues number place
 
--- certified with a number: no cause is present, the rules certify the sequence, and that many places are recognised
+-- certified with a number (§5.4): no cause is present, the rules certify the sequence, and so many places are
+-- recognised
 pub record CertifiedWith (room : ℕ) (s : List ℕ) (n : ℕ) : Type 0 where
   pub clear : firstCause (certifyCauses room s) ≡ Clear
   pub certified : Certified (machineIn s) (content 2 s) (content 3 s)
   pub number : RecognisedNumber (machineIn s) (content 2 s) (content 3 s) n
 
--- open with two numbers: no cause is present, the second is the sequence's open number, and as many places as the
--- first says are recognised
+-- open with two numbers (§5.4): no cause is present, so many places are recognised, and v is the sequence's open number
 pub record OpenWith (room : ℕ) (s : List ℕ) (n v : ℕ) : Type 0 where
   pub clear : firstCause (certifyCauses room s) ≡ Clear
   pub open-number : OpenNumber (machineIn s) (content 2 s) (content 3 s) v
   pub number : RecognisedNumber (machineIn s) (content 2 s) (content 3 s) n
 
--- what an answer to a sheet and a room for marks says: each case is answered exactly where that holds
+-- what an answer to a sheet and a room for marks says (§5.4): each case is answered exactly where that holds
 pub record Says (room : ℕ) (s : List ℕ) (a : Answer) : Type 0 where
   pub certified : (n : ℕ) → (a ≡ CertifiedAnswer n) ↔ CertifiedWith room s n
   pub opened : (n v : ℕ) → (a ≡ Open n v) ↔ OpenWith room s n v
   pub refused : (n p : ℕ) → (a ≡ RefusedAnswer n p) ↔ (firstCause (certifyCauses room s) ≡ Refused n p)
 
 -- what certifying a sheet promises (§4.4): the specified answer with its number and values, and what it says; every
--- byte of the lent buffer, and what these are: the marks of the recognised places with later bytes unchanged, or, on a
--- refusal, what was there before
+-- byte of the lent buffer, and what these are: the marks with later bytes unchanged or, on a refusal, those before
 pub record Certifies (s before after : List ℕ) (a : Answer) : Type 0 where
   pub answer : Returns valuesOf (certification (length before) s) a
   pub says : Says (length before) s a

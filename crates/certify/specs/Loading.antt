@@ -1,5 +1,5 @@
--- What a service that certifies begins with, here and in judging: the first refusal of causes 1 to 7 and 9 (§4.2), or
--- the machine, with a sequence of its commands and room for the marks.
+-- What a service that certifies begins with, here and in judging (§4.2, §4.4): the first refusal of causes 1 to 7 and
+-- 9, and the machine.
 use Prim.Native.Nat.{ℕ, _≤_}
 use mathlib.Core.Path.{_≡_}
 use mathlib.Core.Bool.{Bool}
@@ -13,12 +13,12 @@ use Rattle.machine.specs.Machine.{meaning, Proper, Commands}
 use Rattle.machine.specs.Causes.{machineIn, held}
 use Rattle.certify.specs.Certification.{markBytes, sequenceCauses}
 
--- whether the answers are needed, the room for marks, the sheet s, and what loading it answers
+-- what `load_sequence` promises of its answer l, by whether the answers are needed, the room for marks, and the sheet s
 pub record SequenceLoaded (answers : Bool) (room : ℕ) (s : List ℕ) (l : Loaded) : Type 0 where
   -- the first refusal, or Clear
   pub check : l .check ≡ firstCause (sequenceCauses answers room s)
-  -- where nothing is refused: the machine is the sheet's and within its limits, the sequence is one of its
-  -- commands, and its marks fit
+  -- where nothing is refused: the machine is the sheet's and within its limits, the sequence is within its limits and
+  -- of the machine's commands, and its marks fit
   pub machine : l .check ≡ Clear → meaning (l .machine) ≡ machineIn s
   pub proper : l .check ≡ Clear → Proper (meaning (l .machine))
   pub commands : l .check ≡ Clear → Commands mostSequence (meaning (l .machine) .k) (content 3 s)

@@ -1,7 +1,7 @@
 -- The recognised places as marks, computed: one byte for each of the places 0 to N, 1 for recognised and 0 otherwise.
--- Marks.Agreement shows that they are exactly those of Recognition, so only `count` has to be read besides. A small
--- name is what is computed, the same name with a capital is the statement (`occursAt` and OccursAt, `closure` and
--- Closure). Shut are `occursAt`, `byRule2`, `grown`, `settled`, `closure` and `marks`.
+-- Marks.Agreement shows that they are exactly those of Recognition, so only `count`, with `mark`, has to be read. A
+-- small name is what is computed, the same name with a capital the statement (`occursAt` and OccursAt, `closure` and
+-- Closure). No other module can unfold `occursAt`, `byRule2`, `grown`, `settled`, `closure` and `marks`.
 use Prim.Native.Nat.{ℕ, zero, suc, _+_, _-_, _≤_}
 use mathlib.Core.Bool.{Bool, true, false, _&&_, _||_}
 use mathlib.Core.List.{List, [], _∷_}

@@ -1,6 +1,6 @@
--- Recognition as its rules read (§5.1): the recognised places, verified entries and certified sequences (§5.3), the
--- open number, and the marks with their number (§5.4). M is the machine, w the word, xs the sequence. `Recognised` is
--- shut: what is known of it outside are the laws in Recognition.Laws, and in Marks.Agreement that it can be computed.
+-- Recognition by its rules (§5.1): the recognised places, verified entries and certified sequences (§5.3), the open
+-- number, and the marks with their number (§5.4). M is the machine, w the word, xs the sequence. No other module can
+-- unfold `Recognised`: what is known of it is in Recognition.Laws, and in Marks.Agreement that it can be computed.
 use Prim.Native.Nat.{ℕ, _+_, _*_, _≤_, _<_}
 use mathlib.Core.Path.{_≡_}
 use mathlib.Core.List.{List}
@@ -20,19 +20,19 @@ pub record OccursAt (w xs : List ℕ) (p : ℕ) : Type 0 where
 pub data Closure (xs : List ℕ) (state : ℕ → ℕ) (Base : ℕ → Type 0) : ℕ → Type 0 where
   rule1 : {p : ℕ} → Base p → Closure xs state Base p
   -- rule 2: p and q are in the set and have one state, p + m is in it, and the m commands from q are those from p; then
-  -- so is q + m, which is a place of the sequence and here named r
+  -- so is r, the place q + m. That p + m ≤ N is not asked: of recognised places it follows (recognised-inside)
   rule2 : {r : ℕ} (p q m : ℕ) → 1 ≤ m
       → Closure xs state Base p → Closure xs state Base q → state p ≡ state q
       → Closure xs state Base (p + m) → q + m ≤ length xs
       → take m (drop p xs) ≡ take m (drop q xs)
       → r ≡ q + m → Closure xs state Base r
 
--- place p is recognised; in the field by rule 1 d-recognised, by rule 2 t-recognised
+-- place p is recognised (§5.1); in the literature d-recognised by rule 1, t-recognised by rule 2
 pub Recognised : Mealy → List ℕ → List ℕ → ℕ → Type 0
 Recognised M w xs = Closure xs (stateAt M xs) (OccursAt w xs)
 
--- entry (s, c) is verified (§5.3): command c comes at a recognised place of state s, and the place behind it is
--- recognised too. It is the field's edge verification
+-- entry (s, c) is verified (§5.3), in the literature a verified edge: command c comes at a recognised place of state s,
+-- and the place after it is recognised too
 pub record Verified (M : Mealy) (w xs : List ℕ) (s c : ℕ) : Type 0 where
   pub place : ℕ
   pub inside : place < length xs
@@ -47,8 +47,8 @@ pub record Certified (M : Mealy) (w xs : List ℕ) : Type 0 where
   pub start : Recognised M w xs 0
   pub entries : (s c : ℕ) → s < M .n → c < M .k → Verified M w xs s c
 
--- the open number (§5.4): 0 where place 0 is not recognised; else it names the first entry, by state and then by
--- command, that is not verified
+-- the open number v (§5.4): 0 where place 0 is not recognised; else 1 + s·k + c for the first entry (s, c), by state
+-- and then by command, that is not verified
 pub data OpenNumber (M : Mealy) (w xs : List ℕ) (v : ℕ) : Type 0 where
   start-open : (Recognised M w xs 0 → ⊥) → v ≡ 0 → OpenNumber M w xs v
   entry-open : (s c : ℕ) → s < M .n → c < M .k → Recognised M w xs 0 → (Verified M w xs s c → ⊥)

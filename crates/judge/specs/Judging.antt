@@ -1,7 +1,6 @@
 -- Judging: causes 1 to 7, 9, 10 and 11 (§4.2), the results and what is written (§7), and the identity claim (§9.3).
--- Certification is known by its contract: `certification` and `marksAfter`, its answer and its buffer, are shut, and
--- what they say is the contract's. The laws of the verdict stand in Judging.Verdict, those of a sheet in Judging.Laws,
--- bounds on places in Judging.Bounds.
+-- Certifying's answer and buffer, `certification` and `marksAfter`, cannot be unfolded here: its contract says what
+-- they are. Judging.Verdict has laws of the verdict, Judging.Laws those of a sheet, Judging.Bounds bounds on values.
 use Prim.Native.Nat.{ℕ, suc}
 use mathlib.Core.Path.{_≡_}
 use mathlib.Core.Bool.{true, false, cond}
@@ -28,7 +27,7 @@ pub mod Laws
 pub mod Bounds
 
 -- ---- causes
--- answers (§4.2), at the start of the record: there are more than commands
+-- cause 10, answers (§4.2), at the start of the record: there are more answers than commands
 unfoldable pub cause10 : Record → List ℕ → List ℕ → Check
 cause10 r xs ys = refusal 10 with r .start if ltb (length xs) (length ys)
 
@@ -36,17 +35,17 @@ cause10 r xs ys = refusal 10 with r .start if ltb (length xs) (length ys)
 unfoldable pub judgeCauses : ℕ → List ℕ → List Check
 judgeCauses room s = sequenceCauses true room s ++ (cause10 (recordOf 4 s) (content 3 s) (content 4 s) ∷ [])
 
--- not certified (§4.2), by what certifying answers: an open sequence is refused with its open number. Where certifying
--- itself refuses, its refusal stays one; that does not happen here, since judging has refused such a sheet before
--- (certifying-clear)
+-- not certified (§4.2), by what certifying answers: an open sequence is refused with its open number. A refusal of
+-- certifying would stay one; there is none here, since judging has refused such a sheet before: certifying-clear, in
+-- Judging.Laws
 unfoldable pub cause11 : Certification → Check
 cause11 (Certified recognised) = Clear
 cause11 (Open recognised number) = Refused 11 number
 cause11 (RefusedThere number place) = Refused number place
 
 -- ---- the results
--- how many of the answers from the front are the specified ones: the first place where they differ, or the
--- length of the shorter list
+-- how many answers from the front are the specified ones: the first place at which the lists differ, or the length of
+-- the shorter one
 unfoldable pub agreed : List ℕ → List ℕ → ℕ
 agreed [] ys = 0
 agreed (x ∷ xs) [] = 0
@@ -59,7 +58,7 @@ resultAt M xs ys right =
     cond (ltb right (length ys)) (Wrong right (getD (answers M (M .start) xs) right 0) (getD ys right 0))
     (cond (ltb right (length xs)) (Unfinished right) (Pass (length xs) (stateAt M xs (length xs))))
 
--- the result for a machine, a sequence and the answers given to it
+-- the result (§7) for a machine, a sequence, and the answers given to it, which are no more than the commands
 unfoldable pub verdict : Mealy → List ℕ → List ℕ → Answer
 verdict M xs ys = resultAt M xs ys (agreed (answers M (M .start) xs) ys)
 
@@ -70,12 +69,12 @@ judgement room s =
     refusedOr RefusedAnswer (firstCause (judgeCauses room s))
     (refusedOr RefusedAnswer (cause11 (certification room s)) (verdict (machineIn s) (content 3 s) (content 4 s)))
 
--- the lent buffer after judging (§7): that of certifying, for the results and for refusal 11
+-- the lent buffer after judging: that of certifying for a result (§7) and for refusal 11, otherwise as before (§4.3)
 unfoldable pub judgedMarks : List ℕ → List ℕ → List ℕ
 judgedMarks s buffer = unlessRefused (firstCause (judgeCauses (length buffer) s)) (marksAfter s buffer) buffer
 
--- number and values of each answer (§8.3): pass has N as its place and the end state as b, wrong its place, the
--- specified answer as a and the given one as b, unfinished the number of answers as its place
+-- number and values of each answer (§8.3): pass has N as its place and the end state as b; wrong its place, the
+-- specified answer as a and the given one as b; unfinished the number of answers as its place
 abbrev pub valuesOf : Answer → Values
 valuesOf (Pass size end) = record { class = 100; place = size; a = 0; b = end }
 valuesOf (Wrong place specified given) = record { class = 101; place = place; a = specified; b = given }

@@ -1,6 +1,5 @@
--- The unit on the bench (§9.1) and the renaming (§9.2): what the identity claim speaks of. That a certified
--- sequence with the specified answers gives a renaming is shown in Unit.Identity, and in Unit.Behaviour what it
--- says of the unit's answers.
+-- The unit on the bench (§9.1) and the renaming (§9.2), of which the identity claim is made. Unit.Identity shows that a
+-- certified sequence with the specified answers gives a renaming, Unit.Behaviour what that says of the unit's answers.
 use Prim.Native.Nat.{ℕ, _≤_, _<_}
 use mathlib.Core.Path.{_≡_}
 use mathlib.Core.List.{List}
@@ -9,9 +8,9 @@ use Rattle.machine.specs.Machine.{Mealy, run, answers, stateAt}
 pub mod Identity
 pub mod Behaviour
 
--- a unit for a machine of n states and k commands (§9.1), the field's implementation under test: m states, at most n;
--- the state u in which the run begins; and a next state, among the m, and an answer for each state and command. That m
--- is at least 1 follows from u; that an answer is a byte is not asked
+-- a unit for a machine of n states and k commands (§9.1), in the literature an implementation under test: m states, at
+-- most n; the state u in which the run begins; and a next state, among the m, and an answer for each state and command.
+-- That m is at least 1 follows from u; that an answer is a byte is not asked
 pub record Unit (n k : ℕ) : Type 0 where
   pub m : ℕ
   pub few : m ≤ n
@@ -26,7 +25,7 @@ module _ (n k : ℕ) (U : Unit n k) where
   abbrev pub tableOf : Mealy
   tableOf = record { n = U .m; k = k; start = U .u; next = U .next; answer = U .answer }
 
-  -- the answers that it gives to a sequence, which finds it in u (§9.1)
+  -- the answers that it gives to a sequence, in u at its first command (§9.1)
   abbrev pub ownAnswers : List ℕ → List ℕ
   ownAnswers xs = answers tableOf (U .u) xs
 
@@ -34,9 +33,10 @@ module _ (n k : ℕ) (U : Unit n k) where
   abbrev pub presentState : List ℕ → ℕ
   presentState xs = run tableOf (U .u) xs
 
--- a renaming (§9.2): it assigns a state of the unit to each state of the machine. The field's isomorphism of machines,
--- with the start and with the end state of a sequence
+-- a renaming (§9.2), in the literature an isomorphism of machines: it assigns a state of the unit to each state of the
+-- machine, u to the start and the present state after the sequence to the end state
 pub record Renaming (M : Mealy) (U : Unit (M .n) (M .k)) (xs : List ℕ) (end : ℕ) : Type 0 where
+  -- the state of the unit that is assigned to each state
   pub given : ℕ → ℕ
   pub into : (s : ℕ) → s < M .n → given s < U .m
   -- different states are assigned different states

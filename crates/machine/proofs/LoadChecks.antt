@@ -26,7 +26,7 @@ use Rattle.machine.specs.Causes.Lists.{clear-table, kind-reads, held-is,
 use Rattle.machine.specs.declared.loading.Loaded.{Loaded}
 use Rattle.machine.specs.Loading.{LoadedFrom}
 
--- a record that is read, and what reading hands back, lie inside the sheet
+-- a record that is read, and what reading gives, lie inside the sheet
 pub read-inside : (k : ℕ) (s : List ℕ) {r : Record} {w : List ℕ} → r ≡ recordOf k s → w ≡ content k s
     → r .start + length w ≤ length s
 read-inside k s re we = rw (re, we) (record-inside k s)

@@ -1,5 +1,5 @@
--- Causes 3 to 6, and causes 1 to 6 in order (§4.1, §4.2). The laws stand in Causes.Laws (3, 4, 5 and 7),
--- Causes.Separation (6), Causes.Lists (the lists) and Causes.Bounds (how large a place is).
+-- Causes 3 to 6, what 7 shares with 5, and causes 1 to 6 in order (§4.1, §4.2). The laws stand in Causes.Laws (3, 4, 5
+-- and 7), Causes.Separation (6) and Causes.Lists (the lists); Causes.Bounds has how large a place is.
 use Prim.Native.Nat.{ℕ, _+_, _*_}
 use mathlib.Core.Bool.{Bool, true, false, not, _&&_, _||_}
 use mathlib.Core.List.{List, [], _∷_, _++_}
@@ -18,11 +18,11 @@ pub mod Lists
 pub mod Bounds
 pub mod Separation
 
--- below the least or above the most
+-- whether x is below the least or above the most
 abbrev pub outside : ℕ → ℕ → ℕ → Bool
 outside least most x = ltb x least || ltb most x
 
--- machine shape (§4.2), at the start of the record: a limit of n or k is not kept, or the payload's length is wrong
+-- machine shape (§4.2), at the start of the record: n or k is outside its limits, or the payload's length is wrong
 unfoldable pub cause3 : Record → List ℕ → Check
 cause3 r p =
     let n = getD p 0 0 in
@@ -37,8 +37,8 @@ cause4 r p =
     let k = getD p 1 0 in
     first (n * k) (λ e. refusal 4 with offset r (pairAt e) if leb n (getD p (pairAt e) 0))
 
--- a byte that is the bound or more: the cause at byte from + stride · i of a part that starts at base in the sheet. The
--- code looks for causes 4, 5 and 7 by this one; it is theirs by cause4-is and commands-cause-is, in Causes.Laws
+-- the cause at byte from + stride · i of a part that begins at offset base: the byte is not below the bound. The code
+-- looks for causes 4, 5 and 7 with it: cause4-is and commands-cause-is, in Causes.Laws
 unfoldable pub byteCause : ℕ → ℕ → List ℕ → ℕ → ℕ → ℕ → ℕ → Check
 byteCause number base p from stride bound i =
     refusal number with base + (from + stride * i) if leb bound (getD p (from + stride * i) 0)
@@ -50,26 +50,26 @@ commandsCause number most k r w =
     (refusal number with r .start if outside 1 most (length w))
     else first (length w) (λ i. refusal number with offset r i if leb k (getD w i 0))
 
--- word (§4.2)
+-- cause 5, word (§4.2)
 abbrev pub cause5 : ℕ → Record → List ℕ → Check
 cause5 k r w = commandsCause 5 mostWord k r w
 
--- equal lists
+-- whether two lists are equal
 abbrev pub same : List ℕ → List ℕ → Bool
 same [] [] = true
 same [] (y ∷ ys) = false
 same (x ∷ xs) [] = false
 same (x ∷ xs) (y ∷ ys) = eqb x y && same xs ys
 
--- whether two states answer a word alike, of a table's two columns; the number of states and the start play no part
+-- whether states i and j answer a word alike, by a table's two columns; number of states and start play no part
 abbrev pub agrees : ℕ → List ℕ → List ℕ → List ℕ → ℕ → ℕ → Bool
 agrees k next answer w i j = same (answers (tabled 0 k 0 next answer) i w) (answers (tabled 0 k 0 next answer) j w)
 
--- the cause at a pair of states: i below j, and both answer the word alike
+-- cause 6 at a pair of states (§4.2): i is below j, and both answer the word alike; the place is 16·i + j
 abbrev pub pairCause : Mealy → List ℕ → ℕ → ℕ → Check
 pairCause M w i j = refusal 6 with 16 * i + j if (ltb i j && same (answers M i w) (answers M j w))
 
--- word does not separate (§4.2), with 16·i + j: the lowest i for which there is such a pair, and for it the lowest j
+-- word does not separate (§4.2): the lowest i for which there is such a pair, and for it the lowest j
 unfoldable pub cause6 : Mealy → List ℕ → Check
 cause6 M w = first (M .n) (λ i. first (M .n) (pairCause M w i))
 
@@ -77,17 +77,17 @@ cause6 M w = first (M .n) (λ i. first (M .n) (pairCause M w i))
 unfoldable pub machineIn : List ℕ → Mealy
 machineIn s = machineOf (content 1 s)
 
--- the machine that the program holds for any sheet: that of at most as many bytes as the largest machine has. It is the
--- sheet's machine where cause 3 is absent: held-is, in Causes.Lists
+-- the machine that the program holds for any sheet: that of the payload, cut to the bytes of the largest machine. Where
+-- causes 1 to 4 are absent it is the sheet's: held-is, in Causes.Lists
 unfoldable pub held : List ℕ → Mealy
 held s = machineOf (take mostMachine (content 1 s))
 
--- causes 1 to 4, for a service on a machine and the kinds that it needs besides
+-- causes 1 to 4 in order (§4.1), for a service that needs the machine and these kinds besides
 unfoldable pub machineCauses : Needs → List ℕ → List Check
 machineCauses n s =
     sheetCauses (needed n) s ++ (cause3 (recordOf 1 s) (content 1 s) ∷ cause4 (recordOf 1 s) (content 1 s) ∷ [])
 
--- causes 5 and 6, where the word is needed
+-- causes 5 and 6 in order (§4.1) where the word is needed, else none
 unfoldable pub wordCauses : Bool → List ℕ → List Check
 wordCauses true s = cause5 (machineIn s .k) (recordOf 2 s) (content 2 s) ∷ cause6 (machineIn s) (content 2 s) ∷ []
 wordCauses false s = []

@@ -8,12 +8,12 @@ use Rattle.machine.specs.Machine.{Mealy, machineOf}
 pub mod Laws
 
 infix 75 _▹_
--- an entry; the specification writes next state/answer
+-- an entry, next state and answer; §10.1 writes a slash between them
 abbrev pub _▹_ : ℕ → ℕ → Entry
 n ▹ a = record { next = n; answer = a }
 
--- one row a state: preview waiting, archive waiting, preview running, archive running; one column a command:
--- quality, profile, run, stop
+-- the table (§10.1). Rows are states: preview waiting, archive waiting, preview running, archive running; columns are
+-- commands: quality, profile, run, stop
 abbrev pub houseTable : List (List Entry)
 houseTable =
     (0 ▹ 31 ∷ 1 ▹ 6 ∷ 2 ▹ 6 ∷ 0 ▹ 21 ∷ [])
@@ -22,15 +22,16 @@ houseTable =
     ∷ (3 ▹ 2 ∷ 3 ▹ 21 ∷ 3 ▹ 21 ∷ 1 ▹ 6 ∷ [])
     ∷ []
 
--- looking up an entry; where the table has none, that is, above 3, it is 255/0
+-- the entry of a state and a command (§10.1); 255/0 where one of them is above 3
 unfoldable pub houseEntry : ℕ → ℕ → Entry
 houseEntry s c = getD (getD houseTable s []) c (255 ▹ 0)
 
--- entries as a machine record has them (§2.2): a pair each, row by row
+-- the entries of one row as a machine record has them (§2.2): next state and answer of each
 abbrev pub pairs : List Entry → List ℕ
 pairs [] = []
 pairs (e ∷ es) = e .next ∷ e .answer ∷ pairs es
 
+-- the same for all rows, first to last
 abbrev pub rowPairs : List (List Entry) → List ℕ
 rowPairs [] = []
 rowPairs (row ∷ rows) = pairs row ++ rowPairs rows
@@ -43,6 +44,6 @@ housePayload = 4 ∷ 4 ∷ rowPairs houseTable
 unfoldable pub house : Mealy
 house = machineOf housePayload
 
--- its word
+-- its word (§10.1)
 abbrev pub houseWord : List ℕ
 houseWord = 0 ∷ 1 ∷ []

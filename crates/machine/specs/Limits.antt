@@ -1,5 +1,5 @@
--- The limits of the machine record (§2.2). The code names them once, as constants of the type Machine, and
--- `Machine::limits` shows that both are the same.
+-- The upper limits of §2.2; the lower one is 1 for each, in `Proper`, `Commands` and the causes. The code names them
+-- once, as constants of the type Machine, and `Machine::limits` shows that both are the same.
 use Prim.Native.Nat.{ℕ, _+_, _*_, _≤_}
 use mathlib.Core.Path.{_≡_, refl}
 use native.Mathlib.Nat.{mul-le-mul}
@@ -30,7 +30,7 @@ mostEntries = mostStates * mostCommands
 abbrev pub mostMachine : ℕ
 mostMachine = 2 + 2 * mostEntries
 
--- the four together
+-- the four limits as one value, for the contract of `Machine::limits`
 abbrev pub limits : Limits
 limits = record { states = mostStates; commands = mostCommands; word = mostWord; sequence = mostSequence }
 
@@ -39,6 +39,6 @@ pub longest-is : longest
     ≡ (header + mostMachine) + (header + mostWord) + (header + mostSequence) + (header + mostSequence)
 longest-is = refl
 
--- few states and commands have few entries
+-- with n and k within their limits there are at most mostEntries entries
 pub entries-few : (n k : ℕ) → n ≤ mostStates → k ≤ mostCommands → n * k ≤ mostEntries
 entries-few n k p q = mul-le-mul {n₁ = n} {m₁ = k} {n₂ = mostStates} {m₂ = mostCommands} p q

@@ -1,4 +1,5 @@
--- What a service that needs the machine begins with: the first refusal of causes 1 to 6, or the machine (§4.2, §4.4).
+-- What a service that needs the machine begins with (§4.2, §4.4): the first refusal of causes 1 to 4 and, where the
+-- word is needed, of 5 and 6; and the machine.
 use Prim.Native.Nat.{ℕ}
 use mathlib.Core.Path.{_≡_}
 use mathlib.Core.Bool.{true}
@@ -11,12 +12,12 @@ use Rattle.machine.specs.declared.loading.Loaded.{Loaded}
 use Rattle.machine.specs.Machine.{meaning, Proper, Distinguishes}
 use Rattle.machine.specs.Causes.{machineIn, held, loadCauses}
 
--- the kinds n needed, the sheet s, and what loading it answers
+-- what `load_sheet` promises of its answer l, for the needed kinds and the sheet s
 pub record LoadedFrom (n : Needs) (s : List ℕ) (l : Loaded) : Type 0 where
   -- the first refusal, or Clear
   pub check : l .check ≡ firstCause (loadCauses n s)
-  -- where nothing is refused: each needed record is read, the machine is the sheet's and within its limits, and
-  -- a needed word separates
+  -- where nothing is refused: each needed record is read, the machine is the sheet's and within its limits, and a
+  -- needed word is within its limits and separates
   pub reads : (k : ℕ) → List·Memᴰ k (needed n) → l .check ≡ Clear → Reads k s
   pub machine : l .check ≡ Clear → meaning (l .machine) ≡ machineIn s
   pub proper : l .check ≡ Clear → Proper (machineIn s)

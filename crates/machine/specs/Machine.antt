@@ -8,8 +8,8 @@ use Rattle.machine.specs.Limits.{mostStates, mostCommands, mostWord}
 use Rattle.machine.specs.declared.machine.Machine.{Machine}
 pub mod Laws
 
--- A Mealy machine: n states from 0, k commands (inputs) from 0, a start, and for each entry (transition), a state with
--- a command, the next state and the answer (output).
+-- a Mealy machine (§1.2, §3.1): n states and k commands, both numbered from 0, a start, and for each entry (s, c) the
+-- next state and the answer
 pub record Mealy : Type 0 where
   pub n : ℕ
   pub k : ℕ
@@ -17,7 +17,7 @@ pub record Mealy : Type 0 where
   pub next : ℕ → ℕ → ℕ
   pub answer : ℕ → ℕ → ℕ
 
--- where pair e begins in the machine's payload, behind n and k (§2.2, §3.1)
+-- where pair e, counted from 0, begins in the machine's payload, after n and k (§2.2, §3.1)
 abbrev pub pairAt : ℕ → ℕ
 pairAt e = 2 + 2 * e
 
@@ -41,16 +41,16 @@ tabled n k start next answer = record {
   answer = λ s c. getD answer (s * k + c) 0;
 }
 
--- the machine that the program holds in a value of its type Machine
+-- the machine that a value of the program's type Machine holds
 abbrev pub meaning : Machine → Mealy
 meaning m = tabled (m .n) (m .k) (m .start) (m .next) (m .answer)
 
--- the state that some commands lead to (§3.2)
+-- the state to which commands lead from state s (§3.2)
 unfoldable pub run : Mealy → ℕ → List ℕ → ℕ
 run M s [] = s
 run M s (c ∷ w) = run M (M .next s c) w
 
--- the answers to some commands (§3.2)
+-- the answers to commands from state s on (§3.2)
 unfoldable pub answers : Mealy → ℕ → List ℕ → List ℕ
 answers M s [] = []
 answers M s (c ∷ w) = M .answer s c ∷ answers M (M .next s c) w
@@ -59,7 +59,8 @@ answers M s (c ∷ w) = M .answer s c ∷ answers M (M .next s c) w
 unfoldable pub stateAt : Mealy → List ℕ → ℕ → ℕ
 stateAt M xs p = run M (M .start) (take p xs)
 
--- the word separates (§3.3): no two states answer it alike. It is then the field's preset distinguishing sequence
+-- the word separates (§3.3): no two different states give equal answers to it. In the literature it is then a preset
+-- distinguishing sequence
 abbrev pub Separates : Mealy → List ℕ → Type 0
 Separates M w = (i j : ℕ) → i < M .n → j < M .n → answers M i w ≡ answers M j w → i ≡ j
 
@@ -72,17 +73,17 @@ pub record Proper (M : Mealy) : Type 0 where
   pub starts : M .start < M .n
   pub stays : (s c : ℕ) → s < M .n → c < M .k → M .next s c < M .n
 
--- any number of commands, each below k
+-- every command of a list is below k
 abbrev pub Below : ℕ → List ℕ → Type 0
 Below k w = (i : ℕ) → i < length w → getD w i 0 < k
 
--- a word or a sequence: 1 to most commands, each below k
+-- a word or a sequence within its limits (§2.2): 1 to most commands, each below k
 pub record Commands (most k : ℕ) (w : List ℕ) : Type 0 where
   pub some : 1 ≤ length w
   pub few : length w ≤ most
   pub low : Below k w
 
--- a word within the limits that separates the states
+-- a word within its limits (§2.2) that separates the states (§3.3)
 pub record Distinguishes (M : Mealy) (w : List ℕ) : Type 0 where
   pub commands : Commands mostWord (M .k) w
   pub separates : Separates M w

@@ -21,11 +21,12 @@ abbrev pub spaced : List ℕ → List ℕ
 spaced [] = []
 spaced (b ∷ bs) = bytes " " ++ (b ∷ bs)
 
+-- the end of every line (§8.1)
 abbrev pub newline : List ℕ
 newline = bytes "\n"
 
 -- ---- the lines
--- `REFUSED 6 at 1 word does not separate`: number, place and phrase; without a phrase the line stops behind the place
+-- `REFUSED 6 at 1 word does not separate`: number, place and phrase; without a phrase the line ends after the place
 unfoldable pub refusalLine : ℕ → ℕ → List ℕ
 refusalLine number place = labelled "REFUSED " number ++ labelled " at " place ++ spaced (phrase number) ++ newline
 
@@ -42,7 +43,7 @@ wrongLine place specified given =
 unfoldable pub unfinishedLine : ℕ → List ℕ
 unfinishedLine number = labelled "UNFINISHED " number ++ newline
 
--- what judging answers
+-- the line for an answer of judging
 abbrev pub judgeLine : Judgement → List ℕ
 judgeLine (Pass size end) = passLine size end
 judgeLine (Wrong place specified given) = wrongLine place specified given
@@ -57,7 +58,7 @@ certifiedLine recognised = labelled "CERTIFIED " recognised ++ newline
 unfoldable pub openLine : ℕ → ℕ → List ℕ
 openLine recognised number = labelled "OPEN " number ++ labelled " recognised " recognised ++ newline
 
--- what certifying answers
+-- the line for an answer of certifying
 abbrev pub certifyLine : Certification → List ℕ
 certifyLine (Certified recognised) = certifiedLine recognised
 certifyLine (Open recognised number) = openLine recognised number

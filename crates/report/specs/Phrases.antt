@@ -5,7 +5,7 @@ use lib.ListN.{getD}
 use Rattle.report.specs.Text.{bytes}
 pub mod Laws
 
--- the phrases of the refusal numbers 1 to 11, in this order
+-- the phrases of the refusal numbers 1 to 11, in this order (§4.2)
 unfoldable pub phrases : List (List ℕ)
 phrases =
     bytes "sheet cut or too long"

@@ -6,8 +6,8 @@ use lib.ListN.{length}
 use Rattle.sheet.specs.Writing.{written}
 use Rattle.io.specs.Counts.{Counts}
 
--- bytes, a line or a sheet, at the start of a buffer, every later byte as it was, with their number,
--- which is within the buffer
+-- a line or a sheet at the start of a lent buffer, every later byte as it was (§4.3), and the number of its bytes,
+-- which is at most the buffer's
 pub record Prints (xs before after : List ℕ) (size : ℕ) : Type 0 where
   pub sized : size ≡ length xs
   pub counts : Counts size after

@@ -1,5 +1,4 @@
--- What each service of the bench writes to which stream (§8.2), of the bytes of its sheet. The laws
--- stand in Services.Laws.
+-- What each service of the bench writes to which stream (§8.2), by the bytes of its sheet. Laws stand in Services.Laws.
 use Prim.Native.Nat.{ℕ, _+_}
 use mathlib.Core.List.{List}
 use Rattle.sheet.specs.Check.{firstCause}
@@ -15,10 +14,12 @@ use Rattle.report.specs.Sheets.{builtSheet, houseSheet}
 use Rattle.report.specs.Output.{Output, onOutput, onError, bytesUnless}
 pub mod Laws
 
--- ---- services whose result is a line, which also tells a refusal. There is room for the marks of every sequence
+-- ---- services whose result is a line, which also tells a refusal
+-- `bench judge`: the line of judging, also for a refusal. There is room for the marks of every sequence
 unfoldable pub judged : List ℕ → Output
 judged s = onOutput (judgeLine (judgement (mostSequence + 1) s))
 
+-- `bench certify`: the line of certifying, with the same room
 unfoldable pub certified : List ℕ → Output
 certified s = onOutput (certifyLine (certification (mostSequence + 1) s))
 
@@ -35,9 +36,11 @@ recordRead kind s = bytesUnless (refusalOf kind s) (content kind s)
 unfoldable pub houseWritten : Output
 houseWritten = onOutput houseSheet
 
--- ---- the words themselves
+-- ---- the arguments themselves
+-- `bench help`: the list of services
 unfoldable pub helped : Output
 helped = onOutput helpText
 
+-- wrong arguments: their line on standard error
 unfoldable pub mistaken : Mistake → Output
 mistaken mistake = onError (mistakeLine mistake)

@@ -12,7 +12,7 @@ abbrev pub bytes : String → List ℕ
 bytes none = []
 bytes (c then s) = code c ∷ bytes s
 
--- the only digit of n, or what stands before the last one, and the last one
+-- n as its only digit where the test holds; else the digits of n / 10, which front gives, and then the last digit
 abbrev pub lastDigit : Bool → ℕ → (ℕ → List ℕ) → List ℕ
 lastDigit true n front = (48 + n) ∷ []
 lastDigit false n front = front (n / 10) ++ ((48 + n % 10) ∷ [])
@@ -26,7 +26,7 @@ unfoldable pub decimalWithin : ℕ → ℕ → List ℕ
 decimalWithin zero n = []
 decimalWithin (suc most) n = lastDigit (ltb n 10) n (decimalWithin most)
 
--- a number in decimal: the digits of n / 10, where there are any, then the last one. The bound n + 1 is nothing to
--- believe: `decimal-digit` and `decimal-more` are the equations without it.
+-- a number in decimal (§8.1): the digits of n / 10, where there are any, then the last one. n + 1 only bounds the
+-- recursion: decimal-digit and decimal-more, in Text.Laws, are the equations without it
 unfoldable pub decimal : ℕ → List ℕ
 decimal n = decimalWithin (n + 1) n

@@ -1,12 +1,11 @@
--- The lines that answer the words that the bench is started with (§8.2): the list of services, and what is wrong with
--- other words.
+-- What is printed about the arguments of the bench, here called words (§8.2): the list of services, and what is wrong.
 use Prim.Native.Nat.{ℕ}
 use mathlib.Core.List.{List, _++_}
 use Rattle.report.specs.Text.{bytes}
 use Rattle.report.specs.declared.words.Mistake.{Mistake}
 use Rattle.report.specs.declared.words.Mistake.the-variants.{Unknown, Empty, Long, Many, Few, Kind}
 
--- the services, a line each
+-- the list of services, a line each (§8.2). Its text is fixed here; the specification leaves it free
 unfoldable pub helpText : List ℕ
 helpText =
     bytes "bench, bench judge      judge the sheet on standard input: PASS, WRONG, UNFINISHED or REFUSED\n"
@@ -17,7 +16,7 @@ helpText =
     ++ bytes "bench house             the house unit's sheet: machine and word\n"
     ++ bytes "bench help, --help, -h  these lines\n"
 
--- what is wrong with the words
+-- what is wrong with the arguments (§8.2)
 abbrev pub mistakeText : Mistake → List ℕ
 mistakeText Unknown = bytes "the first argument names no service"
 mistakeText Empty = bytes "an argument is empty"
@@ -30,9 +29,10 @@ mistakeText Kind = bytes "KIND is not a decimal number from 0 to 65535"
 abbrev pub longestMistake : ℕ
 longestMistake = 44
 
--- a text of what is wrong, in its line
+-- the line that tells what is wrong (§8.2), with this text
 unfoldable pub mistakeOf : List ℕ → List ℕ
 mistakeOf text = bytes "bench: " ++ text ++ bytes "; bench help lists the services\n"
 
+-- the line of a mistake (§8.2)
 abbrev pub mistakeLine : Mistake → List ℕ
 mistakeLine mistake = mistakeOf (mistakeText mistake)

@@ -1,5 +1,5 @@
--- The byte format of a sheet (§2.1), and causes 1 and 2 at each record (§4.1).
--- The laws stand in Format.Laws; Format.Records has which records come first.
+-- The byte format of a sheet (§2.1, §2.2), and causes 1 and 2 at each record (§4.1, §4.2). A sheet is a list of numbers
+-- here; the contracts are about bytes. The laws stand in Format.Laws, those of the first two records in Format.Records.
 use Prim.Native.Nat.{ℕ, zero, suc, _+_, _*_, _-_}
 use mathlib.Core.Bool.{Bool, true, false, cond, _||_}
 use mathlib.Core.List.{List, [], _∷_}
@@ -33,19 +33,19 @@ recordAt s at = record {
   kind = getD s (at + 4) 0 + 256 * getD s (at + 5) 0;
 }
 
--- the offset of byte i of a record's payload
+-- the offset of byte i of a record's payload (§2.1)
 unfoldable pub offset : Record → ℕ → ℕ
 offset r i = r .start + header + i
 
--- where the record ends and the next one starts
+-- the offset at which the record ends and the next one starts (§2.1)
 unfoldable pub end : Record → ℕ
 end r = offset r (r .size)
 
--- what each number of a kind means (§2.2)
+-- the kind that a number means (§2.2): Unknown for every number but 1 to 4
 unfoldable pub kindOf : ℕ → Kind
 kindOf k = cond (eqb k 1) Machine (cond (eqb k 2) Word (cond (eqb k 3) Sequence (cond (eqb k 4) Answers Unknown)))
 
--- the kinds in the order in which a sheet has them (§2.1); an unknown kind is above none
+-- the number by which kinds rise in a sheet (§2.1); an unknown kind has 0, so that it is above none
 abbrev pub rank : Kind → ℕ
 rank Unknown = 0
 rank Machine = 1
@@ -53,7 +53,7 @@ rank Word = 2
 rank Sequence = 3
 rank Answers = 4
 
--- the rank of the record at a place
+-- the rank of the record that starts at an offset
 abbrev pub rankAt : List ℕ → ℕ → ℕ
 rankAt s at = rank (kindOf (recordAt s at .kind))
 
@@ -69,12 +69,12 @@ cause2 s at last = refusal 2 with at if leb (rankAt s at) last
 unfoldable pub causeAt : List ℕ → ℕ → ℕ → Check
 causeAt s at last = cause1 s at else cause2 s at last
 
--- the records from the front that are in order, and what stopped the parsing: Clear at the sheet's end
+-- the records from the front without cause 1 or 2 (§4.1), and what stopped the parsing: Clear at the sheet's end
 pub record Parsed : Type 0 where
   pub records : List Record
   pub stop : Check
 
--- nothing more is parsed
+-- no more records, and what stopped the parsing
 abbrev pub ended : Check → Parsed
 ended c = record { records = []; stop = c }
 
@@ -89,19 +89,19 @@ parseStep false c r w = ended Clear
 parseStep true (Refused n p) r w = ended (Refused n p)
 parseStep true Clear r w = r before w
 
--- the parsing from a place on, last being the rank of the record before. The first number bounds the steps, for the
--- recursion; parse-end and parse-on, in Format.Laws, are the equations of parse without it
+-- the parsing from an offset on; last is the rank of the record before. The first number only bounds the recursion:
+-- parse-end and parse-on, in Format.Laws, are the equations of parse without it
 unfoldable pub parseFrom : ℕ → List ℕ → ℕ → ℕ → Parsed
 parseFrom zero s at last = ended Clear
 parseFrom (suc f) s at last =
     let w : Parsed = parseFrom f s (end (recordAt s at)) (rankAt s at) in
     parseStep (ltb at (length s)) (causeAt s at last) (recordAt s at) w
 
--- a record takes at least its header, so as many steps as there are bytes left are enough
+-- the parsing from an offset on (§4.1). A record has 6 bytes or more, so the number of bytes left is bound enough
 unfoldable pub parse : List ℕ → ℕ → ℕ → Parsed
 parse s at last = parseFrom (length s - at) s at last
 
--- the whole sheet, from its first byte on
+-- the parsing of the whole sheet, from offset 0 on
 unfoldable pub parsed : List ℕ → Parsed
 parsed s = parse s 0 0
 
@@ -115,7 +115,7 @@ unfoldable pub _or_ : Found → Found → Found
 (At r) or g = At r
 Missing or g = g
 
--- the record of a kind among records
+-- the first record of a kind in a list of records, or Missing
 unfoldable pub find : ℕ → List Record → Found
 find k [] = Missing
 find k (r ∷ rs) = ofKind k r or find k rs

@@ -23,7 +23,7 @@ pub mod Bounds
 abbrev pub tooLong : List ℕ → Check
 tooLong s = refusal 1 with longest if ltb longest (length s)
 
--- no record was found
+-- whether no record was found
 abbrev pub isMissing : Found → Bool
 isMissing (At r) = false
 isMissing Missing = true
@@ -36,16 +36,16 @@ missing s k = refusal 2 with length s if isMissing (find k (parsed s .records))
 unfoldable pub sheetCauses : List ℕ → List ℕ → List Check
 sheetCauses needed s = tooLong s ∷ parsed s .stop ∷ map (missing s) needed
 
--- a kind where it is needed
+-- the list of this kind alone where it is needed, else the empty list
 unfoldable pub when : Bool → ℕ → List ℕ
 when true k = k ∷ []
 when false k = []
 
--- cause 2 for a kind that may be needed
+-- cause 2 of a kind where it is needed and missing, else Clear
 unfoldable pub whenMissing : List ℕ → ℕ → Bool → Check
 whenMissing s k b = firstCause (map (missing s) (when b k))
 
--- the kinds that a service on a machine needs (§2.3): kind 1 always, the others as it says
+-- the kinds that a service on a machine needs (§2.3): kind 1 always, kinds 2, 3 and 4 where the flags say so
 unfoldable pub needed : Needs → List ℕ
 needed n = 1 ∷ (when (n .word) 2 ++ (when (n .sequence) 3 ++ when (n .answers) 4))
 
@@ -53,16 +53,16 @@ needed n = 1 ∷ (when (n .word) 2 ++ (when (n .sequence) 3 ++ when (n .answers)
 unfoldable pub refusalOf : ℕ → List ℕ → Check
 refusalOf k s = firstCause (sheetCauses (k ∷ []) s)
 
--- the record of a kind; where there is none cause 2 is present, and what this says does not count
+-- the record that was found; where none was, cause 2 is present and this record is not used
 abbrev pub recordOr : Found → Record
 recordOr (At r) = r
 recordOr Missing = record { start = 0; size = 0; kind = 0 }
 
--- the record that places are counted from
+-- the record of a kind in a sheet: the places of causes 3, 4, 5, 7 and 10 are its start or offsets in it (§4.2)
 unfoldable pub recordOf : ℕ → List ℕ → Record
 recordOf k s = recordOr (find k (parsed s .records))
 
--- where a record's payload lies, behind the header; the empty part at the sheet's start where there is none
+-- where a record's payload lies, after its header (§2.1); the empty part at the sheet's start where there is no record
 abbrev pub payloadPart : Found → Part
 payloadPart (At r) = record { from = r .start + header; size = r .size }
 payloadPart Missing = record { from = 0; size = 0 }
@@ -72,7 +72,7 @@ abbrev pub partWhen : Check → Found → Part
 partWhen Clear f = payloadPart f
 partWhen (Refused n p) f = payloadPart Missing
 
--- where the part lies that reading a kind gives
+-- where the part lies that reading a kind gives (§2.4)
 unfoldable pub part : ℕ → List ℕ → Part
 part k s = partWhen (refusalOf k s) (find k (parsed s .records))
 
@@ -80,11 +80,11 @@ part k s = partWhen (refusalOf k s) (find k (parsed s .records))
 unfoldable pub bytes : Part → List ℕ → List ℕ
 bytes p s = take (p .size) (drop (p .from) s)
 
--- the bytes of that part: the payload, or none on a refusal
+-- the bytes that reading a kind gives (§2.4): the payload, or none on a refusal
 unfoldable pub content : ℕ → List ℕ → List ℕ
 content k s = bytes (part k s) s
 
--- a reference: where it points, block and offset, and the bytes that it refers to
+-- a reference: the memory block and the offset in it to which it points, and the bytes there
 abbrev pub seen : RefT (List ℕ) → (ℕ × ℕ) × List ℕ
 seen r = (r .ptr, now r)
 
@@ -92,7 +92,8 @@ seen r = (r .ptr, now r)
 unfoldable pub handed : RefT (List ℕ) → Part → (ℕ × ℕ) × List ℕ
 handed s p = ((s .ptr .0, s .ptr .1 + p .from), bytes p (now s))
 
--- reading a kind that is not refused: the record is of that kind and lies inside the sheet, and the part is its payload
+-- what holds of a kind whose reading is not refused (§2.4): its record is of that kind and lies inside the sheet, and
+-- the part is its payload
 pub record Reads (k : ℕ) (s : List ℕ) : Type 0 where
   pub kind : recordOf k s .kind ≡ k
   pub from : part k s .from ≡ recordOf k s .start + header

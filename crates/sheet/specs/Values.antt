@@ -8,21 +8,21 @@ use Rattle.sheet.specs.declared.check.Check.the-variants.{Clear, Refused
 use Rattle.sheet.specs.declared.check.Values.{Values}
 pub mod Laws
 
--- those of a refusal (§8.3): its number is the class, its place the place; a and b are zero
+-- number and values of a refusal (§8.3): the class is its number, the place its place; a and b are 0
 abbrev pub refusalValues : ℕ → ℕ → Values
 refusalValues number place = record { class = number; place = place; a = 0; b = 0 }
 
--- those of a check: a refusal's, or none
+-- number and values of a check (§4.4): those of its refusal, or none where it is Clear
 abbrev pub valuesOf : Check → Option Values
 valuesOf Clear = none
 valuesOf (Refused number place) = some (refusalValues number place)
 
--- what a service promises of its answer: it is the specified one, and its number and values are those specified
+-- what a service promises of its answer (§4.4): it is the specified one, and so are its number and values
 pub record Returns {A B : Type 0} (valuesOf : A → B) (specified answer : A) : Type 0 where
   pub is : answer ≡ specified
   pub values : valuesOf answer ≡ valuesOf specified
 
--- values that the C host's number has room for (§8.3): the place in 24 bits, a and b in 8 bits each
+-- values whose place, a and b fit their 24, 8 and 8 bits of the C host's number (§8.3); the class has the bits above
 pub record Fits (v : Values) : Type 0 where
   pub place : v .place < 2 ^ 24
   pub a : v .a < 256

@@ -1,5 +1,5 @@
--- A record's header and a record as they are written (§2.1), and bytes put into a lent buffer, anywhere or at its
--- start. The laws stand in Writing.Laws; Writing.Reading has what a sheet reads as to which a record 3 was added.
+-- A record's header and a record as they are written (§2.1), and bytes put into a lent buffer at an offset or at its
+-- start. The laws stand in Writing.Laws; Writing.Reading says how a sheet is read to which a record 3 was added.
 use Prim.Native.Nat.{ℕ, _+_, _/_, _%_}
 use mathlib.Core.Bool.{cond}
 use mathlib.Core.List.{List, [], _∷_, _++_}
@@ -9,7 +9,7 @@ use lib.Seq.{paste}
 pub mod Laws
 pub mod Reading
 
--- a header (§2.1): the payload's length in 4 bytes and the kind in 2, lowest byte first
+-- a header (§2.1): the payload's length, below 2^32, in 4 bytes and the kind, below 2^16, in 2, lowest byte first
 unfoldable pub headerOf : ℕ → ℕ → List ℕ
 headerOf kind size =
     (size % 256)
@@ -20,20 +20,20 @@ headerOf kind size =
     ∷ (kind / 256 % 256)
     ∷ []
 
--- a record as a sheet has it (§2.1): its header, and behind it the payload
+-- a record as a sheet has it (§2.1): its header, then the payload
 abbrev pub recordBytes : ℕ → List ℕ → List ℕ
 recordBytes kind payload = headerOf kind (length payload) ++ payload
 
--- a buffer after bytes were put at a place: where all of them fit they stand there and all else is as it was;
+-- a buffer after bytes were put at an offset: where all of them fit they are there and every other byte is as it was,
 -- else nothing is changed
 unfoldable pub putAt : List ℕ → ℕ → List ℕ → List ℕ
 putAt before at xs = cond (leb (at + length xs) (length before)) (paste before at xs (length xs)) before
 
--- the place behind what was put: behind the bytes where all of them fit, else where nothing was put
+-- the offset after what was put: that after the bytes where all of them fit, else the one at which they were to go
 unfoldable pub putEnd : List ℕ → ℕ → List ℕ → ℕ
 putEnd before at xs = cond (leb (at + length xs) (length before)) (at + length xs) at
 
--- a buffer after bytes were written to its start: they are its first bytes, and the bytes behind
--- keep their values (§4.3)
+-- a buffer with room for these bytes after they were written to its start: they are its first bytes, and the bytes
+-- after them keep their values (§4.3)
 abbrev pub written : List ℕ → List ℕ → List ℕ
 written xs buffer = xs ++ drop (length xs) buffer

@@ -1,6 +1,6 @@
--- The cases with a star (§10.3): one collection, in their order, of the bytes of their sheets and the definitions of
--- building, certifying, judging and the bench's line. That all of them hold is shown once, as a whole, in
--- Starred.Proofs. Where a room is lent, the case holds for every room that is large enough.
+-- The cases with a star and the next state that is none (§10.3): one collection, in the order of the table, of the
+-- bytes of their sheets and the definitions of building, certifying, judging and judging's line. That all of them hold
+-- is shown in Starred.Proofs. Where a room is lent, the case holds for every room that is large enough.
 use Prim.Native.Nat.{ℕ, _≤_}
 use mathlib.Core.Path.{_≡_}
 use mathlib.Core.List.{List, [], _∷_, _++_}
@@ -18,13 +18,15 @@ use Rattle.report.specs.Lines.{judgeLine}
 pub mod Proofs
 
 -- ---- the sheets
--- a table and a word, with a sequence, and with answers besides
+-- the sheet of a machine's payload and a word
 abbrev pub unitSheet : List ℕ → List ℕ → List ℕ
 unitSheet table word = recordBytes 1 table ++ recordBytes 2 word
 
+-- the same with a sequence
 abbrev pub sequenceSheet : List ℕ → List ℕ → List ℕ → List ℕ
 sequenceSheet table word xs = unitSheet table word ++ recordBytes 3 xs
 
+-- the same with a sequence and answers
 abbrev pub answersSheet : List ℕ → List ℕ → List ℕ → List ℕ → List ℕ
 answersSheet table word xs ys = sequenceSheet table word xs ++ recordBytes 4 ys
 
@@ -40,7 +42,7 @@ disconnectedTable = 2 ∷ 2 ∷ 1 ∷ 0 ∷ 0 ∷ 5 ∷ 1 ∷ 1 ∷ 1 ∷ 5 ∷ 
 abbrev pub noStateTable : List ℕ
 noStateTable = 2 ∷ 2 ∷ 2 ∷ 0 ∷ 0 ∷ 5 ∷ 0 ∷ 1 ∷ 1 ∷ 5 ∷ []
 
--- one state and one command, with any answer
+-- the payload of record 1 with one state, one command and any answer
 abbrev pub singleTable : ℕ → List ℕ
 singleTable answer = 1 ∷ 1 ∷ 0 ∷ answer ∷ []
 
@@ -48,10 +50,11 @@ singleTable answer = 1 ∷ 1 ∷ 0 ∷ answer ∷ []
 abbrev pub builtTwin : List ℕ
 builtTwin = 0 ∷ 0 ∷ 0 ∷ 0 ∷ 0 ∷ 0 ∷ 1 ∷ 0 ∷ 0 ∷ 0 ∷ 1 ∷ 0 ∷ []
 
--- the twin's sheet with a sequence, and with answers to the built one
+-- the twin's sheet with a sequence
 abbrev pub twinWith : List ℕ → List ℕ
 twinWith xs = sequenceSheet twinTable (0 ∷ []) xs
 
+-- the twin's sheet with its built sequence and answers
 abbrev pub twinAnswered : List ℕ → List ℕ
 twinAnswered ys = answersSheet twinTable (0 ∷ []) builtTwin ys
 
@@ -60,6 +63,7 @@ abbrev pub JudgedAs : ℕ → List ℕ → Answer → List ℕ → Type 0
 JudgedAs room s a line = (judgement room s ≡ a) × (judgeLine (judgement room s) ≡ line)
 
 -- ---- the collection
+-- the cases, each by what its service answers
 pub record Starred : Type 0 where
   -- the twin as built, and certified
   pub built : (room : ℕ) → 12 ≤ room → building room (unitSheet twinTable (0 ∷ [])) ≡ Built 12

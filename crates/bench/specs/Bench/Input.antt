@@ -1,5 +1,5 @@
--- What the program hands over is enough: of the words their number and the first bytes of the first two, of the input
--- the first 40,913 bytes, since a longer one is too long whatever stands behind them.
+-- What the program passes to `bench` is enough: of the words their number and the first bytes of the first two, of the
+-- input the first 40,913 bytes, since a longer one is too long whatever follows.
 use Prim.Native.Nat.{ℕ, _+_, _<_}
 use mathlib.Core.Path.{_≡_, refl, sym, ap, _∙_}
 use mathlib.Core.Bool.{Bool, true, false}

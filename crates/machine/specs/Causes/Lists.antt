@@ -46,7 +46,7 @@ pub load-causes-are : (n : Needs) (s : List ℕ)
 unfolding loadCauses
 load-causes-are n s = cause-append (machineCauses n s) (wordCauses (n .word) s)
 
--- the machine that is loaded from what reading hands back is the one that is held
+-- the machine loaded from the payload that reading gives is the one that is held
 pub held-loaded : (s : List ℕ) {p : List ℕ} {M : Mealy} → p ≡ content 1 s → M ≡ machineOf (take mostMachine p)
     → M ≡ held s
 unfolding held

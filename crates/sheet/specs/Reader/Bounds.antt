@@ -1,5 +1,5 @@
 -- The places of causes 1 and 2 lie inside the longest sheet, and so do the offsets in the payloads of a sheet that has
--- neither. What reading hands back of bytes are bytes.
+-- neither. Reading a sheet of bytes gives bytes.
 use Prim.Native.Nat.{ℕ, zero, suc, _+_, _≤_, _<_}
 use mathlib.Core.Path.{_≡_, refl, sym, ap, _∙_}
 use mathlib.Core.List.{List, [], _∷_, map}
@@ -69,12 +69,12 @@ sheet-short needed s e =
     not-long s
     (both-clear (tooLong s) _ (sym (cause-cons (tooLong s) (parsed s .stop ∷ map (missing s) needed)) ∙ e) .0)
 
--- what reading hands back is no longer
+-- what reading gives is no longer
 pub read-short : (k : ℕ) (s : List ℕ) → refusalOf k s ≡ Clear → length (content k s) ≤ longest
 unfolding refusalOf
 read-short k s e = omega (arith, record-inside k s, sheet-short (k ∷ []) s e)
 
--- ---- offsets in what reading hands back
+-- ---- offsets in what reading gives
 offset-of : (s : List ℕ) (c : Check) (f : Found) → payloadPart f .from + payloadPart f .size ≤ length s → (i : ℕ)
     → i < length (bytes (partWhen c f) s) → offset (recordOr f) i < length s
 unfolding bytes offset

@@ -122,7 +122,7 @@ pub unknown-refused : (s : List ℕ) (k : ℕ) → rank (kindOf k) ≡ 0
 unknown-refused s k h =
     refusal-is k s ∙ ap (λ (c : Check). tooLong s else (parsed s .stop else c)) (unknown-missing s k h)
 
--- ---- the part that is handed back
+-- ---- the part that reading gives
 pub payload-inside : (s : List ℕ) (k : ℕ) (f : Found) → f ≡ find k (parsed s .records)
     → payloadPart f .from + payloadPart f .size ≤ length s
 unfolding end offset
@@ -159,7 +159,7 @@ unfolding recordOf content part
 record-inside k s =
     inside-of s (refusalOf k s) (find k (parsed s .records)) (payload-inside s k (find k (parsed s .records)) refl)
 
--- what reading hands back, as bytes
+-- the bytes that reading gives
 pub handed-content : (k : ℕ) (s w : RefT (List ℕ)) → seen w ≡ handed s (part k (now s)) → now w ≡ content k (now s)
 unfolding handed content
 handed-content k s w e = ap (λ (x : (ℕ × ℕ) × List ℕ). x .1) e
@@ -205,7 +205,7 @@ clear-reads k s e = go (find k (parsed s .records)) refl
         (both-clear _ _ (both-clear _ _ (sym (refusal-is k s) ∙ e) .1) .1) in
         absurd (true≢false (sym (ap isMissing q) ∙ absent-one))
 
--- ---- the record that is found, and the bytes that reading it hands back
+-- ---- the record that is found, and the bytes that reading it gives
 pub content-of : (k : ℕ) (s : List ℕ) {r : Record} → refusalOf k s ≡ Clear → find k (parsed s .records) ≡ At r
     → content k s ≡ take (r .size) (drop (r .start + header) s)
 unfolding content bytes

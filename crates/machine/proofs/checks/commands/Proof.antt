@@ -1,4 +1,4 @@
--- `machine::checks::commands` meets its contract: the length, then every byte of what reading hands back.
+-- `machine::checks::commands` meets its contract: the length, then every byte of what reading gives.
 -- Assumes nothing.
 use native.Mathlib.Omega.{arith}
 use borrow.Author.Needs.{needs}

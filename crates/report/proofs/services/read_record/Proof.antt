@@ -1,4 +1,4 @@
--- `report::services::read_record` meets its contract: what reading hands back, or the refusal.
+-- `report::services::read_record` meets its contract: what reading gives, or the refusal.
 -- Assumes nothing.
 use borrow.Author.Needs.{needs}
 use native.Mathlib.Omega.{arith}
