@@ -15,8 +15,8 @@ use Rattle.bench.specs.declared.words.Lookup.the-variants.{Found, Nothin
 use Rattle.bench.specs.declared.words.Service.{Service}
 use Rattle.bench.specs.declared.words.Service.the-variants.{Wrong, OnSheet}
 use Rattle.bench.specs.declared.words.SheetService.the-variants.{Judge}
-use Rattle.bench.specs.Words.{mostBytes, unlessUnfit, services, foundOr, named, counted, serviceOf, behindFirst}
-use Rattle.bench.specs.Words.{wordsOf}
+use Rattle.bench.specs.Words.{mostArgument, unlessUnfit, services, foundOr, named, counted, serviceOf}
+use Rattle.bench.specs.Words.{behindFirst, wordsOf}
 
 -- ---- one word
 module _ (w : List ℕ) (service : Service) where
@@ -24,13 +24,13 @@ module _ (w : List ℕ) (service : Service) where
   unfolding unlessUnfit
   word-empty e = rw (eq-eqb (length w) 0 e)
 
-  pub word-long : (length w ≡ 0 → ⊥) → mostBytes < length w → Wrong Long ≡ unlessUnfit w service
+  pub word-long : (length w ≡ 0 → ⊥) → mostArgument < length w → Wrong Long ≡ unlessUnfit w service
   unfolding unlessUnfit
-  word-long d l = rw (ne-eqb (length w) 0 d, lt-ltb mostBytes (length w) l)
+  word-long d l = rw (ne-eqb (length w) 0 d, lt-ltb mostArgument (length w) l)
 
-  pub word-fit : (length w ≡ 0 → ⊥) → length w ≤ mostBytes → service ≡ unlessUnfit w service
+  pub word-fit : (length w ≡ 0 → ⊥) → length w ≤ mostArgument → service ≡ unlessUnfit w service
   unfolding unlessUnfit
-  word-fit d l = rw (ne-eqb (length w) 0 d, le-ltb mostBytes (length w) l)
+  word-fit d l = rw (ne-eqb (length w) 0 d, le-ltb mostArgument (length w) l)
 
 -- ---- the rows
 -- what comparing two words tells

@@ -17,12 +17,12 @@ pub mod Laws
 
 -- ---- one argument
 -- the most bytes of an argument (§8.2)
-abbrev pub mostBytes : ℕ
-mostBytes = 4095
+abbrev pub mostArgument : ℕ
+mostArgument = 4095
 
 -- the service that an argument asks for, unless it is empty or too long, which are mistakes (§8.2)
 unfoldable pub unlessUnfit : List ℕ → Service → Service
-unlessUnfit w service = cond (eqb (length w) 0) (Wrong Empty) (cond (ltb mostBytes (length w)) (Wrong Long) service)
+unlessUnfit w service = cond (eqb (length w) 0) (Wrong Empty) (cond (ltb mostArgument (length w)) (Wrong Long) service)
 
 -- whether a byte is a decimal digit
 abbrev pub isDigit : ℕ → Bool

@@ -7,7 +7,7 @@ use mathlib.Core.List.{List, [], _∷_}
 use mathlib.Core.Option.{Option, none, some, Option·map, orElse}
 use lib.Dec.{ltb, eqb}
 use lib.ListN.{length, getD, take}
-use Rattle.machine.specs.Machine.{Mealy, run}
+use Rattle.machine.specs.Machine.{Mealy, run, Below}
 use Rattle.build.specs.declared.transfers.MaybeTransfer.{MaybeTransfer}
 pub mod Laws
 pub mod Paths
@@ -15,7 +15,7 @@ pub mod Paths
 -- ---- as the specification says it
 -- a command string, of any length, that leads from a to b (§6.1)
 pub record Leads (M : Mealy) (a b : ℕ) (u : List ℕ) : Type 0 where
-  pub commands : (i : ℕ) → i < length u → getD u i 0 < M .k
+  pub commands : Below (M .k) u
   pub ends : run M a u ≡ b
 
 -- byte order (§1.2), of strings of one length: at the first place where they differ, u has the lower command

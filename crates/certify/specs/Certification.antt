@@ -36,7 +36,7 @@ pub mod Twin
 -- ---- causes
 -- the kinds that a service which certifies needs (§2.3): 1 to 3, and 4 where it needs the answers
 abbrev pub sequenceNeeds : Bool → Needs
-sequenceNeeds answers = record { word = true; sequence = true; answers = answers }
+sequenceNeeds withAnswers = record { word = true; sequence = true; answers = withAnswers }
 
 -- cause 7, sequence (§4.2)
 abbrev pub cause7 : ℕ → Record → List ℕ → Check
@@ -52,8 +52,8 @@ markBytes xs = length xs + 1
 
 -- causes 1 to 7, then 9, of a service that certifies (§4.1), by whether it needs the answers and by the room for marks
 unfoldable pub sequenceCauses : Bool → ℕ → List ℕ → List Check
-sequenceCauses answers room s =
-    loadCauses (sequenceNeeds answers) s
+sequenceCauses withAnswers room s =
+    loadCauses (sequenceNeeds withAnswers) s
     ++ (cause7 (machineIn s .k) (recordOf 3 s) (content 3 s) ∷ cause9 room (markBytes (content 3 s)) ∷ [])
 
 -- the causes of certifying (§4.1)
@@ -120,16 +120,16 @@ valuesOf (RefusedAnswer number place) = refusalValues number place
 
 -- certified with a number (§5.4): no cause is present, the rules certify the sequence, and so many places are
 -- recognised
-pub record CertifiedWith (room : ℕ) (s : List ℕ) (n : ℕ) : Type 0 where
+pub record CertifiedWith (room : ℕ) (s : List ℕ) (recognised : ℕ) : Type 0 where
   pub clear : firstCause (certifyCauses room s) ≡ Clear
   pub certified : Certified (machineIn s) (content 2 s) (content 3 s)
-  pub number : RecognisedNumber (machineIn s) (content 2 s) (content 3 s) n
+  pub number : RecognisedNumber (machineIn s) (content 2 s) (content 3 s) recognised
 
 -- open with two numbers (§5.4): no cause is present, so many places are recognised, and v is the sequence's open number
-pub record OpenWith (room : ℕ) (s : List ℕ) (n v : ℕ) : Type 0 where
+pub record OpenWith (room : ℕ) (s : List ℕ) (recognised v : ℕ) : Type 0 where
   pub clear : firstCause (certifyCauses room s) ≡ Clear
   pub open-number : OpenNumber (machineIn s) (content 2 s) (content 3 s) v
-  pub number : RecognisedNumber (machineIn s) (content 2 s) (content 3 s) n
+  pub number : RecognisedNumber (machineIn s) (content 2 s) (content 3 s) recognised
 
 -- what an answer to a sheet and a room for marks says (§5.4): each case is answered exactly where that holds
 pub record Says (room : ℕ) (s : List ℕ) (a : Answer) : Type 0 where

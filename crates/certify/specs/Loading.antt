@@ -14,9 +14,9 @@ use Rattle.machine.specs.Causes.{machineIn, held}
 use Rattle.certify.specs.Certification.{markBytes, sequenceCauses}
 
 -- what `load_sequence` promises of its answer l, by whether the answers are needed, the room for marks, and the sheet s
-pub record SequenceLoaded (answers : Bool) (room : ℕ) (s : List ℕ) (l : Loaded) : Type 0 where
+pub record SequenceLoaded (withAnswers : Bool) (room : ℕ) (s : List ℕ) (l : Loaded) : Type 0 where
   -- the first refusal, or Clear
-  pub check : l .check ≡ firstCause (sequenceCauses answers room s)
+  pub check : l .check ≡ firstCause (sequenceCauses withAnswers room s)
   -- where nothing is refused: the machine is the sheet's and within its limits, the sequence is within its limits and
   -- of the machine's commands, and its marks fit
   pub machine : l .check ≡ Clear → meaning (l .machine) ≡ machineIn s

@@ -62,7 +62,7 @@ pub record MarksOf (M : Mealy) (w xs ms : List ℕ) : Type 0 where
   pub otherwise : (p : ℕ) → (Recognised M w xs p → ⊥) → getD ms p 0 ≡ 0
 
 -- how many places are recognised (§5.4): as many as marks are 1
-pub record RecognisedNumber (M : Mealy) (w xs : List ℕ) (n : ℕ) : Type 0 where
+pub record RecognisedNumber (M : Mealy) (w xs : List ℕ) (recognised : ℕ) : Type 0 where
   pub marks : List ℕ
   pub are : MarksOf M w xs marks
-  pub number : n ≡ count marks
+  pub number : recognised ≡ count marks

@@ -16,7 +16,7 @@ use Rattle.sheet.specs.Reader.{recordOf, content}
 use Rattle.machine.specs.Machine.{Mealy}
 use Rattle.machine.specs.Causes.{machineIn}
 use Rattle.certify.specs.declared.answer.Answer.{Answer as Certification}
-use Rattle.certify.specs.declared.answer.Answer.the-variants.{Certified, Open, Refused as RefusedThere}
+use Rattle.certify.specs.declared.answer.Answer.the-variants.{Certified, Open, Refused as RefusedCertification}
 use Rattle.certify.specs.Certification.{sequenceCauses, Certifies}
 use Rattle.judge.specs.declared.answer.Answer.{Answer}
 use Rattle.judge.specs.declared.answer.Answer.the-variants.{Pass, Wrong, Unfinished, Refused as RefusedAnswer}
@@ -74,7 +74,7 @@ module _ (s before : List ℕ) {c : Check} (ce : c ≡ firstCause (judgeCauses (
       unfolding cause11
       judges-open q = judges-by (rw q refl)
 
-      pub judges-refused-there : {n p : ℕ} → b ≡ RefusedThere n p → Judges s before after (RefusedAnswer n p)
+      pub judges-refused-there : {n p : ℕ} → b ≡ RefusedCertification n p → Judges s before after (RefusedAnswer n p)
       unfolding cause11
       judges-refused-there q = judges-by (rw q refl)
 

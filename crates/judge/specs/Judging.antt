@@ -17,7 +17,7 @@ use Rattle.sheet.specs.Reader.{recordOf, content}
 use Rattle.machine.specs.Machine.{Mealy, answers, stateAt}
 use Rattle.machine.specs.Causes.{machineIn}
 use Rattle.certify.specs.declared.answer.Answer.{Answer as Certification}
-use Rattle.certify.specs.declared.answer.Answer.the-variants.{Certified, Open, Refused as RefusedThere}
+use Rattle.certify.specs.declared.answer.Answer.the-variants.{Certified, Open, Refused as RefusedCertification}
 use Rattle.certify.specs.Certification.{sequenceCauses, certification, marksAfter}
 use Rattle.judge.specs.declared.answer.Answer.{Answer}
 use Rattle.judge.specs.declared.answer.Answer.the-variants.{Pass, Wrong, Unfinished, Refused as RefusedAnswer}
@@ -41,7 +41,7 @@ judgeCauses room s = sequenceCauses true room s ++ (cause10 (recordOf 4 s) (cont
 unfoldable pub cause11 : Certification → Check
 cause11 (Certified recognised) = Clear
 cause11 (Open recognised number) = Refused 11 number
-cause11 (RefusedThere number place) = Refused number place
+cause11 (RefusedCertification number place) = Refused number place
 
 -- ---- the results
 -- how many answers from the front are the specified ones: the first place at which the lists differ, or the length of

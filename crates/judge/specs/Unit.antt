@@ -37,18 +37,18 @@ module _ (n k : ℕ) (U : Unit n k) where
 -- machine, u to the start and the present state after the sequence to the end state
 pub record Renaming (M : Mealy) (U : Unit (M .n) (M .k)) (xs : List ℕ) (end : ℕ) : Type 0 where
   -- the state of the unit that is assigned to each state
-  pub given : ℕ → ℕ
-  pub into : (s : ℕ) → s < M .n → given s < U .m
+  pub assigned : ℕ → ℕ
+  pub into : (s : ℕ) → s < M .n → assigned s < U .m
   -- different states are assigned different states
-  pub one-to-one : (s t : ℕ) → s < M .n → t < M .n → given s ≡ given t → s ≡ t
+  pub one-to-one : (s t : ℕ) → s < M .n → t < M .n → assigned s ≡ assigned t → s ≡ t
   -- every state of the unit is assigned
-  pub onto : (x : ℕ) → x < U .m → (s : ℕ) × (s < M .n) × (given s ≡ x)
+  pub onto : (x : ℕ) → x < U .m → (s : ℕ) × (s < M .n) × (assigned s ≡ x)
   -- for each entry the unit in the assigned state gives the entry's answer, and goes to the state that is assigned
   -- to the entry's next state
-  pub answers-alike : (s c : ℕ) → s < M .n → c < M .k → U .answer (given s) c ≡ M .answer s c
-  pub goes-alike : (s c : ℕ) → s < M .n → c < M .k → U .next (given s) c ≡ given (M .next s c)
+  pub answers-alike : (s c : ℕ) → s < M .n → c < M .k → U .answer (assigned s) c ≡ M .answer s c
+  pub goes-alike : (s c : ℕ) → s < M .n → c < M .k → U .next (assigned s) c ≡ assigned (M .next s c)
   -- u is assigned to the start
-  pub start-given : given (M .start) ≡ U .u
+  pub start-assigned : assigned (M .start) ≡ U .u
   -- the end state is that of place N, and the unit's present state is assigned to it
   pub end-is : end ≡ stateAt M xs (length xs)
-  pub end-given : given end ≡ presentState (M .n) (M .k) U xs
+  pub end-assigned : assigned end ≡ presentState (M .n) (M .k) U xs

@@ -84,8 +84,8 @@ held s = machineOf (take mostMachine (content 1 s))
 
 -- causes 1 to 4 in order (§4.1), for a service that needs the machine and these kinds besides
 unfoldable pub machineCauses : Needs → List ℕ → List Check
-machineCauses n s =
-    sheetCauses (needed n) s ++ (cause3 (recordOf 1 s) (content 1 s) ∷ cause4 (recordOf 1 s) (content 1 s) ∷ [])
+machineCauses needs s =
+    sheetCauses (needed needs) s ++ (cause3 (recordOf 1 s) (content 1 s) ∷ cause4 (recordOf 1 s) (content 1 s) ∷ [])
 
 -- causes 5 and 6 in order (§4.1) where the word is needed, else none
 unfoldable pub wordCauses : Bool → List ℕ → List Check
@@ -94,4 +94,4 @@ wordCauses false s = []
 
 -- causes 1 to 6 by their numbers, 5 and 6 where the word is needed (§4.1)
 unfoldable pub loadCauses : Needs → List ℕ → List Check
-loadCauses n s = machineCauses n s ++ wordCauses (n .word) s
+loadCauses needs s = machineCauses needs s ++ wordCauses (needs .word) s

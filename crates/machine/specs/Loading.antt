@@ -13,14 +13,14 @@ use Rattle.machine.specs.Machine.{meaning, Proper, Distinguishes}
 use Rattle.machine.specs.Causes.{machineIn, held, loadCauses}
 
 -- what `load_sheet` promises of its answer l, for the needed kinds and the sheet s
-pub record LoadedFrom (n : Needs) (s : List ℕ) (l : Loaded) : Type 0 where
+pub record LoadedFrom (needs : Needs) (s : List ℕ) (l : Loaded) : Type 0 where
   -- the first refusal, or Clear
-  pub check : l .check ≡ firstCause (loadCauses n s)
+  pub check : l .check ≡ firstCause (loadCauses needs s)
   -- where nothing is refused: each needed record is read, the machine is the sheet's and within its limits, and a
   -- needed word is within its limits and separates
-  pub reads : (k : ℕ) → List·Memᴰ k (needed n) → l .check ≡ Clear → Reads k s
+  pub reads : (k : ℕ) → List·Memᴰ k (needed needs) → l .check ≡ Clear → Reads k s
   pub machine : l .check ≡ Clear → meaning (l .machine) ≡ machineIn s
   pub proper : l .check ≡ Clear → Proper (machineIn s)
-  pub distinguishes : n .word ≡ true → l .check ≡ Clear → Distinguishes (machineIn s) (content 2 s)
+  pub distinguishes : needs .word ≡ true → l .check ≡ Clear → Distinguishes (machineIn s) (content 2 s)
   -- on a refusal the specification leaves the machine free: it is this one in any case
   pub holds : meaning (l .machine) ≡ held s

@@ -34,7 +34,7 @@ missing s k = refusal 2 with length s if isMissing (find k (parsed s .records))
 
 -- causes 1 and 2 in order, for the kinds that a service needs: the length, the records, the missing kinds (§4.1)
 unfoldable pub sheetCauses : List ℕ → List ℕ → List Check
-sheetCauses needed s = tooLong s ∷ parsed s .stop ∷ map (missing s) needed
+sheetCauses kinds s = tooLong s ∷ parsed s .stop ∷ map (missing s) kinds
 
 -- the list of this kind alone where it is needed, else the empty list
 unfoldable pub when : Bool → ℕ → List ℕ
@@ -47,7 +47,7 @@ whenMissing s k b = firstCause (map (missing s) (when b k))
 
 -- the kinds that a service on a machine needs (§2.3): kind 1 always, kinds 2, 3 and 4 where the flags say so
 unfoldable pub needed : Needs → List ℕ
-needed n = 1 ∷ (when (n .word) 2 ++ (when (n .sequence) 3 ++ when (n .answers) 4))
+needed needs = 1 ∷ (when (needs .word) 2 ++ (when (needs .sequence) 3 ++ when (needs .answers) 4))
 
 -- what reading a kind refuses with (§2.4): checks 1 and 2, that kind being needed
 unfoldable pub refusalOf : ℕ → List ℕ → Check
@@ -77,12 +77,12 @@ unfoldable pub part : ℕ → List ℕ → Part
 part k s = partWhen (refusalOf k s) (find k (parsed s .records))
 
 -- the bytes of a part of a sheet
-unfoldable pub bytes : Part → List ℕ → List ℕ
-bytes p s = take (p .size) (drop (p .from) s)
+unfoldable pub partBytes : Part → List ℕ → List ℕ
+partBytes p s = take (p .size) (drop (p .from) s)
 
 -- the bytes that reading a kind gives (§2.4): the payload, or none on a refusal
 unfoldable pub content : ℕ → List ℕ → List ℕ
-content k s = bytes (part k s) s
+content k s = partBytes (part k s) s
 
 -- a reference: the memory block and the offset in it to which it points, and the bytes there
 abbrev pub seen : RefT (List ℕ) → (ℕ × ℕ) × List ℕ
@@ -90,7 +90,7 @@ seen r = (r .ptr, now r)
 
 -- the part as a reference into the lent sheet (§2.4): the same block, so no copy, the part's position, and its bytes
 unfoldable pub handed : RefT (List ℕ) → Part → (ℕ × ℕ) × List ℕ
-handed s p = ((s .ptr .0, s .ptr .1 + p .from), bytes p (now s))
+handed s p = ((s .ptr .0, s .ptr .1 + p .from), partBytes p (now s))
 
 -- what holds of a kind whose reading is not refused (§2.4): its record is of that kind and lies inside the sheet, and
 -- the part is its payload

@@ -6,12 +6,12 @@ use mathlib.Core.Path.{_≡_}
 use mathlib.Core.List.{List, [], _∷_, _++_}
 use lib.ListN.{length, drop}
 use Rattle.sheet.specs.Writing.{recordBytes}
-use Rattle.certify.specs.declared.answer.Answer.the-variants.{Certified, Open, Refused as NotCertified}
+use Rattle.certify.specs.declared.answer.Answer.the-variants.{Certified, Open, Refused as RefusedCertification}
 use Rattle.certify.specs.Certification.{certification}
-use Rattle.build.specs.declared.service.Answer.the-variants.{Built, Refused as NotBuilt}
+use Rattle.build.specs.declared.service.Answer.the-variants.{Built, Refused as RefusedBuilding}
 use Rattle.build.specs.Building.{building, bufferAfter}
 use Rattle.judge.specs.declared.answer.Answer.{Answer}
-use Rattle.judge.specs.declared.answer.Answer.the-variants.{Pass, Wrong, Unfinished, Refused as NotJudged}
+use Rattle.judge.specs.declared.answer.Answer.the-variants.{Pass, Wrong, Unfinished, Refused as RefusedJudgement}
 use Rattle.judge.specs.Judging.{judgement}
 use Rattle.report.specs.Text.{bytes}
 use Rattle.report.specs.Lines.{judgeLine}
@@ -89,21 +89,21 @@ pub record Starred : Type 0 where
       → JudgedAs room (twinAnswered (0 ∷ 1 ∷ 0 ∷ 1 ∷ [])) (Unfinished 4) (bytes "UNFINISHED 4\n")
   -- thirteen answers, whatever they are
   pub too-many : (room : ℕ) → 13 ≤ room → (a b c d e f g h i j k l m : ℕ)
-      → judgement room (twinAnswered (a ∷ b ∷ c ∷ d ∷ e ∷ f ∷ g ∷ h ∷ i ∷ j ∷ k ∷ l ∷ m ∷ [])) ≡ NotJudged 10 41
+      → judgement room (twinAnswered (a ∷ b ∷ c ∷ d ∷ e ∷ f ∷ g ∷ h ∷ i ∷ j ∷ k ∷ l ∷ m ∷ [])) ≡ RefusedJudgement 10 41
   -- a word that does not separate
-  pub no-separation-built : (room : ℕ) → building room (unitSheet twinTable (1 ∷ [])) ≡ NotBuilt 6 1
+  pub no-separation-built : (room : ℕ) → building room (unitSheet twinTable (1 ∷ [])) ≡ RefusedBuilding 6 1
   pub no-separation-certified : (room : ℕ)
-      → certification room (sequenceSheet twinTable (1 ∷ []) builtTwin) ≡ NotCertified 6 1
+      → certification room (sequenceSheet twinTable (1 ∷ []) builtTwin) ≡ RefusedCertification 6 1
   pub no-separation-judged : (room : ℕ)
-      → judgement room (answersSheet twinTable (1 ∷ []) builtTwin (0 ∷ [])) ≡ NotJudged 6 1
+      → judgement room (answersSheet twinTable (1 ∷ []) builtTwin (0 ∷ [])) ≡ RefusedJudgement 6 1
   -- a next state that is none; the word's command and the answer may be any
-  pub no-state-built : (room command : ℕ) → building room (unitSheet noStateTable (command ∷ [])) ≡ NotBuilt 4 8
+  pub no-state-built : (room command : ℕ) → building room (unitSheet noStateTable (command ∷ [])) ≡ RefusedBuilding 4 8
   pub no-state-certified : (room command : ℕ)
-      → certification room (sequenceSheet noStateTable (command ∷ []) builtTwin) ≡ NotCertified 4 8
+      → certification room (sequenceSheet noStateTable (command ∷ []) builtTwin) ≡ RefusedCertification 4 8
   pub no-state-judged : (room command answer : ℕ)
-      → judgement room (answersSheet noStateTable (command ∷ []) builtTwin (answer ∷ [])) ≡ NotJudged 4 8
+      → judgement room (answersSheet noStateTable (command ∷ []) builtTwin (answer ∷ [])) ≡ RefusedJudgement 4 8
   -- a table that is not connected
-  pub not-connected : (room : ℕ) → building room (unitSheet disconnectedTable (0 ∷ [])) ≡ NotBuilt 8 1
+  pub not-connected : (room : ℕ) → building room (unitSheet disconnectedTable (0 ∷ [])) ≡ RefusedBuilding 8 1
   -- one state and one command
   pub single-built : (answer room : ℕ) → 4 ≤ room → building room (unitSheet (singleTable answer) (0 ∷ [])) ≡ Built 4
   pub single-bytes : (answer : ℕ) (buffer : List ℕ) → 4 ≤ length buffer

@@ -42,8 +42,9 @@ module _ (words : List (List ℕ)) (s : List ℕ) where
   unfolding bench
   judge-words e = ap (λ (service : Service). output service s) e ∙ judged-line s
 
-  -- whatever the unit, if standard output begins as a pass does and the answers judged are the unit's own, it is the
-  -- line of a pass with some end state, and there is a renaming, which gives the unit's present state to that end state
+  -- whatever the unit, if standard output begins as a pass does and the answers judged are the unit's own, it
+  -- is the line of a pass with some end state, and there is a renaming, which assigns the unit's present
+  -- state to that end state
   pub judge-identity : serviceOf words ≡ OnSheet Judge → (U : Unit (machineIn s .n) (machineIn s .k))
       → Passing (bench words s .out) → content 4 s ≡ ownAnswers (machineIn s .n) (machineIn s .k) U (content 3 s)
       → (size : ℕ) × (end : ℕ) × (bench words s .out ≡ passLine size end) × Renaming (machineIn s) U (content 3 s) end

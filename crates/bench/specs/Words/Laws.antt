@@ -13,7 +13,7 @@ use Rattle.report.specs.Words.{helpText}
 use Rattle.bench.specs.declared.words.Lookup.{Lookup}
 use Rattle.bench.specs.declared.words.Service.{Service}
 use Rattle.bench.specs.declared.words.Service.the-variants.{Wrong}
-use Rattle.bench.specs.Words.{mostBytes, unlessUnfit, kindIn, kindOf, Row, services, named, counted, serviceOf}
+use Rattle.bench.specs.Words.{mostArgument, unlessUnfit, kindIn, kindOf, Row, services, named, counted, serviceOf}
 use Rattle.bench.specs.Words.{behindFirst, wordsOf}
 
 -- ---- the number of words, and the first two of them
@@ -26,26 +26,26 @@ words-are (w ∷ v ∷ ws) =
 
 -- ---- the first bytes of a word, one more than a word may have
 abbrev pub cut : List ℕ → List ℕ
-cut w = take (mostBytes + 1) w
+cut w = take (mostArgument + 1) w
 
-too-long : (w : List ℕ) (service : Service) → mostBytes < length w → unlessUnfit w service ≡ Wrong Long
+too-long : (w : List ℕ) (service : Service) → mostArgument < length w → unlessUnfit w service ≡ Wrong Long
 unfolding unlessUnfit
 too-long w service l =
     ap₂ (λ (a b : Bool). cond a (Wrong Empty) (cond b (Wrong Long) service))
-    (ne-eqb (length w) 0 (λ e. omega arith)) (lt-ltb mostBytes (length w) l)
+    (ne-eqb (length w) 0 (λ e. omega arith)) (lt-ltb mostArgument (length w) l)
 
 -- whatever a word stands for
 cut-word : (w : List ℕ) (f : List ℕ → Service) → unlessUnfit (cut w) (f (cut w)) ≡ unlessUnfit w (f w)
-cut-word w f = go (ltb mostBytes (length w)) refl
+cut-word w f = go (ltb mostArgument (length w)) refl
   where
-    go : (t : Bool) → ltb mostBytes (length w) ≡ t → unlessUnfit (cut w) (f (cut w)) ≡ unlessUnfit w (f w)
+    go : (t : Bool) → ltb mostArgument (length w) ≡ t → unlessUnfit (cut w) (f (cut w)) ≡ unlessUnfit w (f w)
     go true e =
-        let l = ltb-true mostBytes (length w) e in
-        too-long (cut w) (f (cut w)) (omega (arith, length-take-le (mostBytes + 1) w (omega arith)))
+        let l = ltb-true mostArgument (length w) e in
+        too-long (cut w) (f (cut w)) (omega (arith, length-take-le (mostArgument + 1) w (omega arith)))
         ∙ sym (too-long w (f w) l)
     go false e =
         ap (λ (u : List ℕ). unlessUnfit u (f u))
-        (take-all (mostBytes + 1) w (omega (arith, ltb-false mostBytes (length w) e)))
+        (take-all (mostArgument + 1) w (omega (arith, ltb-false mostArgument (length w) e)))
 
 cut-kind : (w : List ℕ) → kindOf (cut w) ≡ kindOf w
 unfolding kindOf

@@ -13,7 +13,7 @@ use Rattle.sheet.specs.Check.{refusal_with_if_, _else_, firstCause, first}
 use Rattle.sheet.specs.Check.Laws.{absent, else-end}
 use Rattle.sheet.specs.Format.{recordAt, offset, end, kindOf, cause1, cause2, causeAt, parseStep, parseFrom, parse}
 use Rattle.sheet.specs.Format.{parsed, ofKind, _or_, find}
-use Rattle.sheet.specs.Reader.{sheetCauses, when, needed, refusalOf, recordOf, part, bytes, content}
+use Rattle.sheet.specs.Reader.{sheetCauses, when, needed, refusalOf, recordOf, part, partBytes, content}
 use Rattle.sheet.specs.Writing.{written}
 use Rattle.machine.specs.House.{housePayload, house, houseWord}
 use Rattle.machine.specs.Machine.{machineOf, run, answers}
@@ -55,12 +55,12 @@ twin-certified = ap (outcome twin (0 ∷ [])) twin-sequence ∙ twin-built
 
 -- the machine of the sheet is the twin, of which the two facts above speak
 pub twin-machine : machineIn twinSheet ≡ twin
-unfolding twin twinSheet machineOf machineIn content bytes part refusalOf sheetCauses firstCause _else_ refusal_with_if_
-    parsed parse parseFrom recordAt end kindOf cause1 cause2 causeAt parseStep find ofKind _or_ offset
+unfolding twin twinSheet machineOf machineIn content partBytes part refusalOf sheetCauses firstCause _else_
+    refusal_with_if_ parsed parse parseFrom recordAt end kindOf cause1 cause2 causeAt parseStep find ofKind _or_ offset
 twin-machine = refl
 
 twin-word : content 2 twinSheet ≡ 0 ∷ []
-unfolding twinSheet machineOf machineIn content bytes part refusalOf sheetCauses firstCause _else_ refusal_with_if_
+unfolding twinSheet machineOf machineIn content partBytes part refusalOf sheetCauses firstCause _else_ refusal_with_if_
     parsed parse parseFrom recordAt end kindOf cause1 cause2 causeAt parseStep find ofKind _or_ offset
 twin-word = refl
 
@@ -74,9 +74,9 @@ nine-clear room size l = else-end _ ∙ absent 9 size (le-ltb room size l)
 
 twin-clear : (room : ℕ) → 12 ≤ room → firstCause (buildCauses room twinSheet) ≡ Clear
 unfolding twinSheet refusal_with_if_ _else_ firstCause first recordAt offset end kindOf cause1 cause2 causeAt parseStep
-    parseFrom parse parsed ofKind _or_ find sheetCauses when needed refusalOf recordOf part bytes content machineOf run
-    answers cause3 cause4 commandsCause cause6 machineIn machineCauses wordCauses loadCauses cause9 guard orElse firstOf
-    firstPath transfer following T nthState firstBlocks opening approach test stateTests tests sequence cause8
+    parseFrom parse parsed ofKind _or_ find sheetCauses when needed refusalOf recordOf part partBytes content machineOf
+    run answers cause3 cause4 commandsCause cause6 machineIn machineCauses wordCauses loadCauses cause9 guard orElse
+    firstOf firstPath transfer following T nthState firstBlocks opening approach test stateTests tests sequence cause8
     buildCauses
 twin-clear room l = nine-clear room 12 l
 
@@ -93,7 +93,7 @@ twin-buffer buffer l =
 -- ---- where entry (1, 0) goes to 1, cause 8 is present at 1, whatever the room
 pub disconnected-building : (room : ℕ) → building room disconnectedSheet ≡ Refused 8 1
 unfolding building disconnectedSheet refusal_with_if_ _else_ firstCause first recordAt offset end kindOf cause1 cause2
-    causeAt parseStep parseFrom parse parsed ofKind _or_ find sheetCauses when needed refusalOf recordOf part bytes
+    causeAt parseStep parseFrom parse parsed ofKind _or_ find sheetCauses when needed refusalOf recordOf part partBytes
     content machineOf run answers cause3 cause4 commandsCause cause6 machineIn machineCauses wordCauses loadCauses
     cause9 guard orElse firstOf firstPath transfer following T nthState firstBlocks opening approach test stateTests
     tests sequence cause8 buildCauses
@@ -109,13 +109,13 @@ pub single-certified : (answer : ℕ) → outcome (single answer) (0 ∷ []) (se
 single-certified answer = ap (outcome (single answer) (0 ∷ [])) (single-sequence answer) ∙ single-built answer
 
 single-machine : (answer : ℕ) → machineIn (singleSheet answer) ≡ single answer
-unfolding single singleSheet machineOf machineIn content bytes part refusalOf sheetCauses firstCause _else_
+unfolding single singleSheet machineOf machineIn content partBytes part refusalOf sheetCauses firstCause _else_
     refusal_with_if_ parsed parse parseFrom recordAt end kindOf cause1 cause2 causeAt parseStep find ofKind _or_ offset
 single-machine answer = refl
 
 single-word : (answer : ℕ) → content 2 (singleSheet answer) ≡ 0 ∷ []
-unfolding singleSheet machineOf machineIn content bytes part refusalOf sheetCauses firstCause _else_ refusal_with_if_
-    parsed parse parseFrom recordAt end kindOf cause1 cause2 causeAt parseStep find ofKind _or_ offset
+unfolding singleSheet machineOf machineIn content partBytes part refusalOf sheetCauses firstCause _else_
+    refusal_with_if_ parsed parse parseFrom recordAt end kindOf cause1 cause2 causeAt parseStep find ofKind _or_ offset
 single-word answer = refl
 
 single-built-sequence : (answer : ℕ)
@@ -124,7 +124,7 @@ single-built-sequence answer = ap₂ sequence (single-machine answer) (single-wo
 
 single-clear : (answer room : ℕ) → 4 ≤ room → firstCause (buildCauses room (singleSheet answer)) ≡ Clear
 unfolding singleSheet refusal_with_if_ _else_ firstCause first recordAt offset end kindOf cause1 cause2 causeAt
-    parseStep parseFrom parse parsed ofKind _or_ find sheetCauses when needed refusalOf recordOf part bytes content
+    parseStep parseFrom parse parsed ofKind _or_ find sheetCauses when needed refusalOf recordOf part partBytes content
     machineOf run answers cause3 cause4 commandsCause cause6 machineIn machineCauses wordCauses loadCauses cause9 guard
     orElse firstOf firstPath transfer following T nthState firstBlocks opening approach test stateTests tests sequence
     cause8 buildCauses

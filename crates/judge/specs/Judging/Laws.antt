@@ -21,7 +21,7 @@ use Rattle.machine.specs.Causes.{machineIn, loadCauses}
 use Rattle.machine.specs.Causes.Lists.{load-proper, word-distinguishes}
 use Rattle.certify.specs.declared.answer.Answer.{Answer as Certification}
 use Rattle.certify.specs.declared.answer.Answer.the-variants.{Certified as CertifiedAnswer, Open}
-use Rattle.certify.specs.declared.answer.Answer.the-variants.{Refused as RefusedThere}
+use Rattle.certify.specs.declared.answer.Answer.the-variants.{Refused as RefusedCertification}
 use Rattle.certify.specs.Recognition.{Certified, OpenNumber, MarksOf, RecognisedNumber}
 use Rattle.certify.specs.Certification.{sequenceNeeds, markBytes, sequenceCauses, certifyCauses, certification}
 use Rattle.certify.specs.Certification.{marksAfter, keptIn, Says}
@@ -113,8 +113,8 @@ judged-later s buffer e =
     ap (drop (markBytes (content 3 s))) (judged-clear s buffer e) ∙ certifies s buffer refl refl .later
 
 -- ---- what each answer says
--- the results where nothing is refused and the sequence is certified; a refusal with the number and place of the first
--- cause, or, where only that the sequence is certified is missing, 11 and the open number
+-- every result, where nothing is refused and the sequence is certified; a refusal with the number and place of the
+-- first cause, or, where no other cause is present and the sequence is open, with 11 and the open number
 pub data Result (room : ℕ) (s : List ℕ) : Answer → Type 0 where
   refused : {n p : ℕ} → firstCause (judgeCauses room s) ≡ Refused n p → Result room s (RefusedAnswer n p)
   not-certified : {v : ℕ} → firstCause (judgeCauses room s) ≡ Clear
@@ -131,7 +131,7 @@ module _ (room : ℕ) (s : List ℕ) where
       → (n : ℕ) × RecognisedNumber (machineIn s) (content 2 s) (content 3 s) n
   numbered e (CertifiedAnswer n) f = (n, says .certified n .0 f .number)
   numbered e (Open n v) f = (n, says .opened n v .0 f .number)
-  numbered e (RefusedThere n p) f = clear-refused (certifying-clear room s e) (says .refused n p .0 f)
+  numbered e (RefusedCertification n p) f = clear-refused (certifying-clear room s e) (says .refused n p .0 f)
 
   pub result-judgement : {a : Answer} → Result room s a → a ≡ judgement room s
   result-judgement (refused e) = sym (judgement-refused room s e)
@@ -153,7 +153,7 @@ module _ (room : ℕ) (s : List ℕ) where
       (judged e (says .certified n .0 f .certified)
       (verdict-judged (machineIn s) (content 3 s) (content 4 s) (few-answers room s e)))
   result-by Clear (Open n v) e f = rw (judgement-open room s e f) (not-certified e (says .opened n v .0 f .open-number))
-  result-by Clear (RefusedThere n p) e f = clear-refused (certifying-clear room s e) (says .refused n p .0 f)
+  result-by Clear (RefusedCertification n p) e f = clear-refused (certifying-clear room s e) (says .refused n p .0 f)
 
   pub judgement-result : Result room s (judgement room s)
   judgement-result = result-by (firstCause (judgeCauses room s)) (certification room s) refl refl
@@ -248,8 +248,7 @@ pass-after room s U size end pass own ys below =
     (pass-identity room s (sym pass) U size end refl own)
     (judged-commands room s clear) ys below
 
--- the claim speaks of something: the specified machine itself is a unit, and where judging passes
--- the answers are its own
+-- the claim is not empty: the specified machine itself is a unit, and where judging passes the answers are its own
 pub itself : (M : Mealy) → Proper M → Unit (M .n) (M .k)
 itself M h = record {
   m = M .n;

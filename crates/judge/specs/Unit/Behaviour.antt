@@ -22,32 +22,33 @@ module _ (M : Mealy) (proper : Proper M) (U : Unit (M .n) (M .k)) (xs : List ℕ
   abbrev unit : Mealy
   unit = tableOf (M .n) (M .k) U
 
-  -- in the state given to s it answers as the machine does in s
-  pub given-alike : (ys : List ℕ) (s : ℕ) → s < M .n → Below (M .k) ys → answers unit (r .given s) ys ≡ answers M s ys
-  given-alike [] s l b = answers-none unit (r .given s) ∙ sym (answers-none M s)
-  given-alike (c ∷ ys) s l b =
+  -- in the state assigned to s it answers as the machine does in s
+  pub assigned-alike : (ys : List ℕ) (s : ℕ) → s < M .n → Below (M .k) ys
+      → answers unit (r .assigned s) ys ≡ answers M s ys
+  assigned-alike [] s l b = answers-none unit (r .assigned s) ∙ sym (answers-none M s)
+  assigned-alike (c ∷ ys) s l b =
       let low = below-head (M .k) c ys b in
-      answers-cons unit (r .given s) c ys
+      answers-cons unit (r .assigned s) c ys
       ∙ ap₂ _∷_ (r .answers-alike s c l low)
       (ap (λ (x : ℕ). answers unit x ys) (r .goes-alike s c l low)
-      ∙ given-alike ys (M .next s c) (proper .stays s c l low) (below-tail (M .k) c ys b))
+      ∙ assigned-alike ys (M .next s c) (proper .stays s c l low) (below-tail (M .k) c ys b))
       ∙ sym (answers-cons M s c ys)
 
   -- in the state in which it stood when the first command went in, as from the start
   pub start-alike : (ys : List ℕ) → Below (M .k) ys → answers unit (U .u) ys ≡ answers M (M .start) ys
   start-alike ys b =
-      ap (λ (x : ℕ). answers unit x ys) (sym (r .start-given)) ∙ given-alike ys (M .start) (proper .starts) b
+      ap (λ (x : ℕ). answers unit x ys) (sym (r .start-assigned)) ∙ assigned-alike ys (M .start) (proper .starts) b
 
   -- in the state in which it stands now, as from the end state on
   pub end-alike : Commands mostSequence (M .k) xs → (ys : List ℕ) → Below (M .k) ys
       → answers unit (presentState (M .n) (M .k) U xs) ys ≡ answers M end ys
   end-alike h ys b =
       let low : end < M .n = rw (r .end-is) (state-stays M proper xs (h .low) (length xs)) in
-      ap (λ (x : ℕ). answers unit x ys) (sym (r .end-given)) ∙ given-alike ys end low b
+      ap (λ (x : ℕ). answers unit x ys) (sym (r .end-assigned)) ∙ assigned-alike ys end low b
 
   -- in any of its states, as in some state of the sheet
   pub each-alike : (x : ℕ) → x < U .m
       → (s : ℕ) × (s < M .n) × ((ys : List ℕ) → Below (M .k) ys → answers unit x ys ≡ answers M s ys)
   each-alike x l =
       let o = r .onto x l in
-      (o .0, o .1, λ ys b. ap (λ (y : ℕ). answers unit y ys) (sym (o .2)) ∙ given-alike ys (o .0) (o .1) b)
+      (o .0, o .1, λ ys b. ap (λ (y : ℕ). answers unit y ys) (sym (o .2)) ∙ assigned-alike ys (o .0) (o .1) b)

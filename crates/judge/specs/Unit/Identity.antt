@@ -49,7 +49,7 @@ module _ (M : Mealy) (w xs : List ℕ) (proper : Proper M) (commands : Commands 
       smallest M w xs (λ p. (i : ℕ) × (OccursAt w xs i) × (stateAt M xs i ≡ stateAt M xs p)) (λ p h. (p, h, refl))
       (λ p q m ml rp hp rq hq e rm hm i equal. (hm .0, hm .1, hm .2 ∙ states-agree M xs p q m e equal))
 
-  -- ---- the state given to each state: that of the unit at a place where the word stands
+  -- ---- the state assigned to each state: that of the unit at a place where the word occurs
   MetAtWord : ℕ → ℕ → Type 0
   MetAtWord s x = (p : ℕ) × (OccursAt w xs p) × (stateAt M xs p ≡ s) × (stateAt unit xs p ≡ x)
 
@@ -60,90 +60,92 @@ module _ (M : Mealy) (w xs : List ℕ) (proper : Proper M) (commands : Commands 
       let h = recognised-word (v .place) (v .before) in
       (stateAt unit xs (h .0), (h .0, h .1, h .2 ∙ v .state, refl))
 
-  given : ℕ → ℕ
-  given = choice (M .n) MetAtWord met-at-word .0
+  assigned : ℕ → ℕ
+  assigned = choice (M .n) MetAtWord met-at-word .0
 
-  given-met : (s : ℕ) → s < M .n → MetAtWord s (given s)
-  unfolding given
-  given-met = choice (M .n) MetAtWord met-at-word .1
+  assigned-met : (s : ℕ) → s < M .n → MetAtWord s (assigned s)
+  unfolding assigned
+  assigned-met = choice (M .n) MetAtWord met-at-word .1
 
   unit-low : (p : ℕ) → stateAt unit xs p < U .m
   unit-low p = state-closed unit (U .stays) (U .u-low) xs (commands .low) p
 
-  given-low : (s : ℕ) → s < M .n → given s < U .m
+  assigned-low : (s : ℕ) → s < M .n → assigned s < U .m
   unfolding MetAtWord
-  given-low s l = let h = given-met s l in omega (arith, unit-low (h .0), h .3)
+  assigned-low s l = let h = assigned-met s l in omega (arith, unit-low (h .0), h .3)
 
-  given-one : (s t : ℕ) → s < M .n → t < M .n → given s ≡ given t → s ≡ t
+  assigned-one : (s t : ℕ) → s < M .n → t < M .n → assigned s ≡ assigned t → s ≡ t
   unfolding MetAtWord
-  given-one s t sl tl e =
-      let a = given-met s sl in
-      let b = given-met t tl in
+  assigned-one s t sl tl e =
+      let a = assigned-met s sl in
+      let b = assigned-met t tl in
       sym (a .2) ∙ alike (a .0) (b .0) (a .1) (b .1) (a .3 ∙ e ∙ sym (b .3)) ∙ b .2
 
-  given-onto : (x : ℕ) → x < U .m → (s : ℕ) × (s < M .n) × (given s ≡ x)
-  given-onto = onto (M .n) (U .m) given (U .few) given-low given-one
+  assigned-onto : (x : ℕ) → x < U .m → (s : ℕ) × (s < M .n) × (assigned s ≡ x)
+  assigned-onto = onto (M .n) (U .m) assigned (U .few) assigned-low assigned-one
 
-  -- ---- at every recognised place the unit is in the state given to the place's
+  -- ---- at every recognised place the unit is in the state assigned to the place's
   Met : ℕ → Type 0
-  Met p = stateAt unit xs p ≡ given (stateAt M xs p)
+  Met p = stateAt unit xs p ≡ assigned (stateAt M xs p)
 
   word-met : (p : ℕ) → OccursAt w xs p → Met p
   unfolding Met MetAtWord
   word-met p h =
-      let o = given-onto (stateAt unit xs p) (unit-low p) in
-      let a = given-met (o .0) (o .1) in
-      sym (o .2) ∙ ap given (sym (a .2) ∙ alike (a .0) p (a .1) h (a .3 ∙ o .2))
+      let o = assigned-onto (stateAt unit xs p) (unit-low p) in
+      let a = assigned-met (o .0) (o .1) in
+      sym (o .2) ∙ ap assigned (sym (a .2) ∙ alike (a .0) p (a .1) h (a .3 ∙ o .2))
 
   recognised-met : (p : ℕ) → Recognised M w xs p → Met p
   unfolding Met
   recognised-met =
       smallest M w xs Met word-met
       (λ p q m ml rp hp rq hq e rm hm i equal.
-      states-agree unit xs q p m (hq ∙ ap given (sym e) ∙ sym hp) (sym equal)
+      states-agree unit xs q p m (hq ∙ ap assigned (sym e) ∙ sym hp) (sym equal)
       ∙ hm
-      ∙ ap given (states-agree M xs p q m e equal))
+      ∙ ap assigned (states-agree M xs p q m e equal))
 
   -- ---- verified entries
-  given-answers : (s c : ℕ) → s < M .n → c < M .k → unit .answer (given s) c ≡ M .answer s c
+  assigned-answers : (s c : ℕ) → s < M .n → c < M .k → unit .answer (assigned s) c ≡ M .answer s c
   unfolding Met
-  given-answers s c sl cl =
+  assigned-answers s c sl cl =
       let v = certified .entries s c sl cl in
-      let at : stateAt unit xs (v .place) ≡ given s = recognised-met (v .place) (v .before) ∙ ap given (v .state) in
+      let at : stateAt unit xs (v .place) ≡ assigned s =
+      recognised-met (v .place) (v .before) ∙ ap assigned (v .state) in
       ap₂ (unit .answer) (sym at) (sym (v .command))
       ∙ sym (answer-at unit xs (v .place) (v .inside))
       ∙ ap (λ (l : List ℕ). getD l (v .place) 0) (sym same)
       ∙ answer-at M xs (v .place) (v .inside)
       ∙ ap₂ (M .answer) (v .state) (v .command)
 
-  given-next : (s c : ℕ) → s < M .n → c < M .k → unit .next (given s) c ≡ given (M .next s c)
+  assigned-next : (s c : ℕ) → s < M .n → c < M .k → unit .next (assigned s) c ≡ assigned (M .next s c)
   unfolding Met
-  given-next s c sl cl =
+  assigned-next s c sl cl =
       let v = certified .entries s c sl cl in
-      let at : stateAt unit xs (v .place) ≡ given s = recognised-met (v .place) (v .before) ∙ ap given (v .state) in
+      let at : stateAt unit xs (v .place) ≡ assigned s =
+      recognised-met (v .place) (v .before) ∙ ap assigned (v .state) in
       ap₂ (unit .next) (sym at) (sym (v .command))
       ∙ sym (state-next unit xs (v .place) (v .inside))
       ∙ recognised-met (v .place + 1) (v .after)
-      ∙ ap given (state-next M xs (v .place) (v .inside) ∙ ap₂ (M .next) (v .state) (v .command))
+      ∙ ap assigned (state-next M xs (v .place) (v .inside) ∙ ap₂ (M .next) (v .state) (v .command))
 
   -- ---- every place of the run
   all-met : (p : ℕ) → p ≤ length xs → Met p
   unfolding Met
   all-met zero l = recognised-met 0 (certified .start)
   all-met (suc p) l =
-      let step : stateAt unit xs (p + 1) ≡ given (stateAt M xs (p + 1)) =
+      let step : stateAt unit xs (p + 1) ≡ assigned (stateAt M xs (p + 1)) =
       state-next unit xs p (omega arith)
       ∙ ap (λ (x : ℕ). unit .next x (getD xs p 0)) (all-met p (omega arith))
-      ∙ given-next (stateAt M xs p) (getD xs p 0) (state-low p) (commands .low p (omega arith))
-      ∙ ap given (sym (state-next M xs p (omega arith))) in
+      ∙ assigned-next (stateAt M xs p) (getD xs p 0) (state-low p) (commands .low p (omega arith))
+      ∙ ap assigned (sym (state-next M xs p (omega arith))) in
       rw (← add-one p) step
 
   -- ---- start, end and no state left out
-  from-start : given (M .start) ≡ U .u
+  from-start : assigned (M .start) ≡ U .u
   unfolding Met
-  from-start = ap given (sym (state-start M xs)) ∙ sym (recognised-met 0 (certified .start)) ∙ state-start unit xs
+  from-start = ap assigned (sym (state-start M xs)) ∙ sym (recognised-met 0 (certified .start)) ∙ state-start unit xs
 
-  at-end : given (stateAt M xs (length xs)) ≡ presentState (M .n) (M .k) U xs
+  at-end : assigned (stateAt M xs (length xs)) ≡ presentState (M .n) (M .k) U xs
   unfolding Met
   at-end = sym (all-met (length xs) (omega arith)) ∙ state-end unit xs
 
@@ -153,13 +155,13 @@ module _ (M : Mealy) (w xs : List ℕ) (proper : Proper M) (commands : Commands 
       let start = from-start in
       let end = at-end in
       record {
-        given = given;
-        into = given-low;
-        one-to-one = λ s t sl tl e. let same-state = given-one s t sl tl e in cc;
-        onto = λ x l. let o = given-onto x l in let found = o .2 in (o .0, o .1, cc);
-        answers-alike = given-answers;
-        goes-alike = given-next;
+        assigned = assigned;
+        into = assigned-low;
+        one-to-one = λ s t sl tl e. let same-state = assigned-one s t sl tl e in cc;
+        onto = λ x l. let o = assigned-onto x l in let found = o .2 in (o .0, o .1, cc);
+        answers-alike = assigned-answers;
+        goes-alike = assigned-next;
         end-is = refl;
-        start-given = cc;
-        end-given = cc;
+        start-assigned = cc;
+        end-assigned = cc;
       }

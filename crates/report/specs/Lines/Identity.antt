@@ -31,7 +31,7 @@ passing-pass (Unfinished number) e = let z : ⊥ = omega (arith, e) in absurd z
 passing-pass (Refused number place) e = let z : ⊥ = omega (arith, e) in absurd z
 
 -- whatever the unit, if the line begins so and the answers judged are the unit's own, the line is that of a pass with
--- some end state, and there is a renaming, which gives the unit's present state to that end state
+-- some end state, and there is a renaming, which assigns the unit's present state to that end state
 pub line-identity : (room : ℕ) (s : List ℕ) (U : Unit (machineIn s .n) (machineIn s .k))
     → Passing (judgeLine (judgement room s))
     → content 4 s ≡ ownAnswers (machineIn s .n) (machineIn s .k) U (content 3 s)

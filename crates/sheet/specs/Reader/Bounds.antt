@@ -19,7 +19,7 @@ use Rattle.sheet.specs.Check.Bounds.{place-map}
 use Rattle.sheet.specs.Format.{longest, offset, cause1, cause2, causeAt, Parsed, parsed, find}
 use Rattle.sheet.specs.Format.Laws.{parsed-is, parse-induction}
 use Rattle.sheet.specs.Reader.{tooLong, isMissing, missing, sheetCauses, refusalOf, recordOr, recordOf}
-use Rattle.sheet.specs.Reader.{payloadPart, partWhen, part, bytes, content}
+use Rattle.sheet.specs.Reader.{payloadPart, partWhen, part, partBytes, content}
 use Rattle.sheet.specs.Reader.Laws.{payload-inside, record-inside}
 
 -- ---- causes 1 and 2
@@ -76,8 +76,8 @@ read-short k s e = omega (arith, record-inside k s, sheet-short (k ∷ []) s e)
 
 -- ---- offsets in what reading gives
 offset-of : (s : List ℕ) (c : Check) (f : Found) → payloadPart f .from + payloadPart f .size ≤ length s → (i : ℕ)
-    → i < length (bytes (partWhen c f) s) → offset (recordOr f) i < length s
-unfolding bytes offset
+    → i < length (partBytes (partWhen c f) s) → offset (recordOr f) i < length s
+unfolding partBytes offset
 offset-of s Clear (At r) h i l = let k = simp length-take at l in omega arith
 offset-of s Clear Missing h i l = let z : ⊥ = omega arith in absurd z
 offset-of s (Refused n p) f h i l = let z : ⊥ = omega arith in absurd z
@@ -100,5 +100,5 @@ bytes-take (suc n) (x ∷ s) h zero = h 0
 bytes-take (suc n) (x ∷ s) h (suc i) = bytes-take n s (λ j. h (suc j)) i
 
 pub content-bytes : (k : ℕ) (s : List ℕ) → Bytes s → Bytes (content k s)
-unfolding content bytes
+unfolding content partBytes
 content-bytes k s h = bytes-take (part k s .size) _ (λ i. rw getD-drop (h (part k s .from + i)))

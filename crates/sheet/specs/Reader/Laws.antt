@@ -23,7 +23,7 @@ use Rattle.sheet.specs.Format.{parsed, find}
 use Rattle.sheet.specs.Format.Laws.{clear-inside, clear-rank, end-size, parsed-is, parse-induction, none-found}
 use Rattle.sheet.specs.Format.Laws.{found-cons}
 use Rattle.sheet.specs.Reader.{tooLong, isMissing, missing, sheetCauses, when, whenMissing, needed, refusalOf}
-use Rattle.sheet.specs.Reader.{recordOr, recordOf, payloadPart, partWhen, part, bytes, content, seen, handed}
+use Rattle.sheet.specs.Reader.{recordOr, recordOf, payloadPart, partWhen, part, partBytes, content, seen, handed}
 use Rattle.sheet.specs.Reader.{Reads}
 use denote.Ref.{RefT, now}
 
@@ -147,8 +147,8 @@ record-found k s fe e = ap recordOr (sym e ∙ fe)
 
 -- a record starts inside the sheet, and its payload ends there
 inside-of : (s : List ℕ) (c : Check) (f : Found) → payloadPart f .from + payloadPart f .size ≤ length s
-    → recordOr f .start + length (bytes (partWhen c f) s) ≤ length s
-unfolding bytes
+    → recordOr f .start + length (partBytes (partWhen c f) s) ≤ length s
+unfolding partBytes
 inside-of s Clear (At r) h = simp length-take (omega arith)
 inside-of s Clear Missing h = omega arith
 inside-of s (Refused n p) (At r) h = omega arith
@@ -208,9 +208,9 @@ clear-reads k s e = go (find k (parsed s .records)) refl
 -- ---- the record that is found, and the bytes that reading it gives
 pub content-of : (k : ℕ) (s : List ℕ) {r : Record} → refusalOf k s ≡ Clear → find k (parsed s .records) ≡ At r
     → content k s ≡ take (r .size) (drop (r .start + header) s)
-unfolding content bytes
+unfolding content partBytes
 content-of k s {r} c e =
-    ap (λ (q : Part). bytes q s) (sym (part-clear k s {c = refusalOf k s} {f = At r} refl c (sym e)))
+    ap (λ (q : Part). partBytes q s) (sym (part-clear k s {c = refusalOf k s} {f = At r} refl c (sym e)))
 
 pub found-record : (k : ℕ) (s : List ℕ) → (0 ≡ k → ⊥) → Reads k s → find k (parsed s .records) ≡ At (recordOf k s)
 found-record k s d h = go (find k (parsed s .records)) refl

@@ -11,7 +11,7 @@ use Rattle.sheet.specs.Check.{refusal_with_if_, _else_, firstCause, first}
 use Rattle.sheet.specs.Check.Laws.{absent, else-clear}
 use Rattle.sheet.specs.Format.{recordAt, offset, end, kindOf, cause1, cause2, causeAt, parseStep, parseFrom, parse}
 use Rattle.sheet.specs.Format.{parsed, ofKind, _or_, find}
-use Rattle.sheet.specs.Reader.{sheetCauses, when, needed, refusalOf, recordOf, part, bytes, content}
+use Rattle.sheet.specs.Reader.{sheetCauses, when, needed, refusalOf, recordOf, part, partBytes, content}
 use Rattle.sheet.specs.Writing.{headerOf}
 use Rattle.machine.specs.Machine.{Mealy, machineOf, run, answers, stateAt}
 use Rattle.machine.specs.Causes.{cause3, cause4, commandsCause, cause6, machineIn, machineCauses, wordCauses}
@@ -93,8 +93,8 @@ record Computed : Type 0 where
 computed : Computed
 unfolding twinMachine singleMachine headerOf refusal_with_if_ _else_ firstCause first recordAt offset end kindOf cause1
     cause2 causeAt parseStep parseFrom parse parsed ofKind _or_ find sheetCauses when needed refusalOf recordOf part
-    bytes content machineOf run answers cause3 cause4 commandsCause cause6 machineIn machineCauses wordCauses loadCauses
-    buildCauses cause9 sequenceCauses cause10 judgeCauses verdict resultAt agreed stateAt
+    partBytes content machineOf run answers cause3 cause4 commandsCause cause6 machineIn machineCauses wordCauses
+    loadCauses buildCauses cause9 sequenceCauses cause10 judgeCauses verdict resultAt agreed stateAt
 computed = record {
   built = λ room l. record { clear = buildings.nine-clear room 13 l; machine = refl; word = refl; sequence = refl };
   each-other = λ room l. record { clear = buildings.nine-clear room 7 l; machine = refl; word = refl; sequence = refl };

@@ -2,7 +2,7 @@
 -- block. Assumes nothing.
 use borrow.Author.Needs.{needs}
 use native.Mathlib.Nat.{add-comm, add-sub-cancel-left}
-use Rattle.sheet.specs.Reader.{handed, bytes}
+use Rattle.sheet.specs.Reader.{handed, partBytes}
 use Rattle.sheet.proofs.reader.read.Statement.{statement}
 use Rattle.sheet.proofs.reader.read.Tie as tie
 
@@ -22,7 +22,7 @@ part-result-end : tie.Need-part-result-end
 part-result-end c = search needs
 
 returns : tie.Need-returns
-unfolding handed bytes
+unfolding handed partBytes
 returns c = rw (add-comm, add-sub-cancel-left, c .before .before .part-of .ensures .0)
 
 pub read-spec : {M : Type 1} → statement M
