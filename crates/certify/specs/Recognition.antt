@@ -47,8 +47,8 @@ pub record Certified (M : Mealy) (w xs : List ℕ) : Type 0 where
   pub start : Recognised M w xs 0
   pub entries : (s c : ℕ) → s < M .n → c < M .k → Verified M w xs s c
 
--- the open number v (§5.4): 0 where place 0 is not recognised; else 1 + s·k + c for the first entry (s, c), by state
--- and then by command, that is not verified
+-- the open number v (§5.4): 0 without place 0 among the recognised ones; else 1 + s·k + c for the first entry (s, c),
+-- by state and then by command, that is not verified
 pub data OpenNumber (M : Mealy) (w xs : List ℕ) (v : ℕ) : Type 0 where
   start-open : (Recognised M w xs 0 → ⊥) → v ≡ 0 → OpenNumber M w xs v
   entry-open : (s c : ℕ) → s < M .n → c < M .k → Recognised M w xs 0 → (Verified M w xs s c → ⊥)

@@ -12,8 +12,8 @@ infix 75 _▹_
 abbrev pub _▹_ : ℕ → ℕ → Entry
 n ▹ a = record { next = n; answer = a }
 
--- the table (§10.1). Rows are states: preview waiting, archive waiting, preview running, archive running; columns are
--- commands: quality, profile, run, stop
+-- the table (§10.1). Rows are states: preview and archive waiting, preview and archive running; columns are commands:
+-- quality, profile, run, stop
 abbrev pub houseTable : List (List Entry)
 houseTable =
     (0 ▹ 31 ∷ 1 ▹ 6 ∷ 2 ▹ 6 ∷ 0 ▹ 21 ∷ [])
