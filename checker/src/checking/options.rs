@@ -6,7 +6,7 @@ use std::path::PathBuf;
 pub const HELP: &str = "\
 checker [--seed S] [--count C] [--units U] [--programs P] [--words W]
         [--lengths L] [--cases N] [--random-only] [--directory D] [--spoil NAME]
-Holds the proved bench against a model written without sight of its code.
+Holds the proved bench against a separately written model.
   --seed S       start of all random choices (default 1)
   --count C      random and damaged sheets (default 150000)
   --units U      about so many units for the third demand (default 700000)
