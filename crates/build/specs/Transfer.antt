@@ -1,5 +1,5 @@
--- Transfers (§6.1). `IsTransfer` says what one is and `transfer` computes it; Transfer.Laws shows that both agree for
--- the states of a machine within its limits, by the laws of Transfer.Paths.
+-- Transfers (§6.1). `IsTransfer` says what one is and `transfer` computes it; Transfer.Laws shows that both agree for a
+-- machine within its limits and any two numbers, by the laws of Transfer.Paths.
 use Prim.Native.Nat.{ℕ, zero, suc, _≤_, _<_}
 use mathlib.Core.Path.{_≡_}
 use mathlib.Core.Bool.{Bool, true, false, _&&_}
@@ -25,9 +25,11 @@ pub record Before (u v : List ℕ) : Type 0 where
   pub same : take place u ≡ take place v
   pub lower : getD u place 0 < getD v place 0
 
--- the transfer from state a to state b (§6.1): of the strings that lead there none is shorter, and none of its length
--- comes before it in byte order. That a and b are states is not asked; from or to other numbers `transfer` has none
+-- the transfer from a to b (§6.1): both are states, and of the strings that lead from one to the other none is shorter,
+-- and none of its length comes before it in byte order
 pub record IsTransfer (M : Mealy) (a b : ℕ) (t : List ℕ) : Type 0 where
+  pub from : a < M .n
+  pub to : b < M .n
   pub leads : Leads M a b t
   pub shortest : (u : List ℕ) → Leads M a b u → length t ≤ length u
   pub first : (u : List ℕ) → Leads M a b u → length u ≡ length t → Before u t → ⊥

@@ -58,7 +58,7 @@ module _ (M : Mealy) (w : List ℕ) (proper : Proper M) (commands : Commands mos
         there (B M w s) (clear-absent 8 s _ (first-clear-at (M .n) s (transferCause M w) (cause8-is M w ∙ clear) sl))
 
     is-shortest : (s : ℕ) (sl : s < M .n) → IsTransfer M (run M s w) (following (M .n) s) (clear-transfer s sl .0)
-    is-shortest s sl = transfer-is M proper (run M s w) (following (M .n) s) (word-stays s sl) (clear-transfer s sl .1)
+    is-shortest s sl = transfer-is M proper (run M s w) (following (M .n) s) (clear-transfer s sl .1)
 
     T-splits : (s : ℕ) (sl : s < M .n) → T M w s ≡ w ++ clear-transfer s sl .0
     T-splits s sl = T-is M w s ∙ ap (λ (o : Option (List ℕ)). w ++ Option·getD o []) (clear-transfer s sl .1)
@@ -117,7 +117,7 @@ module _ (M : Mealy) (w : List ℕ) (proper : Proper M) (commands : Commands mos
             let ql : q < M .n = omega (arith, p .inside) in
             let o =
             there (B M w q) (clear-absent 8 q _ (first-clear-at (p .place) q (transferCause M w) (p .before) l)) in
-            (o .0, transfer-is M proper (run M q w) (following (M .n) q) (word-stays q ql) (o .1) .leads);
+            (o .0, transfer-is M proper (run M q w) (following (M .n) q) (o .1) .leads);
       } in
       (t .1 .0, rw (t .1 .1) found)
 

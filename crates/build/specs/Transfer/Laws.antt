@@ -15,7 +15,7 @@ use Rattle.machine.specs.Pigeonhole.{pigeonhole}
 use Rattle.build.specs.Transfer.{Leads, Before, IsTransfer, firstPath, transfer}
 use Rattle.build.specs.Transfer.Paths.{some-none, Seen, nothing, string, seen, first-some, least-first}
 use Rattle.build.specs.Transfer.Paths.{some-first, none-first, Step, path-step, path-length, path-leads}
-use Rattle.build.specs.Transfer.Paths.{leads-path, leads-first, leads-rest}
+use Rattle.build.specs.Transfer.Paths.{path-state, leads-path, leads-first, leads-rest}
 
 -- ---- byte order
 -- a lower first command
@@ -149,13 +149,16 @@ none-transfer M a b h = none-first (M .n) (λ m. firstPath M b m a) h
 pub transfer-below : (M : Mealy) (a b : ℕ) {t : List ℕ} → transfer M a b ≡ some t → length t < M .n
 transfer-below M a b e = transfer-path M a b e .few
 
--- it leads there; none shorter does; none of its length that leads there comes before it in byte order
-pub transfer-is : (M : Mealy) → Proper M → (a b : ℕ) → a < M .n → {t : List ℕ} → transfer M a b ≡ some t
-    → IsTransfer M a b t
-transfer-is M p a b l {t} e =
+-- it leads from a state to a state; none shorter does; none of its length that does comes before it in byte order
+pub transfer-is : (M : Mealy) → Proper M → (a b : ℕ) {t : List ℕ} → transfer M a b ≡ some t → IsTransfer M a b t
+transfer-is M p a b {t} e =
     let s = transfer-path M a b e in
+    let l = path-state M b (length t) a (s .found) in
+    let there = path-leads M b (length t) a (s .found) in
     record {
-      leads = path-leads M b (length t) a (s .found);
+      from = l;
+      to = rw (← there .ends) (run-stays M p a t l (there .commands));
+      leads = there;
       shortest = λ u h.
           let r = leads-path M b p u a l h in
           let n : length u < length t → ⊥ = λ k. some-none (r .1) (s .passed (length u) k) in
@@ -186,10 +189,9 @@ leads-none M a b h = go (seen (transfer M a b))
     go (string t e) = absurd (h t (path-leads M b (length t) a (transfer-path M a b e .found)))
 
 -- and a transfer is the one that is computed
-pub is-transfer : (M : Mealy) → Proper M → (a b : ℕ) → a < M .n → {t : List ℕ} → IsTransfer M a b t
-    → transfer M a b ≡ some t
-is-transfer M p a b l {t} h =
-    let r = leads-some M p a b l t (h .leads) in
-    let k = transfer-is M p a b l (r .1) in
+pub is-transfer : (M : Mealy) → Proper M → (a b : ℕ) {t : List ℕ} → IsTransfer M a b t → transfer M a b ≡ some t
+is-transfer M p a b {t} h =
+    let r = leads-some M p a b (h .from) t (h .leads) in
+    let k = transfer-is M p a b (r .1) in
     let same : length (r .0) ≡ length t = omega (arith, h .shortest (r .0) (k .leads), k .shortest t (h .leads)) in
     r .1 ∙ ap some (neither-before (r .0) t same (h .first (r .0) (k .leads) same) (k .first t (h .leads) (sym same)))

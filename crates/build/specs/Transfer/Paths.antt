@@ -162,6 +162,11 @@ module _ (M : Mealy) (b : ℕ) where
         passed = λ c k. map-eq-none-iff (_∷_ c) (firstPath M b m (M .next a c)) .0 (l .passed c k);
       }
 
+  -- a path begins at a state
+  pub path-state : (m a : ℕ) {t : List ℕ} → firstPath M b m a ≡ some t → a < M .n
+  path-state zero a e = path-zero a e .0
+  path-state (suc m) a e = path-step m a e .inside
+
   -- a command before a path of m commands gives a path of m + 1 commands
   pub some-path : (m a c : ℕ) {u : List ℕ} → a < M .n → c < M .k → firstPath M b m (M .next a c) ≡ some u
       → Some (firstPath M b (suc m) a)

@@ -41,6 +41,11 @@ record Sheet (room : ℕ) (s : List ℕ) (M : Mealy) (w xs : List ℕ) : Type 0 
   word : content 2 s ≡ w
   sequence : content 3 s ≡ xs
 
+-- such a sheet, by what computes of it
+reads-as : {room : ℕ} {s : List ℕ} {M : Mealy} {w xs : List ℕ} → firstCause (certifyCauses room s) ≡ Clear
+    → machineIn s ≡ M → content 2 s ≡ w → content 3 s ≡ xs → Sheet room s M w xs
+reads-as c m w xs = record { clear = c; machine = m; word = w; sequence = xs }
+
 -- so it answers the outcome of that machine, word and sequence
 answered : (room : ℕ) {s : List ℕ} {M : Mealy} {w xs : List ℕ} {a : Answer} → Sheet room s M w xs → outcome M w xs ≡ a
     → certification room s ≡ a
@@ -53,6 +58,11 @@ record Judged (room : ℕ) (s ys : List ℕ) : Type 0 where
   word : content 2 s ≡ 0 ∷ []
   sequence : content 3 s ≡ builtTwin
   answers : content 4 s ≡ ys
+
+-- such a sheet, by what computes of it
+judged-as : {room : ℕ} {s ys : List ℕ} → firstCause (judgeCauses room s) ≡ Clear → machineIn s ≡ twinMachine
+    → content 2 s ≡ 0 ∷ [] → content 3 s ≡ builtTwin → content 4 s ≡ ys → Judged room s ys
+judged-as c m w xs ys = record { clear = c; machine = m; word = w; sequence = xs; answers = ys }
 
 -- ---- what computes from the bytes of the sheets, all of it at once
 abbrev Reads : ℕ → List ℕ → Type 0
@@ -96,54 +106,17 @@ unfolding twinMachine singleMachine headerOf refusal_with_if_ _else_ firstCause 
     partBytes content machineOf run answers cause3 cause4 commandsCause cause6 machineIn machineCauses wordCauses
     loadCauses buildCauses cause9 sequenceCauses cause10 judgeCauses verdict resultAt agreed stateAt
 computed = record {
-  built = λ room l. record { clear = buildings.nine-clear room 13 l; machine = refl; word = refl; sequence = refl };
-  each-other = λ room l. record { clear = buildings.nine-clear room 7 l; machine = refl; word = refl; sequence = refl };
-  longer = λ room l. record { clear = buildings.nine-clear room 8 l; machine = refl; word = refl; sequence = refl };
-  one = λ room l. record { clear = buildings.nine-clear room 2 l; machine = refl; word = refl; sequence = refl };
-  late = λ room l. record { clear = buildings.nine-clear room 4 l; machine = refl; word = refl; sequence = refl };
-  three = λ room l. record { clear = buildings.nine-clear room 4 l; machine = refl; word = refl; sequence = refl };
-  pair = λ answer room l. record {
-    clear = buildings.nine-clear room 3 l;
-    machine = refl;
-    word = refl;
-    sequence = refl;
-  };
-  short = λ answer room l. record {
-    clear = buildings.nine-clear room 2 l;
-    machine = refl;
-    word = refl;
-    sequence = refl;
-  };
-  passes = (
-    λ room l. record {
-      clear = buildings.nine-clear room 13 l;
-      machine = refl;
-      word = refl;
-      sequence = refl;
-      answers = refl;
-    },
-    refl,
-  );
-  wrong-at = (
-    λ room l. record {
-      clear = buildings.nine-clear room 13 l;
-      machine = refl;
-      word = refl;
-      sequence = refl;
-      answers = refl;
-    },
-    refl,
-  );
-  unfinished-run = (
-    λ room l. record {
-      clear = buildings.nine-clear room 13 l;
-      machine = refl;
-      word = refl;
-      sequence = refl;
-      answers = refl;
-    },
-    refl,
-  );
+  built = λ room l. reads-as (buildings.nine-clear room 13 l) refl refl refl;
+  each-other = λ room l. reads-as (buildings.nine-clear room 7 l) refl refl refl;
+  longer = λ room l. reads-as (buildings.nine-clear room 8 l) refl refl refl;
+  one = λ room l. reads-as (buildings.nine-clear room 2 l) refl refl refl;
+  late = λ room l. reads-as (buildings.nine-clear room 4 l) refl refl refl;
+  three = λ room l. reads-as (buildings.nine-clear room 4 l) refl refl refl;
+  pair = λ answer room l. reads-as (buildings.nine-clear room 3 l) refl refl refl;
+  short = λ answer room l. reads-as (buildings.nine-clear room 2 l) refl refl refl;
+  passes = (λ room l. judged-as (buildings.nine-clear room 13 l) refl refl refl refl, refl);
+  wrong-at = (λ room l. judged-as (buildings.nine-clear room 13 l) refl refl refl refl, refl);
+  unfinished-run = (λ room l. judged-as (buildings.nine-clear room 13 l) refl refl refl refl, refl);
   too-many = λ room r a b c d e f g h i j k l m.
       ap (λ (x : Check). x else Refused 10 41) (absent 9 13 (le-ltb room 13 r)) ∙ else-clear (Refused 10 41);
   six-built = λ room. refl;
