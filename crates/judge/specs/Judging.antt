@@ -1,11 +1,11 @@
 -- Judging: causes 1 to 7, 9, 10 and 11 (§4.2), the results and what is written (§7), and the identity claim (§9.3).
 -- Certifying's answer and buffer, `certification` and `marksAfter`, cannot be unfolded here: its contract says what
 -- they are. Judging.Verdict has laws of the verdict, Judging.Laws those of a sheet, Judging.Bounds bounds on values.
-use Prim.Native.Nat.{ℕ, suc}
+use Prim.Native.Nat.{ℕ}
 use mathlib.Core.Path.{_≡_}
-use mathlib.Core.Bool.{true, false, cond}
+use mathlib.Core.Bool.{true, cond}
 use mathlib.Core.List.{List, [], _∷_, _++_}
-use lib.Dec.{ltb, eqb}
+use lib.Dec.{ltb}
 use lib.ListN.{length, getD}
 use Rattle.sheet.specs.declared.check.Check.{Check}
 use Rattle.sheet.specs.declared.check.Check.the-variants.{Clear, Refused}
@@ -16,12 +16,14 @@ use Rattle.sheet.specs.Values.{refusalValues, Returns}
 use Rattle.sheet.specs.Reader.{recordOf, content}
 use Rattle.machine.specs.Machine.{Mealy, answers, stateAt}
 use Rattle.machine.specs.Causes.{machineIn}
+use Rattle.machine.specs.CommonPrefix.{agreed}
+use Rattle.machine.specs.Unit.{Unit, ownAnswers}
 use Rattle.certify.specs.declared.answer.Answer.{Answer as Certification}
 use Rattle.certify.specs.declared.answer.Answer.the-variants.{Certified, Open, Refused as RefusedCertification}
 use Rattle.certify.specs.Certification.{sequenceCauses, certification, marksAfter}
 use Rattle.judge.specs.declared.answer.Answer.{Answer}
 use Rattle.judge.specs.declared.answer.Answer.the-variants.{Pass, Wrong, Unfinished, Refused as RefusedAnswer}
-use Rattle.judge.specs.Unit.{Unit, ownAnswers, Renaming}
+use Rattle.judge.specs.Renaming.{Renaming}
 pub mod Verdict
 pub mod Laws
 pub mod Bounds
@@ -44,14 +46,7 @@ cause11 (Open recognised number) = Refused 11 number
 cause11 (RefusedCertification number place) = Refused number place
 
 -- ---- the results
--- how many answers from the front are the specified ones: the first place at which the lists differ, or the length of
--- the shorter one
-unfoldable pub agreed : List ℕ → List ℕ → ℕ
-agreed [] ys = 0
-agreed (x ∷ xs) [] = 0
-agreed (x ∷ xs) (y ∷ ys) = elim (eqb x y) [ true ↦ suc (agreed xs ys) | false ↦ 0 ]
-
--- the result (§7), by that number: wrong where an answer at that place was given, unfinished where none was and the
+-- the result (§7), by how many answers from the front are the specified ones: wrong where an answer at that place was given, unfinished where none was and the
 -- sequence goes on, otherwise pass with N and the state of place N
 unfoldable pub resultAt : Mealy → List ℕ → List ℕ → ℕ → Answer
 resultAt M xs ys right =

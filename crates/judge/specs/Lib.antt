@@ -1,3 +1,3 @@
-pub mod Unit
+pub mod Renaming
 pub mod Judging
 pub mod Comparison

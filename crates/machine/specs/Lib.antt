@@ -4,4 +4,6 @@ pub mod Causes
 pub mod Loading
 pub mod House
 pub mod Numbers
+pub mod CommonPrefix
 pub mod Pigeonhole
+pub mod Unit

@@ -8,7 +8,8 @@ use Rattle.sheet.specs.Reader.{content}
 use Rattle.machine.specs.Causes.{machineIn}
 use Rattle.sheet.specs.declared.check.Values.{Values}
 use Rattle.certify.specs.Certification.{certification, marksAfter, valuesOf as certifyingValues}
-use Rattle.judge.specs.Unit.{Unit, ownAnswers, Renaming}
+use Rattle.machine.specs.Unit.{Unit, ownAnswers}
+use Rattle.judge.specs.Renaming.{Renaming}
 use Rattle.judge.specs.Judging.{judgement, judgedMarks, valuesOf as judgingValues}
 pub mod Laws
 

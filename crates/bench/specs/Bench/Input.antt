@@ -23,6 +23,7 @@ use Rattle.machine.specs.Causes.Lists.{machine-causes-are, load-causes-are}
 use Rattle.certify.specs.Certification.{sequenceNeeds, sequenceCauses}
 use Rattle.certify.specs.Certification.Laws.{sequence-causes-are, certification-refused}
 use Rattle.build.specs.Building.{buildNeeds}
+use Rattle.build.specs.Building.Connection.{load-refused}
 use Rattle.build.specs.Building.Service.{refused-early, building-refused}
 use Rattle.judge.specs.Judging.Laws.{judge-causes-are, judgement-refused}
 use Rattle.report.specs.Lines.{refusalLine, judgeLine, certifyLine}
@@ -70,7 +71,8 @@ module _ (s : List ℕ) (l : longest < length s) where
       ap (λ a. onOutput (certifyLine a))
       (certification-refused (mostSequence + 1) s (sequence-long false (mostSequence + 1)))
   output-long Build =
-      built-refused s (building-refused mostSequence s (refused-early mostSequence s (load-long buildNeeds)))
+      built-refused s
+      (building-refused mostSequence s (refused-early mostSequence s (load-refused s (load-long buildNeeds))))
   output-long (Read kind) = read-refused s kind (read-long kind)
 
 -- the first bytes of an input, one more than a sheet may have

@@ -8,7 +8,8 @@ use mathlib.Core.List.{List}
 use Rattle.sheet.specs.Reader.{content}
 use Rattle.machine.specs.Limits.{mostSequence}
 use Rattle.machine.specs.Causes.{machineIn}
-use Rattle.judge.specs.Unit.{Unit, ownAnswers, Renaming}
+use Rattle.machine.specs.Unit.{Unit, ownAnswers}
+use Rattle.judge.specs.Renaming.{Renaming}
 use Rattle.judge.specs.Judging.{judgement}
 use Rattle.report.specs.declared.words.Mistake.{Mistake}
 use Rattle.report.specs.Lines.{passLine, judgeLine}

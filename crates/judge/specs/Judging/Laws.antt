@@ -19,6 +19,7 @@ use Rattle.machine.specs.Limits.{mostSequence}
 use Rattle.machine.specs.Machine.{Mealy, answers, stateAt, Separates, Proper, Below, Commands}
 use Rattle.machine.specs.Causes.{machineIn, loadCauses}
 use Rattle.machine.specs.Causes.Lists.{load-proper, word-distinguishes}
+use Rattle.machine.specs.Unit.{Unit, tableOf, ownAnswers, presentState}
 use Rattle.certify.specs.declared.answer.Answer.{Answer as Certification}
 use Rattle.certify.specs.declared.answer.Answer.the-variants.{Certified as CertifiedAnswer, Open}
 use Rattle.certify.specs.declared.answer.Answer.the-variants.{Refused as RefusedCertification}
@@ -29,9 +30,8 @@ use Rattle.certify.specs.Certification.Laws.{load-clear, sequence-commands, cer
 use Rattle.certify.specs.Certification.Contract.{certification-says, certifies}
 use Rattle.judge.specs.declared.answer.Answer.{Answer}
 use Rattle.judge.specs.declared.answer.Answer.the-variants.{Pass, Refused as RefusedAnswer}
-use Rattle.judge.specs.Unit.{Unit, tableOf, ownAnswers, presentState}
-use Rattle.judge.specs.Unit.Identity.{identity}
-use Rattle.judge.specs.Unit.Behaviour.{end-alike}
+use Rattle.judge.specs.Renaming.Identity.{identity}
+use Rattle.judge.specs.Renaming.Behaviour.{end-alike}
 use Rattle.judge.specs.Judging.{cause10, judgeCauses, cause11, verdict, judgement, judgedMarks, Identity}
 use Rattle.judge.specs.Judging.Verdict.{Judged, passed, wrong, unfinished, judged-verdict, verdict-judged}
 

@@ -1,70 +1,20 @@
 -- The laws of the verdict: what each result says of the answers, both directions.
-use Prim.Native.Nat.{ℕ, zero, suc, _≤_, _<_}
+use Prim.Native.Nat.{ℕ, _≤_, _<_}
 use mathlib.Core.Path.{_≡_, refl, sym, ap, ap₂, _∙_}
 use mathlib.Core.Bool.{Bool, true, false, cond}
-use mathlib.Core.List.{List, [], _∷_}
+use mathlib.Core.List.{List}
 use native.Mathlib.Omega.{arith}
-use lib.Dec.{ltb, eqb}
+use lib.Dec.{ltb}
 use lib.ListN.{length, getD}
 use lib.Seq.{ext-getD}
-use borrow.Author.Tests.{eqb-true, eqb-false, ltb-true, ltb-false, lt-ltb, le-ltb}
+use borrow.Author.Tests.{ltb-true, ltb-false, lt-ltb, le-ltb}
 use Rattle.sheet.specs.Tests.{if-true, if-false}
 use Rattle.machine.specs.Machine.{Mealy, answers, stateAt}
 use Rattle.machine.specs.Machine.Laws.{answers-length}
+use Rattle.machine.specs.CommonPrefix.{agreed, Agreed, agreed-holds, agreed-is}
 use Rattle.judge.specs.declared.answer.Answer.{Answer}
 use Rattle.judge.specs.declared.answer.Answer.the-variants.{Pass, Wrong, Unfinished}
-use Rattle.judge.specs.Judging.{agreed, resultAt, verdict}
-
--- ---- where two lists first differ
--- they are equal before place p, and differ there if both have that place
-pub record Agreed (xs ys : List ℕ) (p : ℕ) : Type 0 where
-  pub in-first : p ≤ length xs
-  pub in-second : p ≤ length ys
-  pub before : (i : ℕ) → i < p → getD xs i 0 ≡ getD ys i 0
-  pub here : p < length xs → p < length ys → getD xs p 0 ≡ getD ys p 0 → ⊥
-
-agreed-none : (xs ys : List ℕ) → (0 < length xs → 0 < length ys → getD xs 0 0 ≡ getD ys 0 0 → ⊥) → Agreed xs ys 0
-agreed-none xs ys h = record {
-  in-first = omega arith;
-  in-second = omega arith;
-  before = λ i l. absurd (omega arith);
-  here = h;
-}
-
-agreed-more : (x y : ℕ) (xs ys : List ℕ) (p : ℕ) → x ≡ y → Agreed xs ys p → Agreed (x ∷ xs) (y ∷ ys) (suc p)
-agreed-more x y xs ys p e h = record {
-  in-first = omega (arith, h .in-first);
-  in-second = omega (arith, h .in-second);
-  before = before;
-  here = λ k l q. h .here (omega arith) (omega arith) q;
-}
-  where
-    before : (i : ℕ) → i < suc p → getD (x ∷ xs) i 0 ≡ getD (y ∷ ys) i 0
-    before zero l = e
-    before (suc i) l = h .before i (omega arith)
-
-pub agreed-holds : (xs ys : List ℕ) → Agreed xs ys (agreed xs ys)
-unfolding agreed
-agreed-holds [] ys = agreed-none [] ys (λ k l q. omega arith)
-agreed-holds (x ∷ xs) [] = agreed-none (x ∷ xs) [] (λ k l q. omega arith)
-agreed-holds (x ∷ xs) (y ∷ ys) = go (agreed-holds xs ys) (eqb x y) refl
-  where
-    go : Agreed xs ys (agreed xs ys) → (t : Bool) → eqb x y ≡ t
-        → Agreed (x ∷ xs) (y ∷ ys) (elim t [ true ↦ suc (agreed xs ys) | false ↦ 0 ])
-    go h true e = agreed-more x y xs ys (agreed xs ys) (eqb-true x y e) h
-    go h false e = agreed-none (x ∷ xs) (y ∷ ys) (λ k l q. eqb-false x y e q)
-
--- there is one such place
-agreed-one : (xs ys : List ℕ) (p q : ℕ) → Agreed xs ys p → Agreed xs ys q → p < q → ⊥
-agreed-one xs ys p q h k l = h .here (omega (arith, k .in-first)) (omega (arith, k .in-second)) (k .before p l)
-
-pub agreed-is : (xs ys : List ℕ) (p : ℕ) → Agreed xs ys p → p ≡ agreed xs ys
-agreed-is xs ys p h =
-    equal (agreed-one xs ys p (agreed xs ys) h (agreed-holds xs ys))
-    (agreed-one xs ys (agreed xs ys) p (agreed-holds xs ys) h)
-  where
-    equal : (p < agreed xs ys → ⊥) → (agreed xs ys < p → ⊥) → p ≡ agreed xs ys
-    equal a b = omega arith
+use Rattle.judge.specs.Judging.{resultAt, verdict}
 
 -- ---- the results, as §7 says them
 -- the answers before place p are the specified ones

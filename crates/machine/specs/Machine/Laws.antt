@@ -112,6 +112,13 @@ unfolding answers
 answers-length M s [] = refl
 answers-length M s (c ∷ w) = ap suc (answers-length M (M .next s c) w)
 
+-- the answers to two strings in a row
+pub answers-append : (M : Mealy) (s : ℕ) (u v : List ℕ)
+    → answers M s (u ++ v) ≡ answers M s u ++ answers M (run M s u) v
+unfolding run answers
+answers-append M s [] v = refl
+answers-append M s (c ∷ u) v = ap (_∷_ (M .answer s c)) (answers-append M (M .next s c) u v)
+
 -- the first answers, the later ones, and a single one
 pub answers-take : (M : Mealy) (s m : ℕ) (xs : List ℕ) → take m (answers M s xs) ≡ answers M s (take m xs)
 unfolding answers

@@ -9,7 +9,8 @@ use Rattle.sheet.specs.Reader.{content}
 use Rattle.machine.specs.Causes.{machineIn}
 use Rattle.judge.specs.declared.answer.Answer.{Answer}
 use Rattle.judge.specs.declared.answer.Answer.the-variants.{Pass, Wrong, Unfinished, Refused}
-use Rattle.judge.specs.Unit.{Unit, ownAnswers, Renaming}
+use Rattle.machine.specs.Unit.{Unit, ownAnswers}
+use Rattle.judge.specs.Renaming.{Renaming}
 use Rattle.judge.specs.Judging.{judgement}
 use Rattle.judge.specs.Judging.Laws.{pass-identity}
 use Rattle.report.specs.Text.{bytes}

@@ -11,7 +11,7 @@ use Rattle.machine.specs.Causes.{machineIn}
 use Rattle.sheet.specs.declared.check.Values.{Values}
 use Rattle.certify.specs.Certification.{certification, valuesOf as certifyingValues}
 use Rattle.certify.specs.Certification.Bounds.{certification-fits}
-use Rattle.judge.specs.Unit.{Renaming}
+use Rattle.judge.specs.Renaming.{Renaming}
 use Rattle.judge.specs.Judging.{judgement, valuesOf as judgingValues}
 use Rattle.judge.specs.Judging.Laws.{pass-identity}
 use Rattle.judge.specs.Judging.Bounds.{judgement-fits, class-pass}

@@ -22,12 +22,13 @@ use Rattle.certify.specs.Marks.Twin.{twin as twinMachine, single as singleMachi
 use Rattle.certify.specs.Certification.{cause9, sequenceCauses, certifyCauses, outcome, certification}
 use Rattle.certify.specs.Certification.Laws.{certification-clear, certification-refused}
 use Rattle.certify.specs.Certification.Twin as outcomes
-use Rattle.build.specs.Building.{buildCauses}
+use Rattle.build.specs.Building.{connectedCauses, buildCauses}
 use Rattle.build.specs.Building.Service.{building-refused}
 use Rattle.build.specs.Building.Twin as buildings
 use Rattle.judge.specs.declared.answer.Answer.{Answer as Judgement}
 use Rattle.judge.specs.declared.answer.Answer.the-variants.{Pass, Wrong, Unfinished}
-use Rattle.judge.specs.Judging.{cause10, judgeCauses, agreed, resultAt, verdict, judgement}
+use Rattle.machine.specs.CommonPrefix.{agreed}
+use Rattle.judge.specs.Judging.{cause10, judgeCauses, resultAt, verdict, judgement}
 use Rattle.judge.specs.Judging.Laws.{certifying-clear, judgement-refused, judgement-verdict}
 use Rattle.report.specs.Lines.{judgeLine}
 use Rattle.report.specs.Lines.Examples as lines
@@ -104,7 +105,7 @@ computed : Computed
 unfolding twinMachine singleMachine headerOf refusal_with_if_ _else_ firstCause first recordAt offset end kindOf cause1
     cause2 causeAt parseStep parseFrom parse parsed ofKind _or_ find sheetCauses when needed refusalOf recordOf part
     partBytes content machineOf run answers cause3 cause4 commandsCause cause6 machineIn machineCauses wordCauses
-    loadCauses buildCauses cause9 sequenceCauses cause10 judgeCauses verdict resultAt agreed stateAt
+    loadCauses connectedCauses buildCauses cause9 sequenceCauses cause10 judgeCauses verdict resultAt agreed stateAt
 computed = record {
   built = λ room l. reads-as (buildings.nine-clear room 13 l) refl refl refl;
   each-other = λ room l. reads-as (buildings.nine-clear room 7 l) refl refl refl;

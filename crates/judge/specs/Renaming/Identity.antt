@@ -13,10 +13,11 @@ use Rattle.machine.specs.Machine.{Mealy, answers, stateAt, Separates, Proper, C
 use Rattle.machine.specs.Machine.Laws.{answers-part, answer-at, state-start, state-next, state-end, states-agree}
 use Rattle.machine.specs.Machine.Laws.{state-closed, state-stays}
 use Rattle.machine.specs.Numbers.{choice}
-use Rattle.machine.specs.Pigeonhole.{onto}
+use Rattle.machine.specs.Unit.{Unit, tableOf, ownAnswers, presentState}
+use Rattle.machine.specs.Unit.Laws.{assigns-all}
 use Rattle.certify.specs.Recognition.{OccursAt, Recognised, Certified}
 use Rattle.certify.specs.Recognition.Laws.{smallest}
-use Rattle.judge.specs.Unit.{Unit, tableOf, ownAnswers, presentState, Renaming}
+use Rattle.judge.specs.Renaming.{Renaming}
 
 module _ (M : Mealy) (w xs : List ℕ) (proper : Proper M) (commands : Commands mostSequence (M .k) xs)
     (separates : Separates M w) (certified : Certified M w xs) (U : Unit (M .n) (M .k))
@@ -82,7 +83,7 @@ module _ (M : Mealy) (w xs : List ℕ) (proper : Proper M) (commands : Commands 
       sym (a .2) ∙ alike (a .0) (b .0) (a .1) (b .1) (a .3 ∙ e ∙ sym (b .3)) ∙ b .2
 
   assigned-onto : (x : ℕ) → x < U .m → (s : ℕ) × (s < M .n) × (assigned s ≡ x)
-  assigned-onto = onto (M .n) (U .m) assigned (U .few) assigned-low assigned-one
+  assigned-onto = assigns-all (M .n) (M .k) U assigned assigned-low assigned-one
 
   -- ---- at every recognised place the unit is in the state assigned to the place's
   Met : ℕ → Type 0
@@ -155,12 +156,14 @@ module _ (M : Mealy) (w xs : List ℕ) (proper : Proper M) (commands : Commands 
       let start = from-start in
       let end = at-end in
       record {
-        assigned = assigned;
-        into = assigned-low;
-        one-to-one = λ s t sl tl e. let same-state = assigned-one s t sl tl e in cc;
-        onto = λ x l. let o = assigned-onto x l in let found = o .2 in (o .0, o .1, cc);
-        answers-alike = assigned-answers;
-        goes-alike = assigned-next;
+        isomorphism = record {
+          assigned = assigned;
+          into = assigned-low;
+          one-to-one = assigned-one;
+          onto = assigned-onto;
+          answers-alike = assigned-answers;
+          goes-alike = assigned-next;
+        };
         end-is = refl;
         start-assigned = cc;
         end-assigned = cc;

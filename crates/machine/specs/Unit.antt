@@ -1,12 +1,10 @@
--- The unit on the bench (§9.1) and the renaming (§9.2), of which the identity claim is made. Unit.Identity shows that a
--- certified sequence with the specified answers gives a renaming, Unit.Behaviour what that says of the unit's answers.
+-- The unit on the bench (§9.1), and when its table is the machine's with the states renamed (§9.2). The laws stand in
+-- Unit.Laws.
 use Prim.Native.Nat.{ℕ, _≤_, _<_}
 use mathlib.Core.Path.{_≡_}
 use mathlib.Core.List.{List}
-use lib.ListN.{length}
-use Rattle.machine.specs.Machine.{Mealy, run, answers, stateAt}
-pub mod Identity
-pub mod Behaviour
+use Rattle.machine.specs.Machine.{Mealy, run, answers}
+pub mod Laws
 
 -- a unit for a machine of n states and k commands (§9.1), in the literature an implementation under test: m states, at
 -- most n; the state u in which the run begins; and a next state, among the m, and an answer for each state and command.
@@ -33,9 +31,9 @@ module _ (n k : ℕ) (U : Unit n k) where
   abbrev pub presentState : List ℕ → ℕ
   presentState xs = run tableOf (U .u) xs
 
--- a renaming (§9.2), in the literature an isomorphism of machines: it assigns a state of the unit to each state of the
--- machine, u to the start and the present state after the sequence to the end state
-pub record Renaming (M : Mealy) (U : Unit (M .n) (M .k)) (xs : List ℕ) (end : ℕ) : Type 0 where
+-- an isomorphism of the machine's table and the unit's (§9.2): it assigns a state of the unit to each state of the
+-- machine. Of u and of a run it says nothing
+pub record Isomorphism (M : Mealy) (U : Unit (M .n) (M .k)) : Type 0 where
   -- the state of the unit that is assigned to each state
   pub assigned : ℕ → ℕ
   pub into : (s : ℕ) → s < M .n → assigned s < U .m
@@ -47,8 +45,3 @@ pub record Renaming (M : Mealy) (U : Unit (M .n) (M .k)) (xs : List ℕ) (end : 
   -- to the entry's next state
   pub answers-alike : (s c : ℕ) → s < M .n → c < M .k → U .answer (assigned s) c ≡ M .answer s c
   pub goes-alike : (s c : ℕ) → s < M .n → c < M .k → U .next (assigned s) c ≡ assigned (M .next s c)
-  -- u is assigned to the start
-  pub start-assigned : assigned (M .start) ≡ U .u
-  -- the end state is that of place N, and the unit's present state is assigned to it
-  pub end-is : end ≡ stateAt M xs (length xs)
-  pub end-assigned : assigned end ≡ presentState (M .n) (M .k) U xs

@@ -1,0 +1,116 @@
+-- The length of the longest common prefix of two lists: the first place at which they differ, or the length of the
+-- shorter one. Judging (§7) and the desk (§13.1) compare answers by it.
+use Prim.Native.Nat.{ℕ, zero, suc, _≤_, _<_}
+use mathlib.Core.Path.{_≡_, refl, sym, ap, _∙_}
+use mathlib.Core.Bool.{Bool, true, false}
+use mathlib.Core.List.{List, [], _∷_, _++_}
+use native.Mathlib.Omega.{arith}
+use lib.Dec.{eqb}
+use lib.ListN.{length, getD, length-append, List·getD-append}
+use borrow.Author.Tests.{eqb-true, eqb-false}
+
+-- how many elements from the front are equal
+unfoldable pub agreed : List ℕ → List ℕ → ℕ
+agreed [] ys = 0
+agreed (x ∷ xs) [] = 0
+agreed (x ∷ xs) (y ∷ ys) = elim (eqb x y) [ true ↦ suc (agreed xs ys) | false ↦ 0 ]
+
+-- the lists are equal before place p, and differ there if both have that place
+pub record Agreed (xs ys : List ℕ) (p : ℕ) : Type 0 where
+  pub in-first : p ≤ length xs
+  pub in-second : p ≤ length ys
+  pub before : (i : ℕ) → i < p → getD xs i 0 ≡ getD ys i 0
+  pub here : p < length xs → p < length ys → getD xs p 0 ≡ getD ys p 0 → ⊥
+
+agreed-none : (xs ys : List ℕ) → (0 < length xs → 0 < length ys → getD xs 0 0 ≡ getD ys 0 0 → ⊥) → Agreed xs ys 0
+agreed-none xs ys h = record {
+  in-first = omega arith;
+  in-second = omega arith;
+  before = λ i l. absurd (omega arith);
+  here = h;
+}
+
+agreed-more : (x y : ℕ) (xs ys : List ℕ) (p : ℕ) → x ≡ y → Agreed xs ys p → Agreed (x ∷ xs) (y ∷ ys) (suc p)
+agreed-more x y xs ys p e h = record {
+  in-first = omega (arith, h .in-first);
+  in-second = omega (arith, h .in-second);
+  before = before;
+  here = λ k l q. h .here (omega arith) (omega arith) q;
+}
+  where
+    before : (i : ℕ) → i < suc p → getD (x ∷ xs) i 0 ≡ getD (y ∷ ys) i 0
+    before zero l = e
+    before (suc i) l = h .before i (omega arith)
+
+pub agreed-holds : (xs ys : List ℕ) → Agreed xs ys (agreed xs ys)
+unfolding agreed
+agreed-holds [] ys = agreed-none [] ys (λ k l q. omega arith)
+agreed-holds (x ∷ xs) [] = agreed-none (x ∷ xs) [] (λ k l q. omega arith)
+agreed-holds (x ∷ xs) (y ∷ ys) = go (agreed-holds xs ys) (eqb x y) refl
+  where
+    go : Agreed xs ys (agreed xs ys) → (t : Bool) → eqb x y ≡ t
+        → Agreed (x ∷ xs) (y ∷ ys) (elim t [ true ↦ suc (agreed xs ys) | false ↦ 0 ])
+    go h true e = agreed-more x y xs ys (agreed xs ys) (eqb-true x y e) h
+    go h false e = agreed-none (x ∷ xs) (y ∷ ys) (λ k l q. eqb-false x y e q)
+
+-- there is one such place
+agreed-one : (xs ys : List ℕ) (p q : ℕ) → Agreed xs ys p → Agreed xs ys q → p < q → ⊥
+agreed-one xs ys p q h k l = h .here (omega (arith, k .in-first)) (omega (arith, k .in-second)) (k .before p l)
+
+pub agreed-is : (xs ys : List ℕ) (p : ℕ) → Agreed xs ys p → p ≡ agreed xs ys
+agreed-is xs ys p h =
+    equal (agreed-one xs ys p (agreed xs ys) h (agreed-holds xs ys))
+    (agreed-one xs ys (agreed xs ys) p (agreed-holds xs ys) h)
+  where
+    equal : (p < agreed xs ys → ⊥) → (agreed xs ys < p → ⊥) → p ≡ agreed xs ys
+    equal a b = omega arith
+
+-- ---- of lists with a common front
+-- a list and its front agree as far as the front goes
+pub agreed-front : (xs zs : List ℕ) → agreed (xs ++ zs) xs ≡ length xs
+unfolding agreed
+agreed-front [] [] = refl
+agreed-front [] (z ∷ zs) = refl
+agreed-front (x ∷ xs) zs = go (eqb x x) refl (agreed-front xs zs)
+  where
+    go : (t : Bool) → eqb x x ≡ t → agreed (xs ++ zs) xs ≡ length xs
+        → _≡_ {A = ℕ} (elim t [ true ↦ suc (agreed (xs ++ zs) xs) | false ↦ 0 ]) (suc (length xs))
+    go true e h = ap suc h
+    go false e h = absurd (eqb-false x x e refl)
+
+-- lists that differ behind a common front agree as far as that goes
+pub agreed-then : (xs : List ℕ) (a b : ℕ) (us vs : List ℕ) → (a ≡ b → ⊥)
+    → agreed (xs ++ (a ∷ us)) (xs ++ (b ∷ vs)) ≡ length xs
+unfolding agreed
+agreed-then [] a b us vs d = go (eqb a b) refl
+  where
+    go : (t : Bool) → eqb a b ≡ t → _≡_ {A = ℕ} (elim t [ true ↦ suc (agreed us vs) | false ↦ 0 ]) 0
+    go true e = absurd (d (eqb-true a b e))
+    go false e = refl
+agreed-then (x ∷ xs) a b us vs d = go (eqb x x) refl (agreed-then xs a b us vs d)
+  where
+    go : (t : Bool) → eqb x x ≡ t → agreed (xs ++ (a ∷ us)) (xs ++ (b ∷ vs)) ≡ length xs
+        → _≡_ {A = ℕ} (elim t [ true ↦ suc (agreed (xs ++ (a ∷ us)) (xs ++ (b ∷ vs))) | false ↦ 0 ]) (suc (length xs))
+    go true e h = ap suc h
+    go false e h = absurd (eqb-false x x e refl)
+
+-- what follows the second list changes nothing where they differ in it, or where it has all of the first
+pub agreed-longer : (xs ys zs : List ℕ) → length xs ≤ agreed xs ys → agreed xs (ys ++ zs) ≡ agreed xs ys
+agreed-longer xs ys zs l =
+    let h = agreed-holds xs ys in
+    sym (agreed-is xs (ys ++ zs) (agreed xs ys) (record {
+      in-first = h .in-first;
+      in-second = omega (arith, h .in-second, length-append ys zs);
+      before = λ i k. h .before i k ∙ sym (List·getD-append ys zs 0 i (omega (arith, h .in-second)));
+      here = λ k m q. omega arith;
+    }))
+
+pub agreed-differ : (xs ys zs : List ℕ) → agreed xs ys < length ys → agreed xs (ys ++ zs) ≡ agreed xs ys
+agreed-differ xs ys zs l =
+    let h = agreed-holds xs ys in
+    sym (agreed-is xs (ys ++ zs) (agreed xs ys) (record {
+      in-first = h .in-first;
+      in-second = omega (arith, h .in-second, length-append ys zs);
+      before = λ i k. h .before i k ∙ sym (List·getD-append ys zs 0 i (omega (arith, h .in-second)));
+      here = λ k m q. h .here k l (q ∙ List·getD-append ys zs 0 (agreed xs ys) l);
+    }))

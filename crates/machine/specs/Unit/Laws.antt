@@ -1,0 +1,58 @@
+-- The laws of units: what is one to one into a unit's states is onto, and what an isomorphism says of the unit's runs
+-- and answers: in each of its states it goes and answers as the machine does in some state.
+use Prim.Native.Nat.{ℕ, suc, _<_}
+use mathlib.Core.Path.{_≡_, sym, ap, ap₂, _∙_}
+use mathlib.Core.List.{List, [], _∷_}
+use native.Mathlib.Omega.{arith}
+use lib.ListN.{length}
+use Rattle.machine.specs.Machine.{Mealy, run, answers, Proper, Below}
+use Rattle.machine.specs.Machine.Laws.{run-none, run-cons, answers-none, answers-cons}
+use Rattle.machine.specs.Pigeonhole.{onto}
+use Rattle.machine.specs.Unit.{Unit, tableOf, Isomorphism}
+
+-- a unit has no more states than the machine: what assigns different ones to different states leaves none out
+pub assigns-all : (n k : ℕ) (U : Unit n k) (assigned : ℕ → ℕ) → ((s : ℕ) → s < n → assigned s < U .m)
+    → ((s t : ℕ) → s < n → t < n → assigned s ≡ assigned t → s ≡ t) → (x : ℕ) → x < U .m
+    → (s : ℕ) × (s < n) × (assigned s ≡ x)
+assigns-all n k U assigned = onto n (U .m) assigned (U .few)
+
+below-head : (k c : ℕ) (ys : List ℕ) → Below k (c ∷ ys) → c < k
+below-head k c ys h = h 0 (omega arith)
+
+below-tail : (k c : ℕ) (ys : List ℕ) → Below k (c ∷ ys) → Below k ys
+below-tail k c ys h i l = h (suc i) (omega arith)
+
+module _ (M : Mealy) (proper : Proper M) (U : Unit (M .n) (M .k)) (r : Isomorphism M U) where
+  -- the unit as a machine
+  abbrev unit : Mealy
+  unit = tableOf (M .n) (M .k) U
+
+  -- commands lead it from the state assigned to s to the one assigned to where they lead from s
+  pub assigned-run : (ys : List ℕ) (s : ℕ) → s < M .n → Below (M .k) ys
+      → run unit (r .assigned s) ys ≡ r .assigned (run M s ys)
+  assigned-run [] s l b = run-none unit (r .assigned s) ∙ ap (r .assigned) (sym (run-none M s))
+  assigned-run (c ∷ ys) s l b =
+      let low = below-head (M .k) c ys b in
+      run-cons unit (r .assigned s) c ys
+      ∙ ap (λ (x : ℕ). run unit x ys) (r .goes-alike s c l low)
+      ∙ assigned-run ys (M .next s c) (proper .stays s c l low) (below-tail (M .k) c ys b)
+      ∙ ap (r .assigned) (sym (run-cons M s c ys))
+
+  -- in the state assigned to s it answers as the machine does in s
+  pub assigned-alike : (ys : List ℕ) (s : ℕ) → s < M .n → Below (M .k) ys
+      → answers unit (r .assigned s) ys ≡ answers M s ys
+  assigned-alike [] s l b = answers-none unit (r .assigned s) ∙ sym (answers-none M s)
+  assigned-alike (c ∷ ys) s l b =
+      let low = below-head (M .k) c ys b in
+      answers-cons unit (r .assigned s) c ys
+      ∙ ap₂ _∷_ (r .answers-alike s c l low)
+      (ap (λ (x : ℕ). answers unit x ys) (r .goes-alike s c l low)
+      ∙ assigned-alike ys (M .next s c) (proper .stays s c l low) (below-tail (M .k) c ys b))
+      ∙ sym (answers-cons M s c ys)
+
+  -- in any of its states, as in some state of the sheet
+  pub each-alike : (x : ℕ) → x < U .m
+      → (s : ℕ) × (s < M .n) × ((ys : List ℕ) → Below (M .k) ys → answers unit x ys ≡ answers M s ys)
+  each-alike x l =
+      let o = r .onto x l in
+      (o .0, o .1, λ ys b. ap (λ (y : ℕ). answers unit y ys) (sym (o .2)) ∙ assigned-alike ys (o .0) (o .1) b)
