@@ -5,5 +5,6 @@ mod Parts
 mod Rounds
 mod Rows
 mod Searching
+mod TableLoading
 mod WordEnd
 mod Writes

@@ -42,11 +42,13 @@ noTransfer (some t) = false
 unfoldable pub cause8 : Mealy → List ℕ → Check
 cause8 M w = first (M .n) (λ s. refusal 8 with s if noTransfer (B M w s))
 
--- the causes of building in order (§4.1): 1 to 6, then 8, then 9, for which the length of the sequence is needed
+-- causes 1 to 6, then 8 (§4.1), of a service that needs a separating word and transfers
+unfoldable pub connectedCauses : List ℕ → List Check
+connectedCauses s = loadCauses buildNeeds s ++ (cause8 (machineIn s) (content 2 s) ∷ [])
+
+-- the causes of building in order (§4.1): these, then 9, for which the length of the sequence is needed
 unfoldable pub buildCauses : ℕ → List ℕ → List Check
-buildCauses room s =
-    loadCauses buildNeeds s
-    ++ (cause8 (machineIn s) (content 2 s) ∷ cause9 room (length (sequence (machineIn s) (content 2 s))) ∷ [])
+buildCauses room s = connectedCauses s ++ (cause9 room (length (sequence (machineIn s) (content 2 s))) ∷ [])
 
 -- ---- the service
 -- what building answers to a sheet and a room: the length of the sequence (§6.4), or a refusal

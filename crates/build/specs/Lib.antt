@@ -1,6 +1,7 @@
 pub mod Transfer
 pub mod Sequence
 pub mod Building
+pub mod Loading
 pub mod Distances
 pub mod Table
 pub mod Writing

@@ -1,10 +1,12 @@
 // Checking sequences: transfers from state to state, the prescribed sequence, refusals 8 and 9.
 mod distances;
+mod loading;
 mod service;
 mod table;
 mod transfers;
 mod writing;
 
+pub use loading::load_connected;
 pub use service::Answer;
 pub use service::build;
 pub use transfers::MaybeTransfer;

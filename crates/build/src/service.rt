@@ -1,11 +1,9 @@
 // The service: builds the checking sequence of a sheet.
 ghost use Rattle.build.specs.Building.{Builds};
+use crate::loading::load_table;
 use crate::table::ROWS;
-use crate::table::connect;
 use crate::writing::write_sequence;
-use machine::load_sheet;
 use sheet::Check;
-use sheet::Needs;
 use sheet::WORD_KIND;
 use sheet::read;
 use sheet::refuse;
@@ -21,23 +19,14 @@ pub enum Answer {
 pub fn build(sheet: &[u8], buffer: &mut [u8]) -> Answer
     ensures { λ r. ⌜ Builds (now (sheet .entry)) (now (buffer .entry)) (now (buffer .exit)) r ⌝ }
 {
-    let needs = Needs {
-        word: true,
-        sequence: false,
-        answers: false,
-    };
-    let loaded = load_sheet(sheet, needs);
+    let mut rows = [0u8; ROWS];
+    let loaded = load_table(sheet, &mut rows);
     let earlier = loaded.check;
     if let Check::Refused { number, place } = earlier {
         return Answer::Refused { number, place };
     }
     let m = loaded.machine;
     let w = read(sheet, WORD_KIND);
-    let mut rows = [0u8; ROWS];
-    let eight = connect(m, w, &mut rows);
-    if let Check::Refused { number, place } = eight {
-        return Answer::Refused { number, place };
-    }
     // Lent no bytes, it only counts.
     let lent = 0;
     let length = write_sequence(m, w, &rows, &mut buffer[..lent]);

@@ -1,27 +1,31 @@
--- The laws of cause 8: it is clear exactly where the table is strongly connected, and then every T(s) is there. The
--- laws of the service stand in Building.Service.
+-- The laws of cause 8: it is clear exactly where the table is strongly connected, and then every T(s) is there; and of
+-- causes 1 to 6 and 8 together. The laws of the service stand in Building.Service.
 use Prim.Native.Nat.{ℕ, _<_}
 use mathlib.Core.Path.{_≡_, refl, sym, ap, _∙_}
 use mathlib.Core.Bool.{true, false}
-use mathlib.Core.List.{List, [], _++_}
+use mathlib.Core.List.{List, [], _∷_, _++_}
 use mathlib.Core.Option.{Option, none, some, Option·getD}
 use native.Mathlib.Omega.{arith}
 use lib.ListN.{length, length-append}
 use Rattle.sheet.specs.declared.check.Check.{Check}
 use Rattle.sheet.specs.declared.check.Check.the-variants.{Clear, Refused}
-use Rattle.sheet.specs.Check.{refusal_with_if_, first}
+use Rattle.sheet.specs.Check.{refusal_with_if_, _else_, firstCause, first}
+use Rattle.sheet.specs.Check.Laws.{both-clear, else-clear, else-refused, cause-one, cause-append}
 use Rattle.sheet.specs.Check.Laws.{absent, present, clear-absent, first-clear, first-clear-at, first-found}
 use Rattle.sheet.specs.Check.Laws.{first-present, present-test}
+use Rattle.sheet.specs.Reader.{content}
 use Rattle.machine.specs.Limits.{mostWord}
-use Rattle.machine.specs.Machine.{Mealy, run, Proper, Commands}
+use Rattle.machine.specs.Machine.{Mealy, run, Proper, Commands, Distinguishes}
 use Rattle.machine.specs.Machine.Laws.{run-append, run-stays, low-append}
+use Rattle.machine.specs.Causes.{machineIn, loadCauses}
+use Rattle.machine.specs.Causes.Lists.{load-proper, word-distinguishes}
 use Rattle.build.specs.Transfer.{Leads, IsTransfer}
 use Rattle.build.specs.Transfer.Laws.{transfer-is, transfer-below, leads-some, none-leads, leads-none}
 use Rattle.build.specs.Sequence.{following, B, T, approach}
 use Rattle.build.specs.Sequence.Cycle.{following-below}
 use Rattle.build.specs.Sequence.Laws.{Blocks, T-is, approach-reaches}
 use Rattle.build.specs.Sequence.Length.{approach-low}
-use Rattle.build.specs.Building.{noTransfer, cause8, StronglyConnected}
+use Rattle.build.specs.Building.{buildNeeds, noTransfer, cause8, connectedCauses, StronglyConnected}
 
 -- cause 8 at a state
 abbrev pub transferCause : Mealy → List ℕ → ℕ → Check
@@ -132,3 +136,40 @@ module _ (M : Mealy) (w : List ℕ) (proper : Proper M) (commands : Commands mos
       absent 8 t
       (ap noTransfer (leads-some M proper (run M t w) (following (M .n) t) (word-stays t tl) (u .0) (u .1) .1))))
       (present 8 s (ap noTransfer (leads-none M (run M s w) (following (M .n) s) (h .none-leads-on))))
+
+-- ---- causes 1 to 6 and 8 of a sheet
+pub connected-causes-are : (s : List ℕ)
+    → firstCause (connectedCauses s) ≡ (firstCause (loadCauses buildNeeds s) else cause8 (machineIn s) (content 2 s))
+unfolding connectedCauses
+connected-causes-are s =
+    let eight = cause8 (machineIn s) (content 2 s) in
+    cause-append (loadCauses buildNeeds s) (eight ∷ [])
+    ∙ ap (λ (c : Check). firstCause (loadCauses buildNeeds s) else c) (cause-one eight)
+
+-- one of causes 1 to 6 is the first
+pub load-refused : (s : List ℕ) {a b : ℕ} → firstCause (loadCauses buildNeeds s) ≡ Refused a b
+    → firstCause (connectedCauses s) ≡ Refused a b
+load-refused s {a} {b} e = connected-causes-are s ∙ (rw e (else-refused a b _))
+
+-- where they are clear, all of these are
+module _ (s : List ℕ) (clear : firstCause (connectedCauses s) ≡ Clear) where
+  pub clear-load : firstCause (loadCauses buildNeeds s) ≡ Clear
+  clear-load = both-clear _ _ (sym (connected-causes-are s) ∙ clear) .0
+
+  pub clear-eight : cause8 (machineIn s) (content 2 s) ≡ Clear
+  clear-eight = both-clear _ _ (sym (connected-causes-are s) ∙ clear) .1
+
+  -- so the machine is within its limits, the word within its own and separates, and the table is strongly connected
+  pub clear-proper : Proper (machineIn s)
+  clear-proper = load-proper buildNeeds s clear-load
+
+  pub clear-distinguishes : Distinguishes (machineIn s) (content 2 s)
+  clear-distinguishes = word-distinguishes buildNeeds s refl clear-load
+
+  pub clear-strongly : StronglyConnected (machineIn s)
+  clear-strongly = clear-connected (machineIn s) (content 2 s) clear-proper (clear-distinguishes .commands) clear-eight
+
+-- and they are clear where 1 to 6 and 8 are
+pub all-clear : (s : List ℕ) → firstCause (loadCauses buildNeeds s) ≡ Clear → cause8 (machineIn s) (content 2 s) ≡ Clear
+    → firstCause (connectedCauses s) ≡ Clear
+all-clear s load eight = connected-causes-are s ∙ (rw (load, eight) (else-clear Clear))

@@ -10,7 +10,7 @@ use lib.Seq.{take-append-seam, drop-append-seam}
 use Rattle.sheet.specs.declared.check.Check.{Check}
 use Rattle.sheet.specs.declared.check.Check.the-variants.{Clear, Refused}
 use Rattle.sheet.specs.Check.{_else_, firstCause, refusedOr}
-use Rattle.sheet.specs.Check.Laws.{both-clear, else-clear, else-refused, cause-two, cause-append}
+use Rattle.sheet.specs.Check.Laws.{both-clear, else-clear, else-refused, else-assoc, cause-one, cause-append}
 use Rattle.sheet.specs.Reader.{recordOf, content}
 use Rattle.sheet.specs.Writing.{written}
 use Rattle.machine.specs.Limits.{mostWord, mostSequence}
@@ -31,35 +31,38 @@ use Rattle.build.specs.Sequence.{following, sequence, lengthBound}
 use Rattle.build.specs.Sequence.Laws.{Blocks, sequence-leads}
 use Rattle.build.specs.Sequence.Certified.{sequence-some, sequence-certified}
 use Rattle.build.specs.Sequence.Length.{sequence-length, sequence-low, longest-below}
-use Rattle.build.specs.Building.{buildNeeds, cause8, buildCauses, building, bufferAfter, Buildable}
+use Rattle.build.specs.Building.{buildNeeds, cause8, connectedCauses, buildCauses, building, bufferAfter}
+use Rattle.build.specs.Building.{Buildable}
 use Rattle.build.specs.Building.Connection.{clear-blocks, clear-connected, connected-clear, NotConnected}
-use Rattle.build.specs.Building.Connection.{refused-unconnected}
+use Rattle.build.specs.Building.Connection.{refused-unconnected, connected-causes-are, all-clear}
 
 -- ---- the causes in order
+connected-then-room : (room : ℕ) (s : List ℕ) → firstCause (buildCauses room s)
+    ≡ (firstCause (connectedCauses s) else cause9 room (length (sequence (machineIn s) (content 2 s))))
+unfolding buildCauses
+connected-then-room room s =
+    let nine = cause9 room (length (sequence (machineIn s) (content 2 s))) in
+    cause-append (connectedCauses s) (nine ∷ [])
+    ∙ ap (λ (c : Check). firstCause (connectedCauses s) else c) (cause-one nine)
+
 pub build-causes-are : (room : ℕ) (s : List ℕ) → firstCause (buildCauses room s)
     ≡ (firstCause (loadCauses buildNeeds s)
     else (cause8 (machineIn s) (content 2 s) else cause9 room (length (sequence (machineIn s) (content 2 s)))))
-unfolding buildCauses
 build-causes-are room s =
-    let eight = cause8 (machineIn s) (content 2 s) in
-    let nine = cause9 room (length (sequence (machineIn s) (content 2 s))) in
-    cause-append (loadCauses buildNeeds s) (eight ∷ nine ∷ [])
-    ∙ ap (λ (c : Check). firstCause (loadCauses buildNeeds s) else c) (cause-two eight nine)
+    connected-then-room room s
+    ∙ ap (λ (c : Check). c else cause9 room (length (sequence (machineIn s) (content 2 s)))) (connected-causes-are s)
+    ∙ else-assoc _ _ _
 
 module _ (room : ℕ) (s : List ℕ) where
-  -- the first cause is one of 1 to 6
-  pub refused-early : {a b : ℕ} → firstCause (loadCauses buildNeeds s) ≡ Refused a b
+  -- the first cause is one of 1 to 6 and 8
+  pub refused-early : {a b : ℕ} → firstCause (connectedCauses s) ≡ Refused a b
       → firstCause (buildCauses room s) ≡ Refused a b
-  refused-early {a} {b} e = build-causes-are room s ∙ (rw e (else-refused a b _))
+  refused-early {a} {b} e = connected-then-room room s ∙ (rw e (else-refused a b _))
 
-  -- where these are clear, it is cause 8 or, behind it, 9
-  pub refused-eight : firstCause (loadCauses buildNeeds s) ≡ Clear → {a b : ℕ}
-      → cause8 (machineIn s) (content 2 s) ≡ Refused a b → firstCause (buildCauses room s) ≡ Refused a b
-  refused-eight e {a} {b} f = build-causes-are room s ∙ (rw (e, f) (else-clear _ ∙ else-refused a b _))
-
-  pub room-cause : firstCause (loadCauses buildNeeds s) ≡ Clear → cause8 (machineIn s) (content 2 s) ≡ Clear
+  -- where these are clear, it is 9
+  pub room-cause : firstCause (connectedCauses s) ≡ Clear
       → firstCause (buildCauses room s) ≡ cause9 room (length (sequence (machineIn s) (content 2 s)))
-  room-cause e f = build-causes-are room s ∙ (rw (e, f) (else-clear _ ∙ else-clear _))
+  room-cause e = connected-then-room room s ∙ (rw e (else-clear _))
 
   -- ---- where all are clear
   module _ (e : firstCause (buildCauses room s) ≡ Clear) where
@@ -148,7 +151,7 @@ module _ (room : ℕ) (s : List ℕ) where
       clear-commands 5 mostWord (machineIn s .k) (recordOf 2 s) (content 2 s) (h .word) in
       let eight =
       connected-clear (machineIn s) (content 2 s) (machine-proper buildNeeds s (h .machine)) commands (h .connected) in
-      room-cause room s load eight ∙ room-clear _ _ (h .fits)
+      room-cause room s (all-clear s load eight) ∙ room-clear _ _ (h .fits)
 
   pub built-buildable : {n : ℕ} → building room s ≡ Built n → Buildable room s
   built-buildable e = clear-buildable (answer-built room s e .0)
@@ -239,7 +242,7 @@ always-fits room s l load eight =
     let proper = load-proper buildNeeds s load in
     let xs =
     sequence-built (machineIn s) (content 2 s) proper (word-distinguishes buildNeeds s refl load .commands) eight in
-    room-cause room s load eight ∙ room-clear _ _ (omega (arith, xs .commands .few))
+    room-cause room s (all-clear s load eight) ∙ room-clear _ _ (omega (arith, xs .commands .few))
 
 -- an answer of built shows all that of the sequence
 pub built-sequence : (room : ℕ) (s : List ℕ) {n : ℕ} → building room s ≡ Built n

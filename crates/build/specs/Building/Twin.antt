@@ -27,7 +27,7 @@ use Rattle.build.specs.declared.service.Answer.the-variants.{Built, Refu
 use Rattle.build.specs.Transfer.{guard, firstOf, firstPath, transfer}
 use Rattle.build.specs.Sequence.{following, T, nthState, firstBlocks, opening, approach, test, stateTests, tests}
 use Rattle.build.specs.Sequence.{sequence, lengthBound}
-use Rattle.build.specs.Building.{cause8, buildCauses, building, bufferAfter}
+use Rattle.build.specs.Building.{cause8, connectedCauses, buildCauses, building, bufferAfter}
 use Rattle.build.specs.Building.Service.{building-clear, buffer-clear}
 
 -- ---- the sheets
@@ -77,7 +77,7 @@ unfolding twinSheet refusal_with_if_ _else_ firstCause first recordAt offset end
     parseFrom parse parsed ofKind _or_ find sheetCauses when needed refusalOf recordOf part partBytes content machineOf
     run answers cause3 cause4 commandsCause cause6 machineIn machineCauses wordCauses loadCauses cause9 guard orElse
     firstOf firstPath transfer following T nthState firstBlocks opening approach test stateTests tests sequence cause8
-    buildCauses
+    connectedCauses buildCauses
 twin-clear room l = nine-clear room 12 l
 
 pub twin-building : (room : ℕ) → 12 ≤ room → building room twinSheet ≡ Built 12
@@ -96,7 +96,7 @@ unfolding building disconnectedSheet refusal_with_if_ _else_ firstCause first re
     causeAt parseStep parseFrom parse parsed ofKind _or_ find sheetCauses when needed refusalOf recordOf part partBytes
     content machineOf run answers cause3 cause4 commandsCause cause6 machineIn machineCauses wordCauses loadCauses
     cause9 guard orElse firstOf firstPath transfer following T nthState firstBlocks opening approach test stateTests
-    tests sequence cause8 buildCauses
+    tests sequence cause8 connectedCauses buildCauses
 disconnected-building room = refl
 
 -- ---- the sequence of one state and one command
@@ -127,7 +127,7 @@ unfolding singleSheet refusal_with_if_ _else_ firstCause first recordAt offset e
     parseStep parseFrom parse parsed ofKind _or_ find sheetCauses when needed refusalOf recordOf part partBytes content
     machineOf run answers cause3 cause4 commandsCause cause6 machineIn machineCauses wordCauses loadCauses cause9 guard
     orElse firstOf firstPath transfer following T nthState firstBlocks opening approach test stateTests tests sequence
-    cause8 buildCauses
+    cause8 connectedCauses buildCauses
 single-clear answer room l = nine-clear room 4 l
 
 pub single-building : (answer room : ℕ) → 4 ≤ room → building room (singleSheet answer) ≡ Built 4

@@ -10,12 +10,13 @@ use lib.ListN.{length, getD, take, drop, length-append, length-take, length-drop
 use lib.Dec.{ltb}
 use borrow.Author.Tests.{ltb-true, ltb-false}
 use Rattle.machine.specs.Machine.{Mealy, run, Proper}
-use Rattle.machine.specs.Machine.Laws.{run-append, run-stays, low-append, low-take, low-drop}
+use Rattle.machine.specs.Machine.Laws.{run-none, run-cons, run-append, run-stays, low-append, low-take, low-drop}
 use Rattle.machine.specs.Pigeonhole.{pigeonhole}
 use Rattle.build.specs.Transfer.{Leads, Before, IsTransfer, firstPath, transfer}
 use Rattle.build.specs.Transfer.Paths.{some-none, Seen, nothing, string, seen, first-some, least-first}
 use Rattle.build.specs.Transfer.Paths.{some-first, none-first, Step, path-step, path-length, path-leads}
-use Rattle.build.specs.Transfer.Paths.{path-state, leads-path, leads-first, leads-rest}
+use Rattle.build.specs.Transfer.Paths.{path-state, path-here, path-zero, some-path, leads-path, leads-first}
+use Rattle.build.specs.Transfer.Paths.{leads-rest}
 
 -- ---- byte order
 -- a lower first command
@@ -195,3 +196,54 @@ is-transfer M p a b {t} h =
     let k = transfer-is M p a b (r .1) in
     let same : length (r .0) ≡ length t = omega (arith, h .shortest (r .0) (k .leads), k .shortest t (h .leads)) in
     r .1 ∙ ap some (neither-before (r .0) t same (h .first (r .0) (k .leads) same) (k .first t (h .leads) (sym same)))
+
+-- ---- along a transfer
+-- from a state to itself it is empty
+pub transfer-here : (M : Mealy) (b : ℕ) → b < M .n → transfer M b b ≡ some []
+transfer-here M b l =
+    path-transfer M b b
+    (record {
+      few = omega arith;
+      found = path-here M b b refl l;
+      passed = λ m k. let z : ⊥ = omega arith in absurd z;
+    })
+
+-- and an empty one leads from a state to itself
+pub transfer-none-left : (M : Mealy) (a b : ℕ) → transfer M a b ≡ some [] → a ≡ b
+transfer-none-left M a b e = path-zero M b a (transfer-path M a b e .found) .1
+
+-- its first command is a command, and the rest of it is the transfer from where that leads
+pub transfer-rest : (M : Mealy) (a b c : ℕ) {u : List ℕ} → transfer M a b ≡ some (c ∷ u)
+    → (c < M .k) × (transfer M (M .next a c) b ≡ some u)
+transfer-rest M a b c {u} e =
+    let h = transfer-path M a b e in
+    let s = path-step M b (length u) a (h .found) in
+    rest-of (path-state M b (suc (length u)) a (h .found)) h (s .command) (s .rest) (s .low) (s .found) (s .string)
+  where
+    passed-by : (m : ℕ) → a < M .n → c < M .k → Seen (firstPath M b m (M .next a c)) → firstPath M b (suc m) a ≡ none
+        → firstPath M b m (M .next a c) ≡ none
+    passed-by m al cl (nothing q) p = q
+    passed-by m al cl (string t q) p = absurd (some-none (some-path M b m a c al cl q .1) p)
+
+    rest-of : a < M .n → Shortest M a b (c ∷ u) → (d : ℕ) (v : List ℕ) → d < M .k
+        → firstPath M b (length u) (M .next a d) ≡ some v → (c ∷ u) ≡ (d ∷ v)
+        → (c < M .k) × (transfer M (M .next a c) b ≡ some u)
+    rest-of al h d v dl f q =
+        let head : c ≡ d = cc in
+        let tail : u ≡ v = cc in
+        let low : c < M .k = omega arith in (
+          low,
+          path-transfer M (M .next a c) b
+              (record {
+                few = omega (arith, h .few);
+                found = ap (λ (x : ℕ). firstPath M b (length u) (M .next a x)) head ∙ f ∙ ap some (sym tail);
+                passed = λ m l. passed-by m al low (seen (firstPath M b m (M .next a c))) (h .passed (suc m) (omega arith));
+              }),
+        )
+
+-- and so behind any front of it
+pub transfer-drop : (M : Mealy) (a b : ℕ) (p q : List ℕ) → transfer M a b ≡ some (p ++ q)
+    → transfer M (run M a p) b ≡ some q
+transfer-drop M a b [] q e = ap (λ (x : ℕ). transfer M x b) (run-none M a) ∙ e
+transfer-drop M a b (c ∷ p) q e =
+    ap (λ (x : ℕ). transfer M x b) (run-cons M a c p) ∙ transfer-drop M (M .next a c) b p q (transfer-rest M a b c e .1)

@@ -1,0 +1,68 @@
+-- `build::loading::load_table` meets its contract. Assumes nothing.
+use denote.Ref.{now}
+use Rattle.sheet.specs.Check.Laws.{clear-refused}
+use Rattle.sheet.specs.Reader.Laws.{handed-content}
+use Rattle.build.proofs.TableLoading.{early-connected, proper, eight-connected}
+use borrow.Author.Needs.{needs}
+use Rattle.build.proofs.loading.load_table.Statement.{statement}
+use Rattle.build.proofs.loading.load_table.Tie as tie
+
+load-sheet-requires : tie.Need-load-sheet-requires
+load-sheet-requires c κs = search needs
+
+enum-told : tie.Need-enum-told
+enum-told c = search needs
+
+returns : tie.Need-returns
+returns c =
+    let load = c .before .before .before in
+    let start = load .before .before .before in (
+      early-connected (now (start .args .sheet)) (load .load-sheet .result) (load .load-sheet .ensures)
+          (c .enum-told .given .1),
+      λ e. clear-refused e (c .enum-told .given .1),
+    )
+
+enum-told-2 : tie.Need-enum-told-2
+enum-told-2 c = search needs
+
+read-requires : tie.Need-read-requires
+read-requires c κs = search needs
+
+connect-requires : tie.Need-connect-requires
+connect-requires c κs =
+    let early = c .before .before in
+    let load = early .before .before .before in
+    let start = load .before .before .before in (
+      proper (now (start .args .sheet)) (load .load-sheet .result) (load .load-sheet .ensures)
+          (early .enum-told2 .given .1),
+      start .pre,
+    )
+
+same-length : tie.Need-same-length
+same-length c = search needs
+
+returns-2 : tie.Need-returns-2
+returns-2 c =
+    let table = c .before .before in
+    let word = table .before .before in
+    let early = word .before in
+    let load = early .before .before .before in
+    let start = load .before .before .before in
+    let same = handed-content _ (start .args .sheet) (word .read .result) (word .read .ensures) in (
+      eight-connected (now (start .args .sheet)) (load .load-sheet .result) (load .load-sheet .ensures)
+          (early .enum-told2 .given .1) same (table .connect .ensures .0),
+      λ e. rw (← same) (table .connect .ensures .1 e),
+    )
+
+pub load-table-spec : {M : Type 1} → statement M
+load-table-spec =
+    tie.close
+    (tie.spec
+    load-sheet-requires
+    enum-told
+    returns
+    enum-told-2
+    read-requires
+    connect-requires
+    same-length
+    returns-2)
