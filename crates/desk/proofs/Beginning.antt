@@ -1,0 +1,112 @@
+-- From the checks and the word as it is stored to what start promises.
+-- Assumes nothing.
+use Prim.Native.Nat.{ℕ, _+_, _≤_, _<_}
+use mathlib.Core.Path.{_≡_, refl, sym, ap, ap₂, _∙_}
+use mathlib.Core.Bool.{Bool, true, false}
+use mathlib.Core.List.{List, []}
+use native.Mathlib.Omega.{arith}
+use native.Mathlib.Nat.{zero-add}
+use lib.Dec.{leb}
+use lib.ListN.{length, getD, take}
+use lib.Seq.{paste, take-paste, take-length, getD-take}
+use borrow.Author.Tests.{leb-true, leb-false}
+use Rattle.sheet.specs.declared.check.Check.the-variants.{Clear, Refused}
+use Rattle.sheet.specs.Check.{firstCause}
+use Rattle.sheet.specs.Reader.{content}
+use Rattle.sheet.specs.Check.Laws.{clear-refused}
+use Rattle.sheet.specs.Writing.{putAt, putEnd}
+use Rattle.sheet.specs.Writing.Laws.{put-fits, end-fits, end-not}
+use Rattle.machine.specs.Limits.{mostWord}
+use Rattle.machine.specs.Machine.{meaning}
+use Rattle.machine.specs.Causes.{machineIn}
+use Rattle.machine.specs.declared.loading.Loaded.{Loaded}
+use Rattle.build.specs.Building.{connectedCauses}
+use Rattle.build.specs.Building.Connection.{clear-distinguishes}
+use Rattle.build.specs.Loading.{ConnectedFrom}
+use Rattle.desk.specs.declared.desk.Desk.{Desk}
+use Rattle.desk.specs.declared.desk.Order.the-variants.{Command}
+use Rattle.desk.specs.declared.desk.Phase.the-variants.{Reading}
+use Rattle.desk.specs.declared.starting.First.the-variants.{Command as FirstCommand, Refused as RefusedFirst}
+use Rattle.desk.specs.declared.starting.Started.{Started}
+use Rattle.desk.specs.Desk.Laws.{order-reading}
+use Rattle.desk.specs.Desk.Ends.{phase-reading}
+use Rattle.desk.specs.Service.{ordered, Reached, Starts}
+use Rattle.desk.specs.Service.Dialogue.{starting-first, starting-refused}
+
+-- what is put ends within the buffer
+end-inside : (before xs : List ℕ) → putEnd before 0 xs ≤ length before
+end-inside before xs = go (leb (0 + length xs) (length before)) refl
+  where
+    go : (b : Bool) → leb (0 + length xs) (length before) ≡ b → putEnd before 0 xs ≤ length before
+    go true e = let l = leb-true _ _ e in omega (arith, end-fits before 0 xs l)
+    go false e = let l = leb-false _ _ e in omega (arith, end-not before 0 xs l)
+
+-- so its place is a byte
+pub end-small : (before xs : List ℕ) {n : ℕ} → n ≡ putEnd before 0 xs → length before ≡ mostWord → n < 256
+end-small before xs e l = omega (arith, end-inside before xs)
+
+-- the desk at its first command
+abbrev firstDesk : Loaded → List ℕ → ℕ → List ℕ → ℕ → Desk
+firstDesk l word size heard c = record {
+  machine = l .machine;
+  word = word;
+  size = size;
+  heard = heard;
+  count = 0;
+  sent = c;
+  phase = Reading 0;
+}
+
+module _ (s : List ℕ) (l : Loaded) (h : ConnectedFrom s l) (before xs : List ℕ) (long : length before ≡ mostWord)
+    (xe : xs ≡ content 2 s) (word : List ℕ) (we : word ≡ putAt before 0 xs) (size : ℕ) (se : size ≡ putEnd before 0 xs)
+    (heard : List ℕ) (c : ℕ) (ce : c ≡ getD word 0 0) where
+  module _ (clear : firstCause (connectedCauses s) ≡ Clear) where
+    some : 1 ≤ length (content 2 s)
+    some = clear-distinguishes s clear .commands .some
+
+    fits : 0 + length xs ≤ length before
+    fits = omega (arith, ap length xe, clear-distinguishes s clear .commands .few)
+
+    size-is : size ≡ length xs
+    size-is = se ∙ end-fits before 0 xs fits ∙ zero-add (length xs)
+
+    word-is : take size word ≡ xs
+    word-is =
+        ap₂ take (size-is ∙ sym (zero-add (length xs))) (we ∙ put-fits before 0 xs fits)
+        ∙ take-paste before 0 xs (length xs) (omega arith) (omega arith)
+        ∙ take-length xs
+
+    command-is : c ≡ getD (content 2 s) 0 0
+    command-is =
+        ce
+        ∙ sym (getD-take size word 0 0 (omega (arith, size-is, ap length xe, some)))
+        ∙ ap (λ (x : List ℕ). getD x 0 0) (word-is ∙ xe)
+
+    order-is : ordered s [] ≡ Command (getD (content 2 s) 0 0)
+    order-is = order-reading (machineIn s) (content 2 s) [] (omega (arith, some))
+
+    begins : Reached s [] (firstDesk l word size heard c)
+    begins = record {
+      clear = clear;
+      machine = h .machine (h .check ∙ clear);
+      size = size-is ∙ ap length xe;
+      word = word-is ∙ xe;
+      phase = sym (phase-reading (machineIn s) (content 2 s) [] (omega (arith, some)));
+      heard = λ _. refl;
+      waits = λ f q.
+          let both : Command (getD (content 2 s) 0 0) ≡ Command f = sym order-is ∙ q in
+          let same-command : getD (content 2 s) 0 0 ≡ f = cc in
+          (refl, command-is ∙ same-command);
+    }
+
+  pub starts-clear : l .check ≡ Clear
+      → Starts s (record { first = FirstCommand c; desk = firstDesk l word size heard c })
+  starts-clear e =
+      let clear = sym (h .check) ∙ e in
+      record { first = ap FirstCommand (command-is clear) ∙ sym (starting-first s clear); desk = λ q. begins q }
+
+  pub starts-refused : {a b : ℕ} → l .check ≡ Refused a b
+      → Starts s (record { first = RefusedFirst a b; desk = firstDesk l word size heard c })
+  starts-refused {a} {b} e =
+      let refused = sym (h .check) ∙ e in
+      record { first = sym (starting-refused s refused); desk = λ q. clear-refused q refused }

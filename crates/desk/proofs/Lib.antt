@@ -1,0 +1,4 @@
+mod Beginning
+mod Locating
+mod Parts
+mod Turns

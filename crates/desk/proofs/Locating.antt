@@ -1,0 +1,125 @@
+-- How the search for the state in which a unit began runs along the word and over the states.
+-- Assumes nothing.
+use Prim.Native.Nat.{ℕ, _+_, _-_, _≤_, _<_}
+use mathlib.Core.Path.{_≡_, sym, ap, ap₂, _∙_}
+use mathlib.Core.Bool.{true, false, true≢false}
+use mathlib.Core.List.{List, [], _∷_, _++_}
+use mathlib.Core.Option.{none, some}
+use native.Mathlib.Omega.{arith}
+use native.Mathlib.Numerals.{add-one}
+use lib.ListN.{length, getD, take}
+use lib.Seq.{take-all, take-suc, getD-take, getD-at, length-take-le}
+use Rattle.machine.specs.Machine.{Mealy, run, answers}
+use Rattle.machine.specs.Machine.Laws.{run-none, run-cons, run-append, answers-none, answers-cons, answers-append}
+use Rattle.machine.specs.Machine.Laws.{answers-take, answers-length}
+use Rattle.desk.specs.declared.location.Followed.{Followed}
+use Rattle.desk.specs.Desk.{firstState}
+use Rattle.desk.specs.Desk.Laws.{first-nowhere, first-here, first-passed, first-stays}
+use Rattle.desk.specs.Location.{Follows, Locates}
+
+-- ---- along the word: the first i answers are right, and state is where the first i commands lead
+pub record Following (M : Mealy) (w ys : List ℕ) (s state i : ℕ) : Type 0 where
+  pub inside : i ≤ length w
+  pub same : answers M s (take i w) ≡ take i ys
+  pub at : state ≡ run M s (take i w)
+
+module _ (M : Mealy) (w ys : List ℕ) (s : ℕ) (even : length w ≡ length ys) where
+  pub following-start : Following M w ys s s 0
+  following-start = record {
+    inside = omega arith;
+    same = answers-none M s;
+    at = sym (run-none M s);
+  }
+
+  -- the first commands and one more
+  one-more : (i : ℕ) → i < length w → take (i + 1) w ≡ take i w ++ (getD w i 0 ∷ [])
+  one-more i l = ap (λ (n : ℕ). take n w) (add-one i) ∙ take-suc w i 0 l
+
+  module _ {state i : ℕ} (h : Following M w ys s state i) (l : i < length w) where
+    answer-here : getD (answers M s w) i 0 ≡ M .answer state (getD w i 0)
+    answer-here =
+        sym (getD-take (i + 1) (answers M s w) i 0 (omega arith))
+        ∙ ap (λ (x : List ℕ). getD x i 0)
+        (answers-take M s (i + 1) w
+        ∙ ap (answers M s) (one-more i l)
+        ∙ answers-append M s (take i w) (getD w i 0 ∷ [])
+        ∙ ap (_++_ (answers M s (take i w))) (answers-cons M (run M s (take i w)) (getD w i 0) []))
+        ∙ getD-at (answers M s (take i w)) (M .answer (run M s (take i w)) (getD w i 0))
+        (answers M (M .next (run M s (take i w)) (getD w i 0)) []) 0 i
+        (answers-length M s (take i w) ∙ length-take-le i w (omega arith))
+        ∙ ap (λ (x : ℕ). M .answer x (getD w i 0)) (sym (h .at))
+
+    -- an answer that differs
+    pub following-differs : {v y : ℕ} → v ≡ M .answer state (getD w i 0) → y ≡ getD ys i 0 → (v ≡ y → ⊥) → {e : ℕ}
+        → Follows M w ys s (record { agrees = false; end = e })
+    following-differs ve ye d = record {
+      agrees = λ t. absurd (true≢false (sym t));
+      ends = λ t. absurd (true≢false (sym t));
+      differs = λ t q. d (ve ∙ sym answer-here ∙ ap (λ (x : List ℕ). getD x i 0) q ∙ sym ye);
+    }
+
+    -- one that is right
+    pub following-next : {v y t : ℕ} → v ≡ M .answer state (getD w i 0) → y ≡ getD ys i 0 → v ≡ y
+        → t ≡ M .next state (getD w i 0) → Following M w ys s t (i + 1)
+    following-next {v} {y} {t} ve ye q te = record {
+      inside = omega arith;
+      same =
+          ap (answers M s) (one-more i l)
+          ∙ answers-append M s (take i w) (getD w i 0 ∷ [])
+          ∙ ap₂ _++_ (h .same)
+          (answers-cons M (run M s (take i w)) (getD w i 0) []
+          ∙ ap₂ _∷_
+          (ap (λ (x : ℕ). M .answer x (getD w i 0)) (sym (h .at)) ∙ sym ve ∙ q ∙ ye)
+          (answers-none M (M .next (run M s (take i w)) (getD w i 0))))
+          ∙ sym (ap (λ (n : ℕ). take n ys) (add-one i) ∙ take-suc ys i 0 (omega arith));
+      at =
+          te
+          ∙ ap (λ (x : ℕ). M .next x (getD w i 0)) (h .at)
+          ∙ sym
+          (ap (run M s) (one-more i l)
+          ∙ run-append M s (take i w) (getD w i 0 ∷ [])
+          ∙ run-cons M (run M s (take i w)) (getD w i 0) []
+          ∙ run-none M (M .next (run M s (take i w)) (getD w i 0)));
+    }
+
+  -- the end of the word
+  pub following-ends : {state i : ℕ} → Following M w ys s state i → length w ≤ i
+      → Follows M w ys s (record { agrees = true; end = state })
+  following-ends {state} {i} h l =
+      let whole : take i w ≡ w = take-all i w l in
+      let given : take i ys ≡ ys = take-all i ys (omega arith) in
+      record {
+        agrees = λ t. ap (answers M s) (sym whole) ∙ h .same ∙ given;
+        ends = λ t. h .at ∙ ap (run M s) whole;
+        differs = λ t q. true≢false t;
+      }
+
+-- ---- over the states: none before s answers so
+module _ (M : Mealy) (w ys : List ℕ) where
+  pub locating-start : firstState M w ys 0 ≡ none
+  locating-start = first-nowhere M w ys
+
+  module _ {s : ℕ} (h : firstState M w ys s ≡ none) {r : Followed} (f : Follows M w ys s r) where
+    pub locating-found : s < M .n → r .agrees ≡ true → Locates M w ys r
+    locating-found l t = record {
+      found = λ _. (
+        s,
+        ap (firstState M w ys) (meets s (M .n) l)
+            ∙ first-stays M w ys (s + 1) (M .n - (s + 1)) (first-here M w ys s h (f .agrees t)),
+        f .ends t,
+      );
+      missing = λ e. absurd (true≢false (sym t ∙ e));
+    }
+      where
+        meets : (a b : ℕ) → a < b → b ≡ a + 1 + (b - (a + 1))
+        meets a b k = omega arith
+
+    pub locating-next : r .agrees ≡ false → firstState M w ys (s + 1) ≡ none
+    locating-next e = first-passed M w ys s h (f .differs e)
+
+  pub locating-none : {s : ℕ} → firstState M w ys s ≡ none → s ≡ M .n → {e : ℕ}
+      → Locates M w ys (record { agrees = false; end = e })
+  locating-none h e = record {
+    found = λ t. absurd (true≢false (sym t));
+    missing = λ t. ap (firstState M w ys) (sym e) ∙ h;
+  }

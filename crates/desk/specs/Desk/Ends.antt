@@ -1,0 +1,177 @@
+-- The laws of ends: the desk has ended after L + n - 1 answers at the latest, whatever they are, and what comes after
+-- its end changes nothing; and what order and phase say of each other.
+use Prim.Native.Nat.{ℕ, _+_, _-_, _≤_, _<_}
+use mathlib.Core.Path.{_≡_, refl, sym, ap, _∙_}
+use mathlib.Core.Bool.{Bool, true, false, true≢false, cond}
+use mathlib.Core.List.{List, _++_}
+use native.Mathlib.Omega.{arith}
+use lib.Dec.{ltb}
+use lib.ListN.{length, getD, length-append}
+use borrow.Author.Tests.{lt-ltb, ltb-true, ltb-false}
+use Rattle.sheet.specs.Tests.{if-true}
+use Rattle.machine.specs.Machine.{Mealy, answers}
+use Rattle.machine.specs.Machine.Laws.{answers-length}
+use Rattle.machine.specs.CommonPrefix.{agreed, agreed-longer, agreed-differ}
+use Rattle.desk.specs.declared.desk.Order.{Order}
+use Rattle.desk.specs.declared.desk.Order.the-variants.{Command, Home, Stranger}
+use Rattle.desk.specs.declared.desk.Phase.the-variants.{Reading, Driving, Home as HomePhase}
+use Rattle.desk.specs.declared.desk.Phase.the-variants.{Stranger as StrangerPhase}
+use Rattle.desk.specs.Desk.{beganIn, course, orderAt, orderOf, isEnd, stateAfter, phaseFor, phaseOf}
+use Rattle.desk.specs.Desk.Laws.{SeenState, nothing, state, seen, began-more, order-reading, order-none, order-some}
+use Rattle.desk.specs.Desk.Laws.{at-stranger, at-command, at-home, course-short}
+
+-- a command is no end
+command-ends : {A : Type 0} {o : Order} {c : ℕ} → o ≡ Command c → isEnd o ≡ true → A
+command-ends e t = let z : false ≡ true = cc in absurd (true≢false (sym z))
+
+module _ (M : Mealy) (w ys : List ℕ) where
+  -- before the word is answered there is no end
+  pub end-read : isEnd (orderOf M w ys) ≡ true → length w ≤ length ys
+  end-read t = go (ltb (length ys) (length w)) refl
+    where
+      go : (b : Bool) → ltb (length ys) (length w) ≡ b → length w ≤ length ys
+      go true e = command-ends (order-reading M w ys (ltb-true (length ys) (length w) e)) t
+      go false e = ltb-false (length ys) (length w) e
+
+  -- ---- the bound
+  pub order-ends : 1 ≤ M .n → length w + M .n ≤ length ys + 1 → isEnd (orderOf M w ys) ≡ true
+  order-ends one l = go (seen (beganIn M w ys))
+    where
+      read : length w ≤ length ys
+      read = omega arith
+
+      at : (xs : List ℕ) (right : ℕ) → length xs ≤ length ys → (b : Bool) → ltb right (length xs) ≡ b
+          → isEnd (orderAt xs ys right) ≡ true
+      at xs right k true e =
+          let low = ltb-true right (length xs) e in
+          ap isEnd (at-stranger xs ys low (omega arith))
+      at xs right k false e = ap isEnd (at-home xs ys (ltb-false right (length xs) e))
+
+      go : SeenState (beganIn M w ys) → isEnd (orderOf M w ys) ≡ true
+      go (nothing e) = ap isEnd (order-none M w ys read e)
+      go (state s e) =
+          let right = agreed (answers M s (course M w s)) ys in
+          ap isEnd (order-some M w ys read e)
+          ∙ at (course M w s) right (omega (arith, course-short M w s one)) (ltb right (length (course M w s))) refl
+
+  -- ---- what comes after an end
+  pub order-repeats : isEnd (orderOf M w ys) ≡ true → (zs : List ℕ) → orderOf M w (ys ++ zs) ≡ orderOf M w ys
+  order-repeats t zs = go (seen (beganIn M w ys))
+    where
+      read : length w ≤ length ys
+      read = end-read t
+
+      later : length w ≤ length (ys ++ zs)
+      later = omega (arith, read, length-append ys zs)
+
+      at : (s : ℕ) (xs : List ℕ) (b d : Bool) → ltb (agreed (answers M s xs) ys) (length xs) ≡ b
+          → ltb (agreed (answers M s xs) ys) (length ys) ≡ d
+          → isEnd (orderAt xs ys (agreed (answers M s xs) ys)) ≡ true
+          → orderAt xs (ys ++ zs) (agreed (answers M s xs) (ys ++ zs)) ≡ orderAt xs ys (agreed (answers M s xs) ys)
+      at s xs true true be de u =
+          let low = ltb-true _ _ be in
+          let inside = ltb-true _ _ de in
+          ap (orderAt xs (ys ++ zs)) (agreed-differ (answers M s xs) ys zs inside)
+          ∙ at-stranger xs (ys ++ zs) low (omega (arith, length-append ys zs))
+          ∙ sym (at-stranger xs ys low inside)
+      at s xs true false be de u = command-ends (at-command xs ys (ltb-true _ _ be) (ltb-false _ _ de)) u
+      at s xs false d be de u =
+          let all = ltb-false _ _ be in
+          ap (orderAt xs (ys ++ zs))
+          (agreed-longer (answers M s xs) ys zs (omega (arith, answers-length M s xs)))
+          ∙ at-home xs (ys ++ zs) all
+          ∙ sym (at-home xs ys all)
+
+      go : SeenState (beganIn M w ys) → orderOf M w (ys ++ zs) ≡ orderOf M w ys
+      go (nothing e) =
+          order-none M w (ys ++ zs) later (began-more M w ys read zs ∙ e) ∙ sym (order-none M w ys read e)
+      go (state s e) =
+          let xs = course M w s in
+          let here = order-some M w ys read e in
+          order-some M w (ys ++ zs) later (began-more M w ys read zs ∙ e)
+          ∙ at s xs (ltb (agreed (answers M s xs) ys) (length xs)) (ltb (agreed (answers M s xs) ys) (length ys)) refl refl
+          (ap isEnd (sym here) ∙ t)
+          ∙ sym here
+
+  -- ---- the phase of an order
+  pub phase-reading : length ys < length w → phaseOf M w ys ≡ Reading (length ys)
+  unfolding phaseOf phaseFor
+  phase-reading l = ap (phaseFor M w ys) (order-reading M w ys l) ∙ if-true _ _ (lt-ltb _ _ l)
+
+  pub phase-home : {n : ℕ} → orderOf M w ys ≡ Home n → phaseOf M w ys ≡ HomePhase n
+  unfolding phaseOf phaseFor
+  phase-home e = ap (phaseFor M w ys) e
+
+  pub phase-stranger : {p : ℕ} → orderOf M w ys ≡ Stranger p → phaseOf M w ys ≡ StrangerPhase p
+  unfolding phaseOf phaseFor
+  phase-stranger e = ap (phaseFor M w ys) e
+
+  -- ---- and what a phase says
+  phase-read-by : (o : Order) {p : ℕ} → phaseFor M w ys o ≡ Reading p → (length ys < length w) × (p ≡ length ys)
+  unfolding phaseFor
+  phase-read-by (Command c) {p} e = go (ltb (length ys) (length w)) refl e
+    where
+      go : (b : Bool) → ltb (length ys) (length w) ≡ b
+          → cond b (Reading (length ys)) (Driving (stateAfter M w (length ys) (beganIn M w ys))) ≡ Reading p
+          → (length ys < length w) × (p ≡ length ys)
+      go true t q = (ltb-true (length ys) (length w) t, cc)
+      go false t q = let z : _≡_ {A = ℕ} 0 1 = cc in absurd (omega arith)
+  phase-read-by (Home n) e = let z : _≡_ {A = ℕ} 0 1 = cc in absurd (omega arith)
+  phase-read-by (Stranger q) e = let z : _≡_ {A = ℕ} 0 1 = cc in absurd (omega arith)
+
+  -- reading: the word is not answered, and the position is the number of answers
+  pub phase-read : {p : ℕ} → phaseOf M w ys ≡ Reading p → (length ys < length w) × (p ≡ length ys)
+  unfolding phaseOf
+  phase-read e = phase-read-by (orderOf M w ys) e
+
+  phase-driven-by : (o : Order) {t : ℕ} → phaseFor M w ys o ≡ Driving t
+      → (length w ≤ length ys) × ((c : ℕ) × (o ≡ Command c))
+  unfolding phaseFor
+  phase-driven-by (Command c) {t} e = (go (ltb (length ys) (length w)) refl e, (c, refl))
+    where
+      go : (b : Bool) → ltb (length ys) (length w) ≡ b
+          → cond b (Reading (length ys)) (Driving (stateAfter M w (length ys) (beganIn M w ys))) ≡ Driving t
+          → length w ≤ length ys
+      go true k q = let z : _≡_ {A = ℕ} 0 1 = cc in absurd (omega arith)
+      go false k q = ltb-false (length ys) (length w) k
+  phase-driven-by (Home n) e = let z : _≡_ {A = ℕ} 0 1 = cc in absurd (omega arith)
+  phase-driven-by (Stranger q) e = let z : _≡_ {A = ℕ} 0 1 = cc in absurd (omega arith)
+
+  -- driving: the word is answered, and a command is ordered
+  pub phase-driven : {t : ℕ} → phaseOf M w ys ≡ Driving t
+      → (length w ≤ length ys) × ((c : ℕ) × (orderOf M w ys ≡ Command c))
+  unfolding phaseOf
+  phase-driven e = phase-driven-by (orderOf M w ys) e
+
+  -- an end: that is ordered
+  phase-end-by : (o : Order) {n : ℕ} → phaseFor M w ys o ≡ HomePhase n → o ≡ Home n
+  unfolding phaseFor
+  phase-end-by (Command c) {n} e = go (ltb (length ys) (length w)) e
+    where
+      go : (b : Bool) → cond b (Reading (length ys)) (Driving (stateAfter M w (length ys) (beganIn M w ys)))
+          ≡ HomePhase n
+          → Command c ≡ Home n
+      go true q = let z : _≡_ {A = ℕ} 0 1 = cc in absurd (omega arith)
+      go false q = let z : _≡_ {A = ℕ} 0 1 = cc in absurd (omega arith)
+  phase-end-by (Home m) e = cc
+  phase-end-by (Stranger q) e = let z : _≡_ {A = ℕ} 0 1 = cc in absurd (omega arith)
+
+  pub phase-at-home : {n : ℕ} → phaseOf M w ys ≡ HomePhase n → orderOf M w ys ≡ Home n
+  unfolding phaseOf
+  phase-at-home e = phase-end-by (orderOf M w ys) e
+
+  phase-strange-by : (o : Order) {p : ℕ} → phaseFor M w ys o ≡ StrangerPhase p → o ≡ Stranger p
+  unfolding phaseFor
+  phase-strange-by (Command c) {p} e = go (ltb (length ys) (length w)) e
+    where
+      go : (b : Bool) → cond b (Reading (length ys)) (Driving (stateAfter M w (length ys) (beganIn M w ys)))
+          ≡ StrangerPhase p
+          → Command c ≡ Stranger p
+      go true q = let z : _≡_ {A = ℕ} 0 1 = cc in absurd (omega arith)
+      go false q = let z : _≡_ {A = ℕ} 0 1 = cc in absurd (omega arith)
+  phase-strange-by (Home m) e = let z : _≡_ {A = ℕ} 0 1 = cc in absurd (omega arith)
+  phase-strange-by (Stranger q) e = cc
+
+  pub phase-at-stranger : {p : ℕ} → phaseOf M w ys ≡ StrangerPhase p → orderOf M w ys ≡ Stranger p
+  unfolding phaseOf
+  phase-at-stranger e = phase-strange-by (orderOf M w ys) e

@@ -1,0 +1,304 @@
+-- The laws of what the desk orders: the state in which a unit began, the order by it, and the order along the course
+-- of a unit whose answers are right so far.
+use Prim.Native.Nat.{ℕ, zero, suc, _+_, _-_, _≤_, _<_}
+use mathlib.Core.Path.{_≡_, refl, sym, ap, ap₂, _∙_}
+use mathlib.Core.Bool.{Bool, true, false, cond}
+use mathlib.Core.List.{List, [], _∷_, _++_, append-assoc, append-nil}
+use mathlib.Core.Option.{Option, none, some, Option·getD, Option·some-ne-none, mem-unique, orElse}
+use native.Mathlib.Omega.{arith}
+use native.Mathlib.Nat.{add-zero}
+use native.Mathlib.Numerals.{add-one}
+use lib.Dec.{ltb}
+use lib.ListN.{length, getD, take, drop, length-append}
+use lib.Seq.{take-append-seam, take-append-le, take-at, getD-append-seam}
+use borrow.Author.Tests.{lt-ltb, le-ltb}
+use Rattle.sheet.specs.Tests.{if-true, if-false}
+use Rattle.machine.specs.Machine.{Mealy, run, answers, Separates, Proper}
+use Rattle.machine.specs.Machine.Laws.{run-none, run-cons, run-append, answers-none, answers-cons, answers-append}
+use Rattle.machine.specs.Machine.Laws.{answers-length, answers-take}
+use Rattle.machine.specs.Causes.{same}
+use Rattle.machine.specs.Causes.Separation.{same-refl, same-equal}
+use Rattle.machine.specs.CommonPrefix.{agreed, agreed-front, agreed-then}
+use Rattle.build.specs.Transfer.{transfer}
+use Rattle.build.specs.Transfer.Laws.{transfer-below, transfer-rest}
+use Rattle.desk.specs.declared.desk.Order.{Order}
+use Rattle.desk.specs.declared.desk.Order.the-variants.{Command, Home, Stranger}
+use Rattle.desk.specs.declared.desk.Phase.{Phase}
+use Rattle.desk.specs.declared.desk.Phase.the-variants.{Reading, Driving, Home as HomePhase, Stranger as StrangerPhase}
+use Rattle.desk.specs.Desk.{stateIf, firstState, beganIn, course, orderAt, orderFrom, orderOf, stateAfter, phaseFor}
+use Rattle.desk.specs.Desk.{phaseOf}
+
+-- ---- the state in which a unit began
+-- a state or none
+pub data SeenState (o : Option ℕ) : Type 0 where
+  nothing : o ≡ none → SeenState o
+  state : (s : ℕ) → o ≡ some s → SeenState o
+
+pub seen : (o : Option ℕ) → SeenState o
+seen none = nothing refl
+seen (some s) = state s refl
+
+-- a state is not none
+pub state-none : {A : Type 0} {o : Option ℕ} {s : ℕ} → o ≡ some s → o ≡ none → A
+state-none {s = s} p q = absurd (Option·some-ne-none s (sym p ∙ q))
+
+module _ (M : Mealy) (w ys : List ℕ) where
+  pub first-nowhere : firstState M w ys 0 ≡ none
+  unfolding firstState
+  first-nowhere = refl
+
+  -- one state more: found before, or here, or still none
+  pub first-before : (m : ℕ) {s : ℕ} → firstState M w ys m ≡ some s → firstState M w ys (m + 1) ≡ some s
+  unfolding firstState orElse
+  first-before m e = ap (firstState M w ys) (add-one m) ∙ (rw e)
+
+  first-at : (m : ℕ) → firstState M w ys m ≡ none → firstState M w ys (m + 1) ≡ stateIf (same (answers M m w) ys) m
+  unfolding firstState orElse
+  first-at m e = ap (firstState M w ys) (add-one m) ∙ (rw e)
+
+  pub first-here : (m : ℕ) → firstState M w ys m ≡ none → answers M m w ≡ ys → firstState M w ys (m + 1) ≡ some m
+  unfolding stateIf
+  first-here m e q =
+      let t : same (answers M m w) ys ≡ true = ap (same (answers M m w)) (sym q) ∙ same-refl (answers M m w) in
+      first-at m e ∙ (rw t)
+
+  pub first-passed : (m : ℕ) → firstState M w ys m ≡ none → (answers M m w ≡ ys → ⊥) → firstState M w ys (m + 1) ≡ none
+  unfolding stateIf
+  first-passed m e d = first-at m e ∙ go (same (answers M m w) ys) refl
+    where
+      go : (t : Bool) → same (answers M m w) ys ≡ t → stateIf t m ≡ none
+      go true q = absurd (d (same-equal (answers M m w) ys q))
+      go false q = refl
+
+  -- what is found is a state that answers so
+  pub first-answers : (m : ℕ) {s : ℕ} → firstState M w ys m ≡ some s → (s < m) × (answers M s w ≡ ys)
+  unfolding firstState orElse stateIf
+  first-answers zero {s} e = state-none e refl
+  first-answers (suc m) {s} e = go (firstState M w ys m) refl (λ r p. first-answers m p) (same (answers M m w) ys) refl e
+    where
+      go : (o : Option ℕ) → firstState M w ys m ≡ o
+          → ((r : ℕ) → firstState M w ys m ≡ some r → (r < m) × (answers M r w ≡ ys))
+          → (t : Bool) → same (answers M m w) ys ≡ t → orElse o (stateIf t m) ≡ some s
+          → (s < suc m) × (answers M s w ≡ ys)
+      go (some r) p h t q f =
+          let here : r ≡ s = cc in
+          let found = h r p in
+          let low : r < m = found .0 in
+          (omega arith, ap (λ (x : ℕ). answers M x w) (sym here) ∙ found .1)
+      go none p h true q f =
+          let here : m ≡ s = cc in
+          (omega arith, ap (λ (x : ℕ). answers M x w) (sym here) ∙ same-equal (answers M m w) ys q)
+      go none p h false q f = state-none f refl
+
+  -- where none is found no state answers so
+  pub first-none : (m : ℕ) → firstState M w ys m ≡ none → (s : ℕ) → s < m → answers M s w ≡ ys → ⊥
+  first-none zero e s l q = omega arith
+  first-none (suc m) e s l q = go (seen (firstState M w ys m)) (first-none m)
+    where
+      again : firstState M w ys (m + 1) ≡ none
+      again = ap (firstState M w ys) (add-one m) ∙ e
+
+      go : SeenState (firstState M w ys m)
+          → (firstState M w ys m ≡ none → (r : ℕ) → r < m → answers M r w ≡ ys → ⊥) → ⊥
+      go (state r p) h = state-none (first-before m p) again
+      go (nothing p) h = last (λ k. h p s k q) (λ k. state-none (first-here m p (rw (← k) q)) again)
+        where
+          last : (s < m → ⊥) → (s ≡ m → ⊥) → ⊥
+          last a b = omega arith
+
+  -- once found it stays
+  pub first-stays : (m k : ℕ) {s : ℕ} → firstState M w ys m ≡ some s → firstState M w ys (m + k) ≡ some s
+  first-stays m zero e = ap (firstState M w ys) (add-zero m) ∙ e
+  first-stays m (suc k) e = ap (firstState M w ys) (add-suc m k) ∙ first-before (m + k) (first-stays m k e)
+    where
+      add-suc : (m k : ℕ) → m + suc k ≡ m + k + 1
+      add-suc m k = omega arith
+
+  -- the word separates: the one state that answers so is found
+  pub first-one : Separates M w → (s : ℕ) → s < M .n → answers M s w ≡ ys → firstState M w ys (M .n) ≡ some s
+  first-one h s l e = go (seen (firstState M w ys (M .n)))
+    where
+      go : SeenState (firstState M w ys (M .n)) → firstState M w ys (M .n) ≡ some s
+      go (nothing p) = absurd (first-none (M .n) p s l e)
+      go (state r p) =
+          let f = first-answers (M .n) p in
+          p ∙ ap some (h r s (f .0) l (f .1 ∙ sym e))
+
+-- ---- the order by it
+module _ (M : Mealy) (w ys : List ℕ) where
+  pub began-is : beganIn M w ys ≡ firstState M w (take (length w) ys) (M .n)
+  unfolding beganIn
+  began-is = refl
+
+  -- later answers change nothing of it
+  pub began-more : length w ≤ length ys → (zs : List ℕ) → beganIn M w (ys ++ zs) ≡ beganIn M w ys
+  unfolding beganIn
+  began-more l zs = ap (λ (x : List ℕ). firstState M w x (M .n)) (take-append-le (length w) ys zs l)
+
+  pub order-reading : length ys < length w → orderOf M w ys ≡ Command (getD w (length ys) 0)
+  unfolding orderOf
+  order-reading l = if-true _ _ (lt-ltb _ _ l)
+
+  pub order-read : length w ≤ length ys → orderOf M w ys ≡ orderFrom M w ys (beganIn M w ys)
+  unfolding orderOf
+  order-read l = if-false _ _ (le-ltb _ _ l)
+
+  pub order-none : length w ≤ length ys → beganIn M w ys ≡ none → orderOf M w ys ≡ Stranger (length w - 1)
+  unfolding orderFrom
+  order-none l e = order-read l ∙ (rw e)
+
+  pub order-some : length w ≤ length ys → {s : ℕ} → beganIn M w ys ≡ some s
+      → orderOf M w ys ≡ orderAt (course M w s) ys (agreed (answers M s (course M w s)) ys)
+  unfolding orderFrom
+  order-some l e = order-read l ∙ (rw e)
+
+module _ (xs ys : List ℕ) {right : ℕ} where
+  pub at-stranger : right < length xs → right < length ys → orderAt xs ys right ≡ Stranger right
+  unfolding orderAt
+  at-stranger l k = if-true _ _ (lt-ltb _ _ l) ∙ if-true _ _ (lt-ltb _ _ k)
+
+  pub at-command : right < length xs → length ys ≤ right → orderAt xs ys right ≡ Command (getD xs right 0)
+  unfolding orderAt
+  at-command l k = if-true _ _ (lt-ltb _ _ l) ∙ if-false _ _ (le-ltb _ _ k)
+
+  pub at-home : length xs ≤ right → orderAt xs ys right ≡ Home (length xs)
+  unfolding orderAt
+  at-home l = if-false _ _ (le-ltb _ _ l)
+
+-- ---- the course
+module _ (M : Mealy) (w : List ℕ) (s : ℕ) where
+  pub course-is : {t : List ℕ} → transfer M (run M s w) (M .start) ≡ some t → course M w s ≡ w ++ t
+  unfolding course
+  course-is e = ap (λ (o : Option (List ℕ)). w ++ Option·getD o []) e
+
+  -- it has at most L + n - 1 commands
+  pub course-short : 1 ≤ M .n → length (course M w s) + 1 ≤ length w + M .n
+  unfolding course
+  course-short p = go (transfer M (run M s w) (M .start)) refl
+    where
+      go : (o : Option (List ℕ)) → transfer M (run M s w) (M .start) ≡ o
+          → length (w ++ Option·getD o []) + 1 ≤ length w + M .n
+      go none e = omega (arith, length-append w [])
+      go (some t) e = omega (arith, length-append w t, transfer-below M (run M s w) (M .start) e)
+
+-- ---- along the course: a unit that began in s was sent the commands v and gave the answers ys, all right, the word's
+-- among them; what is left is the transfer from where it is
+pub record Along (M : Mealy) (w : List ℕ) (s : ℕ) (v rest ys : List ℕ) : Type 0 where
+  pub state : s < M .n
+  pub splits : course M w s ≡ v ++ rest
+  pub long : length w ≤ length v
+  pub answered : ys ≡ answers M s v
+  pub drives : transfer M (run M s v) (M .start) ≡ some rest
+
+module _ (M : Mealy) (w : List ℕ) where
+  -- the word is answered as s does
+  pub along-word : (s : ℕ) → s < M .n → {t : List ℕ} → transfer M (run M s w) (M .start) ≡ some t
+      → Along M w s w t (answers M s w)
+  along-word s l e = record { state = l; splits = course-is M w s e; long = omega arith; answered = refl; drives = e }
+
+  module _ {s : ℕ} {v rest ys : List ℕ} (h : Along M w s v rest ys) where
+    pub along-length : length ys ≡ length v
+    along-length = ap length (h .answered) ∙ answers-length M s v
+
+    pub along-read : length w ≤ length ys
+    along-read = omega (arith, along-length, h .long)
+
+    word-first : take (length w) v ≡ w
+    unfolding course
+    word-first =
+        sym (take-append-le (length w) v rest (h .long))
+        ∙ ap (take (length w)) (sym (h .splits))
+        ∙ take-append-seam w (Option·getD (transfer M (run M s w) (M .start)) [])
+
+    pub along-began : Separates M w → (zs : List ℕ) → beganIn M w (ys ++ zs) ≡ some s
+    along-began separates zs =
+        began-more M w ys along-read zs
+        ∙ began-is M w ys
+        ∙ first-one M w (take (length w) ys) separates s (h .state)
+        (sym (ap (take (length w)) (h .answered) ∙ answers-take M s (length w) v ∙ ap (answers M s) word-first))
+
+    along-order : Separates M w → (zs : List ℕ)
+        → orderOf M w (ys ++ zs) ≡ orderAt (v ++ rest) (ys ++ zs) (agreed (answers M s (v ++ rest)) (ys ++ zs))
+    along-order separates zs =
+        order-some M w (ys ++ zs) (omega (arith, along-read, length-append ys zs)) (along-began separates zs)
+        ∙ ap (λ (xs : List ℕ). orderAt xs (ys ++ zs) (agreed (answers M s xs) (ys ++ zs))) (h .splits)
+
+    -- all of ys agree
+    along-agreed : agreed (answers M s (v ++ rest)) ys ≡ length v
+    along-agreed =
+        ap₂ agreed (answers-append M s v rest) (h .answered)
+        ∙ agreed-front (answers M s v) (answers M (run M s v) rest)
+        ∙ answers-length M s v
+
+    along-now : Separates M w → orderOf M w ys ≡ orderAt (v ++ rest) ys (length v)
+    along-now separates =
+        ap (orderOf M w) (sym (append-nil ys))
+        ∙ along-order separates []
+        ∙ ap (λ (zs : List ℕ). orderAt (v ++ rest) zs (agreed (answers M s (v ++ rest)) zs)) (append-nil ys)
+        ∙ ap (orderAt (v ++ rest) ys) along-agreed
+
+    -- all is sent: home
+    pub along-home : Separates M w → rest ≡ [] → orderOf M w ys ≡ Home (length v)
+    along-home separates e =
+        let whole : length (v ++ rest) ≡ length v = ap length (ap (_++_ v) e ∙ append-nil v) in
+        along-now separates ∙ at-home (v ++ rest) ys (omega arith) ∙ ap Home whole
+
+    -- the next command of the rest
+    module _ (c : ℕ) (u : List ℕ) (re : rest ≡ c ∷ u) where
+      more-left : length v < length (v ++ rest)
+      more-left = omega (arith, length-append v rest, ap length re)
+
+      pub along-command : Separates M w → orderOf M w ys ≡ Command c
+      along-command separates =
+          along-now separates
+          ∙ at-command (v ++ rest) ys more-left (omega (arith, along-length))
+          ∙ ap Command (ap (λ (x : List ℕ). getD (v ++ x) (length v) 0) re ∙ getD-append-seam v c u 0)
+
+      -- a wrong answer to it
+      pub along-differs : Separates M w → (y : ℕ) → (M .answer (run M s v) c ≡ y → ⊥)
+          → orderOf M w (ys ++ (y ∷ [])) ≡ Stranger (length ys)
+      along-differs separates y d =
+          let right : agreed (answers M s (v ++ rest)) (ys ++ (y ∷ [])) ≡ length ys =
+          ap₂ agreed
+          (ap (λ (x : List ℕ). answers M s (v ++ x)) re
+          ∙ answers-append M s v (c ∷ u)
+          ∙ ap₂ _++_ (sym (h .answered)) (answers-cons M (run M s v) c u))
+          refl
+          ∙ agreed-then ys (M .answer (run M s v) c) y (answers M (M .next (run M s v) c) u) [] d in
+          along-order separates (y ∷ [])
+          ∙ ap (orderAt (v ++ rest) (ys ++ (y ∷ []))) right
+          ∙ at-stranger (v ++ rest) (ys ++ (y ∷ [])) (omega (arith, more-left, along-length))
+          (omega (arith, length-append ys (y ∷ [])))
+
+      -- where it leads
+      pub along-reached : run M s (v ++ (c ∷ [])) ≡ M .next (run M s v) c
+      along-reached =
+          run-append M s v (c ∷ []) ∙ run-cons M (run M s v) c [] ∙ run-none M (M .next (run M s v) c)
+
+      -- the right answer to it
+      pub along-next : (y : ℕ) → M .answer (run M s v) c ≡ y → Along M w s (v ++ (c ∷ [])) u (ys ++ (y ∷ []))
+      along-next y e = record {
+        state = h .state;
+        splits = h .splits ∙ ap (_++_ v) re ∙ sym (append-assoc v (c ∷ []) u);
+        long = omega (arith, h .long, length-append v (c ∷ []));
+        answered =
+            ap₂ (λ (a : List ℕ) (b : ℕ). a ++ (b ∷ [])) (h .answered) (sym e)
+            ∙ ap (λ (z : List ℕ). answers M s v ++ (M .answer (run M s v) c ∷ z))
+            (sym (answers-none M (M .next (run M s v) c)))
+            ∙ ap (_++_ (answers M s v)) (sym (answers-cons M (run M s v) c []))
+            ∙ sym (answers-append M s v (c ∷ []));
+        drives =
+            ap (λ (x : ℕ). transfer M x (M .start)) along-reached
+            ∙ transfer-rest M (run M s v) (M .start) c (h .drives ∙ ap some re) .1;
+      }
+
+      -- the phase in which it waits
+      pub along-phase : Separates M w → phaseOf M w ys ≡ Driving (run M s v)
+      unfolding phaseOf phaseFor stateAfter
+      along-phase separates =
+          ap (phaseFor M w ys) (along-command separates)
+          ∙ if-false _ _ (le-ltb _ _ along-read)
+          ∙ ap (λ (o : Option ℕ). Driving (stateAfter M w (length ys) o))
+          (ap (beganIn M w) (sym (append-nil ys)) ∙ along-began separates [])
+          ∙ ap (λ (x : List ℕ). Driving (run M s (take (length ys) x))) (h .splits)
+          ∙ ap (λ (x : List ℕ). Driving (run M s x)) (take-at v rest (length ys) (sym along-length))

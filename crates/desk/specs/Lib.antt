@@ -1,0 +1,4 @@
+pub mod Desk
+pub mod Service
+pub mod Location
+pub mod Stepping

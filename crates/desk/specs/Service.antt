@@ -1,0 +1,67 @@
+-- What `start` and `step` promise (§13.2), the dialogue that they make, and the ends of a desk. The theorems stand in
+-- Service.Dialogue and Service.Homecoming.
+use Prim.Native.Nat.{ℕ, _≤_, _<_}
+use mathlib.Core.Path.{_≡_}
+use mathlib.Core.List.{List, [], _∷_, _++_}
+use mathlib.Core.Option.{Option, none, some}
+use lib.ListN.{length, getD, take}
+use Rattle.sheet.specs.declared.check.Check.the-variants.{Clear}
+use Rattle.sheet.specs.Check.{firstCause, refusedOr}
+use Rattle.sheet.specs.Reader.{content}
+use Rattle.machine.specs.Machine.{meaning}
+use Rattle.machine.specs.Causes.{machineIn}
+use Rattle.build.specs.Building.{connectedCauses}
+use Rattle.desk.specs.declared.desk.Desk.{Desk}
+use Rattle.desk.specs.declared.desk.Order.{Order}
+use Rattle.desk.specs.declared.desk.Order.the-variants.{Command, Home, Stranger}
+use Rattle.desk.specs.declared.desk.Phase.{Phase}
+use Rattle.desk.specs.declared.desk.Phase.the-variants.{Reading, Driving, Home as HomePhase, Stranger as StrangerPhase}
+use Rattle.desk.specs.declared.starting.First.{First}
+use Rattle.desk.specs.declared.starting.First.the-variants.{Command as FirstCommand, Refused as RefusedFirst}
+use Rattle.desk.specs.declared.starting.Started.{Started}
+use Rattle.desk.specs.declared.stepping.Stepped.{Stepped}
+use Rattle.desk.specs.Desk.{orderOf, phaseOf}
+pub mod Dialogue
+pub mod Homecoming
+
+-- what the desk orders of a sheet after the answers ys
+abbrev pub ordered : List ℕ → List ℕ → Order
+ordered s ys = orderOf (machineIn s) (content 2 s) ys
+
+-- the answers ys lead to this desk, on a sheet that is not refused: what each of its parts is then. Answers to the word
+-- are heard until the last of them is in; count and command are kept as long as an answer is waited for
+pub record Reached (s ys : List ℕ) (d : Desk) : Type 0 where
+  pub clear : firstCause (connectedCauses s) ≡ Clear
+  pub machine : meaning (d .machine) ≡ machineIn s
+  pub size : d .size ≡ length (content 2 s)
+  pub word : take (d .size) (d .word) ≡ content 2 s
+  pub phase : d .phase ≡ phaseOf (machineIn s) (content 2 s) ys
+  pub heard : length ys < length (content 2 s) → take (length ys) (d .heard) ≡ ys
+  pub waits : (c : ℕ) → ordered s ys ≡ Command c → (d .count ≡ length ys) × (d .sent ≡ c)
+
+-- ---- start
+-- the answer of start (§13.2): the word's first command, or the first refusal of causes 1 to 6 and 8
+unfoldable pub starting : List ℕ → First
+starting s = refusedOr RefusedFirst (firstCause (connectedCauses s)) (FirstCommand (getD (content 2 s) 0 0))
+
+-- what start promises of a sheet: the specified answer, and where nothing is refused a desk to which no answers lead.
+-- On a refusal the desk is free
+pub record Starts (s : List ℕ) (r : Started) : Type 0 where
+  pub first : r .first ≡ starting s
+  pub desk : firstCause (connectedCauses s) ≡ Clear → Reached s [] (r .desk)
+
+-- ---- step
+-- the end of a desk that has ended
+abbrev pub endOf : Phase → Option Order
+endOf (Reading position) = none
+endOf (Driving state) = none
+endOf (HomePhase n) = some (Home n)
+endOf (StrangerPhase p) = some (Stranger p)
+
+-- what step promises of a desk and an answer y: for every sheet and all answers that lead to the desk, it orders what
+-- is specified after one answer more, and these lead to the new desk; a desk that has ended repeats its end, and stays
+-- as it is. Of a desk to which no answers lead, and which has not ended, order and new desk are free
+pub record Steps (d : Desk) (y : ℕ) (r : Stepped) : Type 0 where
+  pub order : (s ys : List ℕ) → Reached s ys d → r .order ≡ ordered s (ys ++ (y ∷ []))
+  pub desk : (s ys : List ℕ) → Reached s ys d → Reached s (ys ++ (y ∷ [])) (r .desk)
+  pub repeats : (e : Order) → endOf (d .phase) ≡ some e → (r .order ≡ e) × (r .desk ≡ d)

@@ -1,0 +1,227 @@
+-- A unit that equals the sheet up to renaming is brought home: whatever state it began in, its own answers handed in in
+-- order, the desk is never a stranger to it, sends at most L + n - 1 commands, and ends at home with the unit in the
+-- state that is assigned to the start.
+use Prim.Native.Nat.{ℕ, suc, _+_, _-_, _≤_, _<_}
+use mathlib.Core.Path.{_≡_, refl, sym, ap, ap₂, _∙_}
+use mathlib.Core.Bool.{Bool, true, false}
+use mathlib.Core.List.{List, [], _∷_, _++_}
+use native.Mathlib.Omega.{arith}
+use lib.Dec.{ltb}
+use lib.ListN.{length, getD, take, drop, length-append, List·getD-append}
+use lib.Seq.{take-all, take-length, length-take-le, take-suc, drop-cons, drop-length, getD-append-seam}
+use borrow.Author.Tests.{ltb-true, ltb-false}
+use Rattle.sheet.specs.declared.check.Check.the-variants.{Clear}
+use Rattle.sheet.specs.Check.{firstCause}
+use Rattle.sheet.specs.Reader.{content}
+use Rattle.machine.specs.Machine.{Mealy, run, answers, Proper, Distinguishes, Below}
+use Rattle.machine.specs.Machine.Laws.{run-append, answers-append, answers-length, low-append, low-take}
+use Rattle.machine.specs.Causes.{machineIn}
+use Rattle.machine.specs.Unit.{Unit, tableOf, ownAnswers, presentState, Isomorphism}
+use Rattle.machine.specs.Unit.Laws.{assigned-run, assigned-alike}
+use Rattle.build.specs.Building.{connectedCauses, StronglyConnected}
+use Rattle.build.specs.Building.Connection.{clear-proper, clear-distinguishes, clear-strongly}
+use Rattle.desk.specs.declared.desk.Desk.{Desk}
+use Rattle.desk.specs.declared.desk.Order.{Order}
+use Rattle.desk.specs.declared.desk.Order.the-variants.{Command, Home, Stranger}
+use Rattle.desk.specs.declared.starting.First.the-variants.{Command as FirstCommand}
+use Rattle.desk.specs.declared.starting.Started.{Started}
+use Rattle.desk.specs.declared.stepping.Stepped.{Stepped}
+use Rattle.desk.specs.Desk.{Course, course, orderOf}
+use Rattle.desk.specs.Desk.Laws.{order-reading, course-short, along-command, along-home}
+use Rattle.desk.specs.Desk.Agreement.{course-course, course-along}
+use Rattle.desk.specs.Service.{ordered, Starts, Steps}
+use Rattle.desk.specs.Service.Dialogue.{Dialogue, begun, continued, dialogue-reached, dialogue-order}
+
+-- ---- what is said
+-- the dialogue with a unit: start, then each command that is ordered goes to the unit, and its answer to step. The list
+-- is that of the commands sent
+pub data Driven (s : List ℕ) (U : Unit (machineIn s .n) (machineIn s .k)) : List ℕ → Desk → Order → Type 0 where
+  started : {c : ℕ} (r : Started) → Starts s r → r .first ≡ FirstCommand c → Driven s U [] (r .desk) (Command c)
+  sent : {xs : List ℕ} {d : Desk} {c : ℕ} (r : Stepped) → Driven s U xs d (Command c)
+      → Steps d (U .answer (presentState (machineIn s .n) (machineIn s .k) U xs) c) r
+      → Driven s U (xs ++ (c ∷ [])) (r .desk) (r .order)
+
+-- how the dialogue with a unit that equals the sheet up to renaming stands after the commands xs: one more is to be
+-- sent, which is at most the (L + n - 1)-th; or it is at home, after as many commands as it says and at most that many,
+-- and the unit is in the state that is assigned to the start. Stranger is not among them
+pub data Brought (s : List ℕ) (U : Unit (machineIn s .n) (machineIn s .k)) (r : Isomorphism (machineIn s) U)
+    (xs : List ℕ) : Order → Type 0 where
+  under-way : {c : ℕ} → length xs + 1 < length (content 2 s) + machineIn s .n → Brought s U r xs (Command c)
+  at-home : {n : ℕ} → n ≡ length xs → length xs + 1 ≤ length (content 2 s) + machineIn s .n
+      → presentState (machineIn s .n) (machineIn s .k) U xs ≡ r .assigned (machineIn s .start)
+      → Brought s U r xs (Home n)
+
+-- ---- over the definition of the orders
+-- the orders to the answers of a state along its course: its commands, then home
+module _ (M : Mealy) (w : List ℕ) (proper : Proper M) (word : Distinguishes M w) (connected : StronglyConnected M)
+    (s : ℕ) (xs : List ℕ) (h : Course M w s xs) where
+  answered : (i : ℕ) → i ≤ length xs → length (answers M s (take i xs)) ≡ i
+  answered i l = answers-length M s (take i xs) ∙ length-take-le i xs l
+
+  pub course-asks : (i : ℕ) → i < length xs → orderOf M w (answers M s (take i xs)) ≡ Command (getD xs i 0)
+  course-asks i l = go (ltb i (length w)) refl
+    where
+      go : (b : Bool) → ltb i (length w) ≡ b → orderOf M w (answers M s (take i xs)) ≡ Command (getD xs i 0)
+      go true e =
+          let low = ltb-true i (length w) e in
+          let size = answered i (omega arith) in
+          order-reading M w (answers M s (take i xs)) (omega arith)
+          ∙ ap (λ (j : ℕ). Command (getD w j 0)) size
+          ∙ ap Command
+          (sym (ap (λ (x : List ℕ). getD x i 0) (h .commands) ∙ List·getD-append w (h .homeward) 0 i low))
+      go false e =
+          along-command M w
+          (course-along M w proper word connected s xs h i (ltb-false i (length w) e))
+          (getD xs i 0) (drop (suc i) xs) (drop-cons xs i 0 l) (word .separates)
+
+  pub course-home : orderOf M w (answers M s xs) ≡ Home (length xs)
+  course-home =
+      let long : length w ≤ length xs = omega (arith, ap length (h .commands), length-append w (h .homeward)) in
+      let all = take-length xs in
+      ap (λ (x : List ℕ). orderOf M w (answers M s x)) (sym all)
+      ∙ along-home M w (course-along M w proper word connected s xs h (length xs) long) (word .separates) (drop-length xs)
+      ∙ ap (λ (x : List ℕ). Home (length x)) all
+
+-- ---- and of the dialogue
+module _ (s : List ℕ) (U : Unit (machineIn s .n) (machineIn s .k)) where
+  abbrev unit : Mealy
+  unit = tableOf (machineIn s .n) (machineIn s .k) U
+
+  abbrev own : List ℕ → List ℕ
+  own = ownAnswers (machineIn s .n) (machineIn s .k) U
+
+  own-more : (xs : List ℕ) (c : ℕ) → own (xs ++ (c ∷ [])) ≡ own xs ++ (U .answer (run unit (U .u) xs) c ∷ [])
+  unfolding answers
+  own-more xs c = answers-append unit (U .u) xs (c ∷ [])
+
+  -- it is one with the unit's own answers
+  pub driven-dialogue : {xs : List ℕ} {d : Desk} {o : Order} → Driven s U xs d o → Dialogue s (own xs) d o
+  unfolding answers
+  driven-dialogue (started r h e) = begun r h e
+  driven-dialogue (sent {xs} {d} {c} r g h) =
+      rw (own-more xs c) (continued (U .answer (run unit (U .u) xs) c) r (driven-dialogue g) h)
+
+  module _ (iso : Isomorphism (machineIn s) U) (clear : firstCause (connectedCauses s) ≡ Clear) where
+    abbrev M : Mealy
+    M = machineIn s
+
+    abbrev w : List ℕ
+    w = content 2 s
+
+    proper : Proper M
+    proper = clear-proper s clear
+
+    word : Distinguishes M w
+    word = clear-distinguishes s clear
+
+    connected : StronglyConnected M
+    connected = clear-strongly s clear
+
+    -- the state of the sheet in which the unit began
+    first : (b : ℕ) × (b < M .n) × (iso .assigned b ≡ U .u)
+    first = iso .onto (U .u) (U .u-low)
+
+    -- its course
+    all : List ℕ
+    all = course M w (first .0)
+
+    way : Course M w (first .0) all
+    unfolding all
+    way = course-course M w proper word connected (first .0) (first .1)
+
+    all-short : length all + 1 ≤ length w + M .n
+    unfolding all
+    all-short = course-short M w (first .0) (proper .some-states)
+
+    all-low : Below (M .k) all
+    all-low =
+        rw (way .commands)
+        (low-append (M .k) w (way .homeward) (word .commands .low) (way .drives .leads .commands))
+
+    -- to commands of the sheet it gives the answers of that state
+    own-are : (xs : List ℕ) → Below (M .k) xs → own xs ≡ answers M (first .0) xs
+    own-are xs b =
+        ap (λ (x : ℕ). answers unit x xs) (sym (first .2))
+        ∙ assigned-alike M proper U iso xs (first .0) (first .1) b
+
+    own-front : (i : ℕ) → own (take i all) ≡ answers M (first .0) (take i all)
+    own-front i = own-are (take i all) (low-take (M .k) i all all-low)
+
+    asks : (i : ℕ) → i < length all → ordered s (own (take i all)) ≡ Command (getD all i 0)
+    asks i l =
+        ap (ordered s) (own-front i) ∙ course-asks M w proper word connected (first .0) all way i l
+
+    homes : ordered s (own all) ≡ Home (length all)
+    homes = ap (ordered s) (own-are all all-low) ∙ course-home M w proper word connected (first .0) all way
+
+    -- there it is in the state assigned to the start
+    stands : presentState (M .n) (M .k) U all ≡ iso .assigned (M .start)
+    stands =
+        ap (λ (x : ℕ). run unit x all) (sym (first .2))
+        ∙ assigned-run M proper U iso all (first .0) (first .1) all-low
+        ∙ ap (iso .assigned)
+        (ap (run M (first .0)) (way .commands)
+        ∙ run-append M (first .0) w (way .homeward)
+        ∙ way .drives .leads .ends)
+
+    -- the commands sent are those of its course
+    record OnWay (xs : List ℕ) : Type 0 where
+      few : length xs ≤ length all
+      front : xs ≡ take (length xs) all
+
+    -- one command more, where there is one
+    one-more : {xs : List ℕ} {d : Desk} {c : ℕ} → Dialogue s (own xs) d (Command c) → OnWay xs
+        → OnWay (xs ++ (c ∷ []))
+    one-more {xs} {d} {c} g h = go (ltb (length xs) (length all)) refl
+      where
+        is : Command c ≡ ordered s (own (take (length xs) all))
+        is = dialogue-order s g ∙ ap (λ (x : List ℕ). ordered s (own x)) (h .front)
+
+        go : (b : Bool) → ltb (length xs) (length all) ≡ b → OnWay (xs ++ (c ∷ []))
+        go true e =
+            let l = ltb-true (length xs) (length all) e in
+            let same-command : Command c ≡ Command (getD all (length xs) 0) = is ∙ asks (length xs) l in
+            let next : c ≡ getD all (length xs) 0 = cc in
+            let long : length (xs ++ (c ∷ [])) ≡ suc (length xs) = omega (arith, length-append xs (c ∷ [])) in
+            record {
+              few = omega arith;
+              front =
+                  ap₂ (λ (x : List ℕ) (y : ℕ). x ++ (y ∷ [])) (h .front) next
+                  ∙ sym (take-suc all (length xs) 0 l)
+                  ∙ ap (λ (n : ℕ). take n all) (sym long);
+            }
+        go false e =
+            let l = ltb-false (length xs) (length all) e in
+            let z : Command c ≡ Home (length all) =
+            is ∙ ap (λ (x : List ℕ). ordered s (own x)) (take-all (length xs) all l) ∙ homes in
+            let impossible : _≡_ {A = ℕ} 0 1 = cc in
+            absurd (omega arith)
+
+    on-way : {xs : List ℕ} {d : Desk} {o : Order} → Driven s U xs d o → OnWay xs
+    on-way (started r h e) = record { few = omega arith; front = refl }
+    on-way (sent {xs} {d} {c} r g h) = one-more (driven-dialogue g) (on-way g)
+
+    brought : {xs : List ℕ} {d : Desk} {o : Order} → Dialogue s (own xs) d o → OnWay xs → Brought s U iso xs o
+    brought {xs} {d} {o} g h = go (ltb (length xs) (length all)) refl
+      where
+        is : o ≡ ordered s (own (take (length xs) all))
+        is = dialogue-order s g ∙ ap (λ (x : List ℕ). ordered s (own x)) (h .front)
+
+        go : (b : Bool) → ltb (length xs) (length all) ≡ b → Brought s U iso xs o
+        go true e =
+            let l = ltb-true (length xs) (length all) e in
+            rw (is ∙ asks (length xs) l) (under-way (omega (arith, all-short)))
+        go false e =
+            let l = ltb-false (length xs) (length all) e in
+            let whole : take (length xs) all ≡ all = take-all (length xs) all l in
+            let these : xs ≡ all = h .front ∙ whole in
+            rw (is ∙ ap (λ (x : List ℕ). ordered s (own x)) whole ∙ homes)
+            (at-home (sym (ap length these)) (omega (arith, all-short, h .few))
+            (ap (presentState (M .n) (M .k) U) these ∙ stands))
+
+-- the claim (§13.3)
+pub brought-home : (s : List ℕ) (U : Unit (machineIn s .n) (machineIn s .k)) (r : Isomorphism (machineIn s) U)
+    {xs : List ℕ} {d : Desk} {o : Order} → Driven s U xs d o → Brought s U r xs o
+brought-home s U r g =
+    let clear = dialogue-reached s (driven-dialogue s U g) .clear in
+    brought s U r clear (driven-dialogue s U g) (on-way s U r clear g)

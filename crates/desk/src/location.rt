@@ -1,0 +1,63 @@
+// The state in which a unit began to answer the word, by its answers.
+ghost use mathlib.Core.Path.{_≡_};
+ghost use mathlib.Core.List.{List};
+ghost use Prim.Native.Nat.{ℕ};
+ghost use lib.ListN.{length};
+ghost use Rattle.machine.specs.Machine.{tabled, meaning};
+ghost use Rattle.desk.specs.Location.{Follows, Locates};
+use machine::Machine;
+use machine::entry_at;
+use sheet::byte;
+
+// Whether a state answers the word so, and where the word takes it then.
+pub struct Followed {
+    pub agrees: bool,
+    pub end: u8,
+}
+
+// Runs the table from a state along the word as long as its answers are these.
+fn follow(next: &[u8], answer: &[u8], k: u8, w: &[u8], ys: &[u8], s: u8) -> Followed
+    requires { ⌜ length (now w) ≡ length (now ys) ⌝ }
+    ensures { λ r. ⌜
+        ((n start : ℕ)
+        → Follows (tabled n k start (now (next .entry)) (now (answer .entry))) (now (w .entry)) (now (ys .entry)) s r) ⌝ }
+{
+    let mut state = s;
+    let mut i = 0;
+    while i < w.len() {
+        let e = entry_at(k, state, w[i]);
+        if byte(answer, e) != ys[i] {
+            return Followed {
+                agrees: false,
+                end: state,
+            };
+        }
+        state = byte(next, e);
+        i += 1;
+    }
+    Followed {
+        agrees: true,
+        end: state,
+    }
+}
+
+// Finds the least state that answers the word so.
+pub fn locate(m: Machine, w: &[u8], ys: &[u8]) -> Followed
+    requires { ⌜ length (now w) ≡ length (now ys) ⌝ }
+    ensures { λ r. ⌜ Locates (meaning m) (now (w .entry)) (now (ys .entry)) r ⌝ }
+{
+    let next = m.next;
+    let answer = m.answer;
+    let mut s: u8 = 0;
+    while s < m.n {
+        let followed = follow(&next, &answer, m.k, w, ys, s);
+        if followed.agrees {
+            return followed;
+        }
+        s += 1;
+    }
+    Followed {
+        agrees: false,
+        end: 0,
+    }
+}

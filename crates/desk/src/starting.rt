@@ -1,0 +1,54 @@
+// The desk at its first command.
+ghost use Rattle.desk.specs.Service.{Starts};
+use crate::desk::Desk;
+use crate::desk::Phase;
+use build::load_connected;
+use machine::Machine;
+use sheet::Check;
+use sheet::WORD_KIND;
+use sheet::byte;
+use sheet::put;
+use sheet::read;
+
+// The first command, or refused with number and place.
+pub enum First {
+    Command { command: u8 },
+    Refused { number: u8, place: usize },
+}
+
+// The answer, and the desk, which on a refusal is none that step can be used with.
+pub struct Started {
+    pub first: First,
+    pub desk: Desk,
+}
+
+// Makes all checks of a sheet, and gives the desk and the first command.
+pub fn start(sheet: &[u8]) -> Started
+    ensures { λ r. ⌜ Starts (now (sheet .entry)) r ⌝ }
+{
+    let loaded = load_connected(sheet);
+    let check = loaded.check;
+    let machine = loaded.machine;
+    let mut word = [0u8; Machine::WORD];
+    let size = put(read(sheet, WORD_KIND), 0, &mut word);
+    let command = byte(&word, 0);
+    let desk = Desk {
+        machine,
+        word,
+        size: size as u8,
+        heard: [0u8; Machine::WORD],
+        count: 0,
+        sent: command,
+        phase: Phase::Reading { position: 0 },
+    };
+    match check {
+        Check::Clear => Started {
+            first: First::Command { command },
+            desk,
+        },
+        Check::Refused { number, place } => Started {
+            first: First::Refused { number, place },
+            desk,
+        },
+    }
+}
