@@ -5,15 +5,20 @@ use crate::machine::Machine;
 use crate::refusal::Refusal;
 use crate::sheet::sheet_of;
 
-/// The sequence of the specification's §6.3, or cause 8. The word must fit the
-/// machine; whether it separates is not asked here.
+/// The blocks T(0) to T(n - 1) of the specification's §6.2, or cause 8. The word
+/// must fit the machine; whether it separates is not asked here.
+pub fn blocks(machine: &Machine, word: &[u8]) -> Result<Vec<Vec<u8>>, Refusal> {
+    let block = |s: usize| {
+        let transfer = transfer(machine, machine.after(s, word), (s + 1) % machine.n);
+        let transfer = transfer.ok_or(Refusal::new(8, s))?;
+        Ok([word, &transfer].concat())
+    };
+    (0..machine.n).map(block).collect()
+}
+
+/// The sequence of the specification's §6.3, or cause 8.
 pub fn build(machine: &Machine, word: &[u8]) -> Result<Vec<u8>, Refusal> {
-    let mut tests = Vec::new();
-    for s in 0..machine.n {
-        let transfer = transfer(machine, machine.after(s, word), (s + 1) % machine.n)
-            .ok_or(Refusal::new(8, s))?;
-        tests.push([word, &transfer].concat());
-    }
+    let tests = blocks(machine, word)?;
     let mut sequence = tests.concat();
     sequence.extend(&tests[0]);
     let mut present = 1 % machine.n;

@@ -7,6 +7,7 @@ use crate::sheet::{read, Part};
 #[derive(Clone, Copy, Debug, PartialEq, Eq)]
 pub enum Service {
     Building,
+    Desk,
     Certifying,
     Judging,
 }
@@ -15,7 +16,7 @@ impl Service {
     /// How many kinds, from 1 up, the service needs.
     fn needed(self) -> usize {
         match self {
-            Service::Building => 2,
+            Service::Building | Service::Desk => 2,
             Service::Certifying => 3,
             Service::Judging => 4,
         }

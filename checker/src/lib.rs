@@ -6,6 +6,8 @@ pub mod building;
 pub mod certifying;
 pub mod checking;
 pub mod checks;
+pub mod desk;
+pub mod dialogue;
 pub mod judging;
 pub mod known;
 pub mod lines;

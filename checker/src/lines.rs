@@ -1,6 +1,7 @@
 // The lines that the program prints, newline included.
 
 use crate::certifying::Certificate;
+use crate::desk::Order;
 use crate::judging::Verdict;
 use crate::refusal::Refusal;
 use crate::words::Mistake;
@@ -11,6 +12,7 @@ bench, bench judge      judge the sheet on standard input: PASS, WRONG, UNFINISH
 bench certify           certify the sequence of the sheet on standard input: CERTIFIED, OPEN or REFUSED
 bench build             build the sequence of the sheet on standard input: the sheet with it as record 3
 bench read KIND         read the sheet on standard input: the payload of record 1 machine, 2 word, 3 sequence, 4 answers
+bench desk SHEET        bring a unit to its start by the sheet in that file: COMMAND, answers on standard input, HOME or STRANGER
 bench house             the house unit's sheet: machine and word
 bench help, --help, -h  these lines
 ";
@@ -53,5 +55,14 @@ pub fn certified(outcome: Result<Certificate, Refusal>) -> String {
                 Some(open) => format!("OPEN {open} recognised {recognised}\n"),
             }
         }
+    }
+}
+
+/// The line of an order of `bench desk` (§8.1).
+pub fn ordered(order: Order) -> String {
+    match order {
+        Order::Command(command) => format!("COMMAND {command}\n"),
+        Order::Home(commands) => format!("HOME after {commands}\n"),
+        Order::Stranger(answer) => format!("STRANGER at {answer}\n"),
     }
 }

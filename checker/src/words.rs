@@ -5,8 +5,8 @@
 pub const LONGEST: usize = 4095;
 
 /// Every first word that names a service.
-pub const NAMES: [&str; 8] = [
-    "judge", "certify", "build", "read", "house", "help", "--help", "-h",
+pub const NAMES: [&str; 9] = [
+    "judge", "certify", "build", "read", "desk", "house", "help", "--help", "-h",
 ];
 
 pub type Word = Vec<u8>;
@@ -17,6 +17,8 @@ pub enum Service {
     Certify,
     Build,
     Read(u16),
+    /// The word behind it names a file.
+    Desk,
     House,
     Help,
 }
@@ -24,7 +26,7 @@ pub enum Service {
 impl Service {
     /// Whether the service reads a sheet from standard input.
     pub fn takes_sheet(self) -> bool {
-        !matches!(self, Service::House | Service::Help)
+        !matches!(self, Service::Desk | Service::House | Service::Help)
     }
 }
 
@@ -39,10 +41,12 @@ pub enum Mistake {
     KindEmpty,
     KindLong,
     NoKind,
+    SheetEmpty,
+    SheetLong,
 }
 
 impl Mistake {
-    pub const ALL: [Mistake; 8] = [
+    pub const ALL: [Mistake; 10] = [
         Mistake::FirstEmpty,
         Mistake::FirstLong,
         Mistake::NoService,
@@ -51,13 +55,19 @@ impl Mistake {
         Mistake::KindEmpty,
         Mistake::KindLong,
         Mistake::NoKind,
+        Mistake::SheetEmpty,
+        Mistake::SheetLong,
     ];
 
     /// What the program's line says.
     pub fn phrase(self) -> &'static str {
         match self {
-            Mistake::FirstEmpty | Mistake::KindEmpty => "an argument is empty",
-            Mistake::FirstLong | Mistake::KindLong => "an argument is longer than 4095 bytes",
+            Mistake::FirstEmpty | Mistake::KindEmpty | Mistake::SheetEmpty => {
+                "an argument is empty"
+            }
+            Mistake::FirstLong | Mistake::KindLong | Mistake::SheetLong => {
+                "an argument is longer than 4095 bytes"
+            }
             Mistake::NoService => "the first argument names no service",
             Mistake::TooMany => "too many arguments for this service",
             Mistake::TooFew => "too few arguments for this service",
@@ -76,6 +86,8 @@ impl Mistake {
             Mistake::KindEmpty => "KIND empty",
             Mistake::KindLong => "KIND too long",
             Mistake::NoKind => "KIND no number",
+            Mistake::SheetEmpty => "SHEET empty",
+            Mistake::SheetLong => "SHEET too long",
         }
     }
 }
@@ -93,6 +105,7 @@ pub fn service(words: &[Word]) -> Result<Service, Mistake> {
         b"house" => Service::House,
         b"help" | b"--help" | b"-h" => Service::Help,
         b"read" => return reading(rest),
+        b"desk" => return desk(rest),
         _ => return Err(Mistake::NoService),
     };
     match rest {
@@ -108,6 +121,18 @@ fn reading(rest: &[Word]) -> Result<Service, Mistake> {
         [kind] => {
             length(kind, Mistake::KindEmpty, Mistake::KindLong)?;
             decimal(kind).map(Service::Read).ok_or(Mistake::NoKind)
+        }
+        _ => Err(Mistake::TooMany),
+    }
+}
+
+/// The words behind `desk`: one, which is SHEET, any file's name.
+fn desk(rest: &[Word]) -> Result<Service, Mistake> {
+    match rest {
+        [] => Err(Mistake::TooFew),
+        [sheet] => {
+            length(sheet, Mistake::SheetEmpty, Mistake::SheetLong)?;
+            Ok(Service::Desk)
         }
         _ => Err(Mistake::TooMany),
     }
@@ -149,6 +174,7 @@ mod tests {
         assert_eq!(asked(&["certify"]), Ok(Service::Certify));
         assert_eq!(asked(&["build"]), Ok(Service::Build));
         assert_eq!(asked(&["read", "3"]), Ok(Service::Read(3)));
+        assert_eq!(asked(&["desk", "3"]), Ok(Service::Desk));
         assert_eq!(asked(&["house"]), Ok(Service::House));
         for help in ["help", "--help", "-h"] {
             assert_eq!(asked(&[help]), Ok(Service::Help));
@@ -185,6 +211,20 @@ mod tests {
         assert_eq!(asked(&["read"]), Err(Mistake::TooFew));
         assert_eq!(asked(&["read", "", ""]), Err(Mistake::TooMany));
         assert_eq!(asked(&["read", "x", "1"]), Err(Mistake::TooMany));
+        assert_eq!(asked(&["desk"]), Err(Mistake::TooFew));
+        assert_eq!(asked(&["desk", "", ""]), Err(Mistake::TooMany));
+        assert_eq!(asked(&["desk", "x", "1"]), Err(Mistake::TooMany));
+    }
+
+    #[test]
+    fn sheets() {
+        let sheet = |word: &str| asked(&["desk", word]);
+        for word in ["3", "desk", " ", "\n", "/", "..", "\u{e9}"] {
+            assert_eq!(sheet(word), Ok(Service::Desk));
+        }
+        assert_eq!(sheet(""), Err(Mistake::SheetEmpty));
+        assert_eq!(sheet(&"x".repeat(4095)), Ok(Service::Desk));
+        assert_eq!(sheet(&"x".repeat(4096)), Err(Mistake::SheetLong));
     }
 
     #[test]

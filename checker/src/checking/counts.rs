@@ -2,7 +2,9 @@
 // mistake and refusal, and how much was compared.
 
 use super::compare::Call;
+use super::desks::groups;
 use super::driving::Reached;
+use super::tally::Tally;
 use crate::number;
 use crate::words::{Mistake, Service, Word, NAMES};
 use std::collections::BTreeMap;
@@ -19,6 +21,10 @@ const READ: [u64; 3] = [0, 1, 2];
 pub const ENOUGH: usize = 2000;
 /// The same for cases as text.
 pub const ENOUGH_CASES: usize = 100_000;
+/// The same for machines at the desk.
+pub const ENOUGH_DESKS: usize = 300;
+/// The name under which the program's dialogues are counted.
+const DESK: &str = "bench desk";
 
 /// The name under which judging without a word is counted.
 const NO_WORD: &str = "no word";
@@ -37,6 +43,8 @@ pub struct Counts {
     pub built: usize,
     /// Cases as text.
     pub reached: Reached,
+    /// Dialogues of `bench desk`.
+    pub desks: Tally,
     chains: usize,
     certify: BTreeMap<u64, usize>,
     judge: BTreeMap<u64, usize>,
@@ -110,6 +118,11 @@ impl Counts {
         missing
     }
 
+    /// The same for the dialogues of `bench desk`.
+    pub fn desks_missing(&self) -> Vec<String> {
+        self.desks.missing(DESK, groups())
+    }
+
     pub fn summary(&self) -> String {
         let of = |class| self.certify.get(&class).copied().unwrap_or_default();
         format!(
@@ -119,7 +132,7 @@ impl Counts {
              bench, runs by words:{}\n\
              certified {} and open {} in rig_certify\n\
              sheets of fixed lengths {}, built sequences checked {}, fast against naive {}\n\
-             {}units: tried {}, passed {}, told wrong {}; sequences searched for all units {}, \
+             {}{}units: tried {}, passed {}, told wrong {}; sequences searched for all units {}, \
              given up {}",
             row(&self.certify, ""),
             row(&self.judge, ""),
@@ -131,6 +144,7 @@ impl Counts {
             self.lengths,
             self.built,
             self.naive,
+            self.desks.summary(DESK, groups()),
             self.reached.summary(),
             self.units,
             self.units_passed,
@@ -189,12 +203,13 @@ mod tests {
         assert_eq!(counts.program_runs, 3 + words);
     }
 
-    /// Every service and mistake once; `read` alone is a mistake.
+    /// Every service and mistake once; `read` and `desk` alone are mistakes.
     fn ask_everything(counts: &mut Counts) {
         counts.asked(&[], service(&[]));
         for name in NAMES {
             let mut words = vec![name.as_bytes().to_vec()];
-            words.extend((name == "read").then(|| b"3".to_vec()));
+            let takes_one = ["read", "desk"].contains(&name);
+            words.extend(takes_one.then(|| b"3".to_vec()));
             counts.asked(&words, service(&words));
         }
         for mistake in Mistake::ALL {

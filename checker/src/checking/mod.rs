@@ -5,6 +5,7 @@ mod command_lines;
 mod compare;
 mod counts;
 mod damage;
+mod desks;
 mod difference;
 mod documented;
 mod driving;
@@ -25,7 +26,9 @@ mod sequences;
 mod sheets;
 mod spoil;
 mod subjects;
+mod tally;
 mod units;
+mod visitors;
 
 pub use difference::Difference;
 pub use files::files;

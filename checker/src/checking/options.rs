@@ -5,7 +5,8 @@ use std::path::PathBuf;
 
 pub const HELP: &str = "\
 checker [--seed S] [--count C] [--units U] [--programs P] [--words W]
-        [--lengths L] [--cases N] [--random-only] [--directory D] [--spoil NAME]
+        [--lengths L] [--cases N] [--desks M] [--random-only] [--directory D]
+        [--spoil NAME]
 Holds the proved bench against a separately written model.
   --seed S       start of all random choices (default 1)
   --count C      random and damaged sheets (default 150000)
@@ -16,6 +17,8 @@ Holds the proved bench against a separately written model.
   --lengths L    every L-th sheet length from 0 to 40913 (default 1: all)
   --cases N      about so many random cases as text, besides the 65536 of the
                  house unit's table; 0: neither (default 400000)
+  --desks M      machines for the program's desk, each with several dialogues;
+                 0: none, and no files either (default 800)
   --random-only  without what is the same in every run: the documented cases,
                  words of every kind, chains
   --directory D  where the programs, bench and cases, are (default target/bin)
@@ -44,6 +47,7 @@ pub struct Options {
     pub words: usize,
     pub lengths: usize,
     pub cases: usize,
+    pub desks: usize,
     pub random_only: bool,
     pub directory: PathBuf,
     pub spoil: Option<Spoil>,
@@ -59,6 +63,7 @@ impl Default for Options {
             words: 1000,
             lengths: 1,
             cases: 400_000,
+            desks: 800,
             random_only: false,
             directory: PathBuf::from("target/bin"),
             spoil: None,
@@ -111,6 +116,7 @@ fn set(options: &mut Options, name: &str, value: String) -> Result<(), String> {
         "--words" => options.words = number(name, &value, 0)? as usize,
         "--lengths" => options.lengths = number(name, &value, 1)? as usize,
         "--cases" => options.cases = number(name, &value, 0)? as usize,
+        "--desks" => options.desks = number(name, &value, 0)? as usize,
         "--directory" => options.directory = PathBuf::from(value),
         "--spoil" => {
             let spoil = Spoil::named(&value).ok_or(format!("no spoil is called {value}"))?;

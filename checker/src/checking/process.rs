@@ -1,4 +1,4 @@
-// Runs a program: on a sheet, on a text, with an input that it must leave alone,
+// Runs a program: on a sheet, on a text, with an input whose unread rest counts,
 // or several times in a chain.
 
 use crate::words::Word;
@@ -20,7 +20,7 @@ pub struct Printed {
     pub output: Vec<u8>,
     pub error: Vec<u8>,
     pub status: Option<i32>,
-    /// How many bytes of the input are unread, where it must be left alone.
+    /// How many bytes of the input are unread, where they are counted.
     pub left: Option<usize>,
 }
 
@@ -35,7 +35,8 @@ impl From<Output> for Printed {
     }
 }
 
-fn command(program: &Path, words: &[Word]) -> Command {
+/// The program with these words, its outputs piped.
+pub fn command(program: &Path, words: &[Word]) -> Command {
     let mut command = Command::new(program);
     command
         .args(words.iter().map(|word| OsStr::from_bytes(word)))
@@ -86,19 +87,21 @@ fn all_of(from: Option<impl Read>) -> io::Result<Vec<u8>> {
     Ok(bytes)
 }
 
-/// A run that must leave its input alone. The input, which has to fit in a
-/// pipe, stays open until the run has ended, and then the rest is counted.
-pub fn unread(
+/// A run on an input that has to fit in a pipe, and that stays open until the
+/// run has ended, or ends; then what is unread is counted.
+pub fn on_pipe(
     program: &Path,
     words: &[Word],
     input: &[u8],
     limit: Duration,
+    open: bool,
 ) -> io::Result<Printed> {
     let (mut reader, mut writer) = io::pipe()?;
     writer.write_all(input)?;
+    let kept = open.then_some(writer);
     let mut child = command(program, words).stdin(reader.try_clone()?).spawn()?;
     wait(&mut child, limit)?;
-    drop(writer);
+    drop(kept);
     let mut left = Vec::new();
     reader.read_to_end(&mut left)?;
     Ok(Printed {
@@ -108,7 +111,7 @@ pub fn unread(
 }
 
 /// Waits for the end; after the time limit the run is ended and it is an error.
-fn wait(child: &mut Child, limit: Duration) -> io::Result<ExitStatus> {
+pub fn wait(child: &mut Child, limit: Duration) -> io::Result<ExitStatus> {
     let start = Instant::now();
     loop {
         if let Some(status) = child.try_wait()? {
@@ -148,7 +151,7 @@ mod tests {
 
     fn unread_by(program: &str, words: &[&[u8]], limit: Duration) -> io::Result<Printed> {
         let words: Vec<Word> = words.iter().map(|word| word.to_vec()).collect();
-        unread(Path::new(program), &words, b"12345", limit)
+        on_pipe(Path::new(program), &words, b"12345", limit, true)
     }
 
     #[test]

@@ -2,9 +2,10 @@
 // output and exit status, and whether it left its input alone.
 
 use super::compare::Comparer;
+use super::desks::{wanted, Wanted};
 use super::difference::{Case, Difference};
 use super::kinds;
-use super::process::{on_sheet, unread, Printed, LIMIT};
+use super::process::{on_pipe, on_sheet, Printed, LIMIT};
 use super::spoil::Spoil;
 use crate::building::build_sheet;
 use crate::known::house_sheet;
@@ -98,7 +99,9 @@ impl Comparer {
         }
         let words = self.spoil.map_or(words, |spoil| spoil.words(words));
         let limit = self.spoil.map_or(LIMIT, Spoil::limit);
-        unread(program, words, sheet, limit)
+        // A dialogue may need the end of its input; no other service awaits it.
+        let open = service(words) != Ok(Service::Desk);
+        on_pipe(program, words, sheet, limit, open)
     }
 
     /// What the program should print.
@@ -115,6 +118,7 @@ impl Comparer {
             }
             Ok(Service::Build) => bytes_or_refusal(build_sheet(sheet)),
             Ok(Service::Read(kind)) => bytes_or_refusal(payload(sheet, kind).map(Vec::from)),
+            Ok(Service::Desk) => desk(&words[1], sheet),
             Ok(Service::House) => printed(house_sheet(), "", Some(sheet)),
             Ok(Service::Help) => printed(lines::HELP, "", Some(sheet)),
             Err(mistake) => printed("", lines::mistaken(mistake), Some(sheet)),
@@ -130,6 +134,17 @@ fn printed(output: impl Into<Vec<u8>>, error: impl Into<Vec<u8>>, left: Option<&
         status: Some(0),
         left: left.map(<[u8]>::len),
     }
+}
+
+/// A dialogue on this input, with the file of this name; here no line is so long
+/// that it is open how far it is read.
+fn desk(name: &[u8], input: &[u8]) -> Printed {
+    let Wanted {
+        output,
+        error,
+        read,
+    } = wanted(name, input);
+    printed(output, error, Some(&input[*read.end()..]))
 }
 
 /// Bytes go to standard output, a refusal's line to standard error.

@@ -1,8 +1,8 @@
 // One run: what is the same in every run, then words, random sheets, units, all
-// lengths and cases as text.
+// lengths, cases as text and the desk.
 
 use super::compare::Comparer;
-use super::counts::{Counts, ENOUGH, ENOUGH_CASES};
+use super::counts::{Counts, ENOUGH, ENOUGH_CASES, ENOUGH_DESKS};
 use super::difference::{Case, Difference};
 use super::exhaustive::agreeing_units;
 use super::options::Options;
@@ -28,6 +28,7 @@ pub fn run(options: &Options) -> Result<Counts, Difference> {
     comparer.subjects(options)?;
     comparer.lengths(options.seed, options.lengths, &options.directory)?;
     comparer.cases(options)?;
+    comparer.desks(options)?;
     let missing = missing(&comparer.counts, options);
     if !missing.is_empty() {
         let text = format!("never occurred in this run: {}", missing.join(", "));
@@ -45,6 +46,9 @@ fn missing(counts: &Counts, options: &Options) -> Vec<String> {
     }
     if options.cases >= ENOUGH_CASES {
         missing.extend(counts.reached.missing(fixed));
+    }
+    if options.desks >= ENOUGH_DESKS {
+        missing.extend(counts.desks_missing());
     }
     missing
 }

@@ -1,6 +1,7 @@
 // Spoils what the bench answered, on purpose, before it is compared: shows
 // that the checker can fail. Not used in a real run.
 
+use super::desks::DeskSpoil;
 use super::driving::CasesSpoil;
 use super::process::{Printed, LIMIT};
 use crate::lines::mistaken;
@@ -45,6 +46,7 @@ pub enum Spoil {
     ChainOpen,
     ErrorNoise,
     Status,
+    Desk(DeskSpoil),
     Cases(CasesSpoil),
 }
 
@@ -104,7 +106,9 @@ impl Spoil {
     pub fn named(name: &str) -> Option<Spoil> {
         let found = NAMES.iter().find(|(known, _)| *known == name);
         let found = found.map(|(_, spoil)| *spoil);
-        found.or_else(|| CasesSpoil::named(name).map(Spoil::Cases))
+        found
+            .or_else(|| DeskSpoil::named(name).map(Spoil::Desk))
+            .or_else(|| CasesSpoil::named(name).map(Spoil::Cases))
     }
 
     /// A line for each: its name, and `fixed` behind it where only the cases
@@ -114,7 +118,7 @@ impl Spoil {
             Spoil::ChainOpen => format!("{name} fixed"),
             _ => String::from(*name),
         });
-        own.chain(CasesSpoil::names())
+        own.chain(DeskSpoil::names()).chain(CasesSpoil::names())
     }
 
     /// Spoils what a C function left.
@@ -236,6 +240,14 @@ impl Spoil {
         match self {
             Spoil::InputAwaited => SOON,
             _ => LIMIT,
+        }
+    }
+
+    /// The way for `bench desk`, if it is one.
+    pub fn desk(self) -> Option<DeskSpoil> {
+        match self {
+            Spoil::Desk(way) => Some(way),
+            _ => None,
         }
     }
 

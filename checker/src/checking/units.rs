@@ -96,7 +96,7 @@ fn several_entries(random: &mut Random, machine: &Machine) -> Unit {
 }
 
 /// Any table of at most n states, with answers that the machine gives too.
-fn random_unit(random: &mut Random, machine: &Machine) -> Unit {
+pub fn random_unit(random: &mut Random, machine: &Machine) -> Unit {
     let states = random.range(1, machine.n);
     let mut table = table(random, states, machine.k);
     for answer in &mut table.answer {
@@ -109,6 +109,13 @@ fn random_unit(random: &mut Random, machine: &Machine) -> Unit {
 /// The machine under other names, the start renamed with them.
 fn renamed(random: &mut Random, machine: &Machine) -> Unit {
     let name = permutation(random, machine.n);
+    let table = renamed_by(machine, &name);
+    let start = name[0];
+    Unit { table, start }
+}
+
+/// The machine under these names.
+pub fn renamed_by(machine: &Machine, name: &[usize]) -> Machine {
     let mut table = machine.clone();
     for s in 0..machine.n {
         for command in 0..machine.k {
@@ -117,8 +124,7 @@ fn renamed(random: &mut Random, machine: &Machine) -> Unit {
             table.answer[to] = machine.answer[from];
         }
     }
-    let start = name[0];
-    Unit { table, start }
+    table
 }
 
 /// The machine, renamed or not, standing in another state at the start.
@@ -129,7 +135,7 @@ fn moved(random: &mut Random, machine: &Machine) -> Unit {
 }
 
 /// One state less; what led there leads to any other state.
-fn left_out(random: &mut Random, machine: &Machine) -> Unit {
+pub fn left_out(random: &mut Random, machine: &Machine) -> Unit {
     let gone = random.below(machine.n);
     without(machine, gone, || random.below(machine.n - 1))
 }

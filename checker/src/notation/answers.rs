@@ -6,6 +6,7 @@ use super::reader::Unreadable;
 use crate::building::{build_into, transfer};
 use crate::certifying::{Certificate, Certifier};
 use crate::checks::load;
+use crate::desk::{Desk, Order};
 use crate::judging::Verdict;
 use crate::known::house_entry;
 use crate::machine::{LONGEST_SEQUENCE, LONGEST_WORD, MOST_COMMANDS, MOST_STATES};
@@ -51,6 +52,7 @@ impl Answerer {
             },
             Question::Part { kind, sheet } => handed_back(sheet, *kind),
             Question::Transfer { from, to, sheet } => transferred(sheet, *from, *to),
+            Question::Desk { sheet, answers } => dialogue(sheet, answers),
             Question::House { state, command } => {
                 let (next, answer) = house_entry(*state, *command);
                 format!("next {next} answer {answer}")
@@ -118,5 +120,24 @@ fn transferred(sheet: &[u8], from: u8, to: u8) -> String {
             Some(commands) => format!("commands {}", written(&commands)),
             None => String::from("none"),
         },
+    }
+}
+
+/// The order for the first command and for each answer.
+fn dialogue(sheet: &[u8], answers: &[u8]) -> String {
+    match Desk::open(sheet) {
+        Err(refusal) => refused(refusal),
+        Ok(desk) => {
+            let orders: Vec<String> = desk.orders(answers).into_iter().map(ordered).collect();
+            orders.join(" ")
+        }
+    }
+}
+
+fn ordered(order: Order) -> String {
+    match order {
+        Order::Command(command) => format!("command {command}"),
+        Order::Home(commands) => format!("home after {commands}"),
+        Order::Stranger(answer) => format!("stranger at {answer}"),
     }
 }

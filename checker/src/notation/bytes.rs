@@ -6,23 +6,48 @@ use crate::sheet::HEADER;
 /// The most bytes that the parts of a case have together.
 pub const MOST_BYTES: usize = 1_048_576;
 
-/// Reads a part: `-`, or items with a space between them; a record may stand
-/// right behind another.
+/// Reads a case's only part.
 pub fn part(reader: &mut Reader) -> Result<Vec<u8>, Unreadable> {
     let mut bytes = Vec::new();
+    items(reader, &mut bytes, false)?;
+    Ok(bytes)
+}
+
+/// Reads two parts with ` / ` between them.
+pub fn two_parts(reader: &mut Reader) -> Result<(Vec<u8>, Vec<u8>), Unreadable> {
+    let mut first = Vec::new();
+    items(reader, &mut first, true)?;
+    let size = first.len();
+    items(reader, &mut first, false)?;
+    let second = first.split_off(size);
+    Ok((first, second))
+}
+
+/// Adds a part to those before it: `-`, or items with a space between them; a
+/// record may stand right behind another. Where another part follows, the
+/// ` / ` is read too.
+fn items(reader: &mut Reader, bytes: &mut Vec<u8>, another: bool) -> Result<(), Unreadable> {
     if reader.takes(b'-') {
-        return Ok(bytes);
+        return match another {
+            true => b" / ".iter().try_for_each(|&byte| reader.take(byte)),
+            false => Ok(()),
+        };
     }
     loop {
         let is_record = reader.peek() == Some(b'{');
         if is_record {
-            record(reader, &mut bytes)?;
+            record(reader, bytes)?;
         } else {
-            run(reader, &mut bytes)?;
+            run(reader, bytes)?;
         }
-        let joined = is_record && reader.peek() == Some(b'{');
-        if !joined && !reader.takes(b' ') {
-            return Ok(bytes);
+        if is_record && reader.peek() == Some(b'{') {
+            continue;
+        }
+        if !reader.takes(b' ') {
+            return if another { reader.stuck() } else { Ok(()) };
+        }
+        if another && reader.takes(b'/') {
+            return reader.take(b' ');
         }
     }
 }

@@ -135,6 +135,60 @@ fn transferred() {
 }
 
 #[test]
+fn driven() {
+    let twin = |answers: &str| twin("desk", &format!("{{2 0}} / {answers}"));
+    assert_eq!(twin("-"), "command 0");
+    assert_eq!(twin("0"), "command 0 command 0");
+    assert_eq!(twin("0 1"), "command 0 command 0 home after 2");
+    assert_eq!(twin("1"), "command 0 home after 1");
+    assert_eq!(
+        twin("1*3"),
+        ["command 0", &[" home after 1"; 3].concat()].concat()
+    );
+    assert_eq!(twin("5 1"), "command 0 stranger at 0 stranger at 0");
+    assert_eq!(twin("0 0"), "command 0 command 0 stranger at 1");
+    let house = |answers: &str| answer(&format!("desk {HOUSE} {{2 0 1}} / {answers}"));
+    assert_eq!(house("2 6"), "command 0 command 1 home after 2");
+    assert_eq!(
+        house("2 6*2"),
+        "command 0 command 1 home after 2 home after 2"
+    );
+    assert_eq!(house("7 6"), "command 0 command 1 stranger at 1");
+    assert_eq!(
+        answer("desk {1 2 2 1 0 0 5 1 1 1 5}{2 0} / 0"),
+        "refused 8 at 1"
+    );
+    assert_eq!(answer("desk - / -"), "refused 2 at 0");
+    assert_eq!(
+        answer("desk {1 2 2 1 0 0 5 0 1 1 5}{2 1} / {1}"),
+        "refused 6 at 1"
+    );
+}
+
+#[test]
+fn two_parts() {
+    let both = |line: &str| match question(line.as_bytes()) {
+        Ok(Question::Desk { sheet, answers }) => (sheet, answers),
+        other => panic!("{line}: {other:?}"),
+    };
+    assert_eq!(both("desk - / -"), (vec![], vec![]));
+    assert_eq!(both("desk 5*0 / 7*0"), (vec![], vec![]));
+    assert_eq!(both("desk 1 2 / 3 4*2"), (vec![1, 2], vec![3, 4, 4]));
+    let record = vec![1, 0, 0, 0, 2, 0, 9];
+    assert_eq!(both("desk {2 9} / {2 9}"), (record.clone(), record.clone()));
+    assert_eq!(
+        both("desk {2 9} 5 / -"),
+        ([&record[..], &[5]].concat(), vec![])
+    );
+    assert_eq!(
+        both("desk - / 5 {2 9}"),
+        (vec![], [&[5], &record[..]].concat())
+    );
+    let (sheet, answers) = both("desk 0*1048000 / {1 0*570}");
+    assert_eq!((sheet.len(), answers.len()), (1_048_000, 576));
+}
+
+#[test]
 fn looked_up() {
     assert_eq!(answer("house 0 0"), "next 0 answer 31");
     assert_eq!(answer("house 1 2"), "next 3 answer 6");

@@ -1,13 +1,13 @@
 // One case, read from its line.
 
-use super::bytes::{part, MOST_BYTES};
+use super::bytes::{part, two_parts, MOST_BYTES};
 use super::reader::{Reader, Unreadable};
 
 /// The largest buffer that is lent.
 const MOST_ROOM: usize = MOST_BYTES;
 
-const NAMES: [&str; 8] = [
-    "judge", "certify", "build", "refusal", "part", "transfer", "house", "limits",
+const NAMES: [&str; 9] = [
+    "judge", "certify", "build", "refusal", "part", "transfer", "desk", "house", "limits",
 ];
 
 #[derive(Clone, Debug, PartialEq, Eq)]
@@ -18,6 +18,7 @@ pub enum Question {
     Refusal { kind: u16, sheet: Vec<u8> },
     Part { kind: u16, sheet: Vec<u8> },
     Transfer { from: u8, to: u8, sheet: Vec<u8> },
+    Desk { sheet: Vec<u8>, answers: Vec<u8> },
     House { state: u8, command: u8 },
     Limits,
 }
@@ -58,6 +59,11 @@ fn fields(name: &str, reader: &mut Reader) -> Result<Question, Unreadable> {
             to: field(reader, 255)? as u8,
             sheet: sheet(reader)?,
         },
+        "desk" => {
+            reader.take(b' ')?;
+            let (sheet, answers) = two_parts(reader)?;
+            Question::Desk { sheet, answers }
+        }
         "house" => Question::House {
             state: field(reader, 255)? as u8,
             command: field(reader, 255)? as u8,
@@ -86,6 +92,7 @@ impl Question {
             Question::Refusal { .. } => "refusal",
             Question::Part { .. } => "part",
             Question::Transfer { .. } => "transfer",
+            Question::Desk { .. } => "desk",
             Question::House { .. } => "house",
             Question::Limits => "limits",
         }
@@ -100,19 +107,21 @@ impl Question {
             Question::Refusal { kind, .. } | Question::Part { kind, .. } => vec![usize::from(kind)],
             Question::Transfer { from, to, .. } => vec![usize::from(from), usize::from(to)],
             Question::House { state, command } => vec![usize::from(state), usize::from(command)],
-            Question::Limits => Vec::new(),
+            Question::Desk { .. } | Question::Limits => Vec::new(),
         }
     }
 
-    pub fn sheet(&self) -> Option<&[u8]> {
+    /// The parts, the sheet first.
+    pub fn parts(&self) -> Vec<&[u8]> {
         match self {
             Question::Judge { sheet, .. }
             | Question::Certify { sheet, .. }
             | Question::Build { sheet, .. }
             | Question::Refusal { sheet, .. }
             | Question::Part { sheet, .. }
-            | Question::Transfer { sheet, .. } => Some(sheet),
-            Question::House { .. } | Question::Limits => None,
+            | Question::Transfer { sheet, .. } => vec![sheet],
+            Question::Desk { sheet, answers } => vec![sheet, answers],
+            Question::House { .. } | Question::Limits => Vec::new(),
         }
     }
 }

@@ -120,8 +120,28 @@ fn most_bytes() {
     parts_told("0*1048570 {1 5*^1};0*1048569 {1 5 5^};0*1048574 5 5 5^;{9:9 0*104857^1");
 }
 
+#[test]
+fn two_parts() {
+    told("desk^;desk ^;desk^/ -;desk ^/ -;desk ^ / -;des^;desk^s - / -;desk^-");
+    told("desk -^;desk - ^;desk -^/;desk - ^5;desk - ^- / -;desk - /^;desk - /^5;desk - / ^");
+    told("desk 5^;desk 5 ^;desk 5^/ 5;desk 5 /^;desk 5 /^/;desk 5 / ^;desk 5 / ^ 5;desk 5 ^- / 5");
+    told("desk {1}^;desk {1}{2}^;desk {1}^/ 5;desk {1} /^{2};desk {1 5 ^/ 5};desk {1 ^/ 5}");
+    told("desk 5 / 5 ^;desk 5 / 5 ^/ 5;desk 5 / {1} ^/ 5;desk - / -^ / -;desk - / -^/");
+    told("desk 5 / ^/;desk 5 / 25^6;desk 25^6 / 5;desk 5*^ / 5;desk 5 / 5*^;desk 5 / -^ ;desk 5 / 5^-");
+    readable("desk - / -;desk 5 / -;desk - / 5;desk {1} / {1};desk {1}{2} {3} 5 / {4}{4} 5*3");
+}
+
+#[test]
+fn most_bytes_of_two_parts() {
+    readable("desk 0*1048576 / -;desk - / 0*1048576;desk 0*1048575 / 5;desk 0*1048576 5*0 / 5*0");
+    readable("desk 0*1048570 / {1};desk {1 0*1048564} / {1};desk 0*1048500 / 0*76");
+    told("desk 0*1048576 / 5^;desk 0*1048575 / 5 5^;desk 0*1048571 / ^{1};desk 0*1048576 / ^{1}");
+    told("desk 0*1048576 / 5*^1;desk 0*1048500 / 0*7^7;desk 1 / 0*104857^6;desk 0*1048576 5^ / -");
+    told("desk 0*1048576 /^;desk 0*1048576 / ^;desk 0*104857^7 / -;desk 0*1048570 / {1 5^}");
+}
+
 /// Cases whose ends complete whatever a case goes on from.
-const WHOLE: [&str; 10] = [
+const WHOLE: [&str; 13] = [
     "judge 1 -",
     "certify 1 -",
     "build 1 -",
@@ -129,7 +149,10 @@ const WHOLE: [&str; 10] = [
     "part 1 -",
     "transfer 1 1 -",
     "house 1 1",
+    "desk - / -",
     "limits",
+    "desk 0*0 / 0*0",
+    "desk {1:1 0*0} / {1:1 0*0}",
     "refusal 1 0*0",
     "refusal 1 {1:1 0*0}",
 ];

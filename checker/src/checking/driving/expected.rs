@@ -1,9 +1,9 @@
 // What a run with cases as text has to meet, in groups.
 
-/// A group and its names, a comma between them.
-type Group = (&'static str, &'static str);
+use crate::checking::tally::Group;
+use crate::checking::visitors::{STATES, UNITS};
 
-const GROUPS: [Group; 16] = [
+const GROUPS: [Group; 23] = [
     (
         "build",
         "built, refused 1, refused 2, refused 3, refused 4, refused 5, refused 6, refused 8, refused 9",
@@ -35,6 +35,25 @@ const GROUPS: [Group; 16] = [
         "record 1 alone, nonsense behind it, any sheet, next state outside, damaged",
     ),
     ("transfer, states", "both, one outside, both outside"),
+    (
+        "desk",
+        "orders, refused 1, refused 2, refused 3, refused 4, refused 5, refused 6, refused 8",
+    ),
+    (
+        "desk, ends",
+        "home with the word, home later, stranger in the word, stranger later, unfinished",
+    ),
+    (
+        "desk, ends repeated",
+        "home with the word, home later, stranger in the word, stranger later",
+    ),
+    (
+        "desk, answers",
+        "none, too few, as many as needed, more",
+    ),
+    ("desk, units", UNITS),
+    ("desk, any bytes", "asked"),
+    ("desk, copies begun in state", STATES),
     ("house", "inside, outside"),
     ("limits", "asked"),
     (
@@ -52,16 +71,11 @@ const GROUPS: [Group; 16] = [
         "all, empty, without last newline, longest, one byte too long, longer",
     ),
 ];
-/// The chains are the same in every run.
-const CHAINS: Group = ("chains", "house unit, ring, doubling");
+/// What is the same in every run.
+const FIXED: Group = ("chains", "house unit, ring, doubling, longest dialogue");
 
 pub const KINDS: &str = "0, 1, 2, 3, 4, 5, 257, 258, 65535, other";
-
-/// All groups, the chains among them or not.
-pub fn groups(chains: bool) -> impl Iterator<Item = Group> {
-    GROUPS.into_iter().chain(chains.then_some(CHAINS))
-}
-
-pub fn names(names: &'static str) -> impl Iterator<Item = &'static str> {
-    names.split(", ")
+/// All groups, what is the same in every run among them or not.
+pub fn groups(fixed: bool) -> impl Iterator<Item = Group> {
+    GROUPS.into_iter().chain(fixed.then_some(FIXED))
 }

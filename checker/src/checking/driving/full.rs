@@ -7,9 +7,9 @@ use crate::random::Random;
 use crate::sheet::HEADER;
 
 /// What may follow where little or nothing is left.
-const BEHIND: [&str; 16] = [
+const BEHIND: [&str; 20] = [
     "", "{1}", "{1 5}", " 5", " 5*0", " 5*1", " 5*00", " 5*7", " {1}", " {2 5*0}", " {2 7}",
-    " {3 -}", " 25", " 5 5", " 1*0 7", " ",
+    " {3 -}", " 25", " 5 5", " 1*0 7", " ", " / -", " / 5", " / 5*0", " / {1}",
 ];
 
 pub fn full(driver: &mut Driver, random: &mut Random) -> Result<(), Difference> {
@@ -17,12 +17,26 @@ pub fn full(driver: &mut Driver, random: &mut Random) -> Result<(), Difference> 
     if question(line.as_bytes()).is_ok() {
         driver.reached.meet("lines", "full case");
     }
-    driver.try_line(line.as_bytes(), "more than full")
+    driver.try_line(line.as_bytes(), "more than full")?;
+    driver.try_line(two_parts(random).as_bytes(), "more than full")
+}
+
+/// Two parts that leave at most a few bytes, and something behind.
+fn two_parts(random: &mut Random) -> String {
+    let all = MOST_BYTES - random.below(8);
+    let first = match random.below(3) {
+        0 => all,
+        1 => random.below(8),
+        _ => random.below(all),
+    };
+    let behind = [*random.pick(&BEHIND), *random.pick(&BEHIND)].concat();
+    format!("desk 0*{first} / 7*{}{behind}", all - first)
 }
 
 /// Bytes and records that leave at most some ten bytes, and something behind.
 fn line(random: &mut Random) -> String {
-    let mut line = String::from(*random.pick(&["refusal 1", "part 2", "build 3", "transfer 0 0"]));
+    let names = ["refusal 1", "part 2", "build 3", "transfer 0 0", "desk"];
+    let mut line = String::from(*random.pick(&names));
     let mut left = MOST_BYTES - random.below(12);
     if random.once_in(2) {
         let payload = random.below(left - HEADER);

@@ -5,6 +5,7 @@ mod between;
 mod building;
 mod chains;
 mod compare;
+mod desks;
 mod driver;
 mod expected;
 mod full;
@@ -26,6 +27,7 @@ mod unreadable;
 pub use compare::{first_difference, program_difference};
 pub use driver::{LIMIT, NAME};
 pub use reached::Reached;
+pub use sheets::{building as sheet_for_building, for_building};
 pub use spoils::CasesSpoil;
 
 use super::compare::Comparer;
@@ -37,13 +39,15 @@ use driver::Driver;
 type Generator = fn(&mut Driver, &mut Random) -> Result<(), Difference>;
 
 /// One round of cases; what comes several times makes few cases at a time.
-const ROUND: [Generator; 25] = [
+const ROUND: [Generator; 33] = [
     building::every_room,
     marks::marks,
     parts::parts,
     between::between,
+    desks::desks,
     transfers::transfers,
     building::refused,
+    desks::refused,
     marks::marks,
     near::near,
     building::long_rooms,
@@ -51,16 +55,22 @@ const ROUND: [Generator; 25] = [
     marks::marks,
     between::between,
     building::refused,
+    desks::desks,
+    desks::refused,
     parts::parts,
     unreadable::damaged,
     building::refused,
     transfers::transfers,
+    desks::desks,
     marks::marks,
     numbers::numbers,
     between::between,
     building::refused,
+    desks::refused,
     full::full,
     parts::parts,
+    desks::desks,
+    desks::refused,
     unreadable::damaged,
     marks::marks,
 ];
@@ -91,8 +101,10 @@ impl Comparer {
         driver.send()
     }
 
-    /// Whole chains: built, certified and judged.
+    /// Whole chains, built, certified and judged, and the longest dialogue.
     pub fn case_chains(&mut self, options: &Options) -> Result<(), Difference> {
-        chains::chains(&mut Driver::new(options, &mut self.counts.reached))
+        let driver = &mut Driver::new(options, &mut self.counts.reached);
+        chains::chains(driver)?;
+        desks::longest(driver)
     }
 }

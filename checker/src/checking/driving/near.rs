@@ -4,13 +4,15 @@ use super::driver::Driver;
 use crate::checking::difference::Difference;
 use crate::random::Random;
 
-const FIRST: [&str; 12] = [
+const FIRST: [&str; 14] = [
     "judge ",
     "certify ",
     "build ",
     "refusal ",
     "part ",
     "transfer ",
+    "desk ",
+    "desk - / ",
     "house ",
     "limits",
     "judges",

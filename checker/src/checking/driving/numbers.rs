@@ -10,7 +10,7 @@ use crate::random::Random;
 use crate::sheet::HEADER;
 
 /// What stands before a number, its limit, and what stands behind.
-const PLACES: [(&str, usize, &str); 18] = [
+const PLACES: [(&str, usize, &str); 23] = [
     ("judge ", MOST_BYTES, " -"),
     ("certify ", MOST_BYTES, " {1}"),
     ("build ", MOST_BYTES, " {4 }"),
@@ -20,6 +20,11 @@ const PLACES: [(&str, usize, &str); 18] = [
     ("part ", 65_535, " {1 5}{3 7*3}"),
     ("transfer ", 255, " 0 {1 1 1 0 7}"),
     ("transfer 0 ", 255, " {1 1 1 0 7}"),
+    ("desk ", 255, " / 7"),
+    ("desk {1 1 1 0 7}{2 0} / ", 255, " 7*2"),
+    ("desk 5*", MOST_BYTES, " / -"),
+    ("desk - / 5*", MOST_BYTES, ""),
+    ("desk 5*300 / 7*", MOST_BYTES - 300, ""),
     ("house ", 255, " 0"),
     ("house 3 ", 255, ""),
     ("refusal 1 ", 255, ""),

@@ -1,23 +1,22 @@
 // What the program `cases` was asked and answered in a run.
 
-use super::expected::{groups, names, KINDS};
+use super::expected::{groups, KINDS};
+use crate::checking::tally::{names, Tally};
+use crate::desk::{Desk, Order};
 use crate::notation::{lines, Line, Question, Unreadable, MOST_INPUT};
-use std::collections::BTreeMap;
+
+/// The name of what comes from the program.
+const OF: &str = "cases";
 
 #[derive(Default)]
 pub struct Reached {
     pub cases: usize,
-    met: BTreeMap<(&'static str, String), usize>,
+    tally: Tally,
 }
 
 impl Reached {
     pub fn meet(&mut self, group: &'static str, name: &str) {
-        *self.met.entry((group, String::from(name))).or_default() += 1;
-    }
-
-    fn met(&self, group: &'static str, name: &str) -> usize {
-        let met = self.met.get(&(group, String::from(name)));
-        met.copied().unwrap_or_default()
+        self.tally.meet(group, name);
     }
 
     /// A case, its line first, and its answer.
@@ -30,7 +29,30 @@ impl Reached {
         match asked {
             Ok(Question::Part { kind, .. }) => self.meet("part, kinds", kind_name(*kind)),
             Ok(Question::Refusal { kind, .. }) => self.meet("refusal, kinds", kind_name(*kind)),
+            Ok(Question::Desk { sheet, answers }) => self.dialogue(sheet, answers),
             _ => {}
+        }
+    }
+
+    /// How a dialogue went, and how many answers there were for it.
+    fn dialogue(&mut self, sheet: &[u8], answers: &[u8]) {
+        let Ok(desk) = Desk::open(sheet) else {
+            return;
+        };
+        let needed = (0..=answers.len()).find(|&count| desk.order(&answers[..count]).is_end());
+        let end = desk.order(answers);
+        self.meet("desk, ends", ending(&desk, end));
+        self.meet(
+            "desk, answers",
+            match needed {
+                None if answers.is_empty() => "none",
+                None => "too few",
+                Some(needed) if needed == answers.len() => "as many as needed",
+                Some(_) => "more",
+            },
+        );
+        if needed.is_some_and(|needed| needed < answers.len()) {
+            self.meet("desk, ends repeated", ending(&desk, end));
         }
     }
 
@@ -83,24 +105,24 @@ impl Reached {
     }
 
     /// What never occurred though it should have.
-    pub fn missing(&self, chains: bool) -> Vec<String> {
-        let mut missing = Vec::new();
-        for (group, expected) in groups(chains) {
-            let absent = names(expected).filter(|name| self.met(group, name) == 0);
-            missing.extend(absent.map(|name| format!("cases, {group}: {name}")));
-        }
-        missing
+    pub fn missing(&self, fixed: bool) -> Vec<String> {
+        self.tally.missing(OF, groups(fixed))
     }
 
     /// A line for each group.
     pub fn summary(&self) -> String {
-        let mut text = String::new();
-        for (group, expected) in groups(true) {
-            let count = |name| format!(" {name}:{}", self.met(group, name));
-            let row: Vec<String> = names(expected).map(count).collect();
-            text.push_str(&format!("cases, {group}:{}\n", row.join(",")));
-        }
-        text
+        self.tally.summary(OF, groups(true))
+    }
+}
+
+/// The name of an end of the desk.
+fn ending(desk: &Desk, end: Order) -> &'static str {
+    match end {
+        Order::Command(_) => "unfinished",
+        Order::Home(commands) if commands == desk.word.len() => "home with the word",
+        Order::Home(_) => "home later",
+        Order::Stranger(answer) if answer < desk.word.len() => "stranger in the word",
+        Order::Stranger(_) => "stranger later",
     }
 }
 
@@ -115,6 +137,7 @@ fn outcome(question: &Question, answer: &str) -> String {
         Question::Part { .. } if answer.ends_with(" | -") => String::from("empty record"),
         Question::Part { .. } => String::from("bytes"),
         Question::Transfer { .. } if answer == "commands -" => String::from("empty"),
+        Question::Desk { .. } if answer.starts_with("command ") => String::from("orders"),
         Question::House { .. } if answer.starts_with("next 255 ") => String::from("outside"),
         Question::House { .. } => String::from("inside"),
         Question::Limits => String::from("asked"),
@@ -146,12 +169,12 @@ mod tests {
     fn all_is_missed_until_it_occurs() {
         let mut reached = Reached::default();
         let all = reached.missing(true).len();
-        assert_eq!(reached.missing(false).len(), all - 3);
+        assert_eq!(reached.missing(false).len(), all - 4);
         for (group, expected) in groups(true) {
             names(expected).for_each(|name| reached.meet(group, name));
         }
         assert!(reached.missing(true).is_empty());
-        assert_eq!(reached.met.len(), all);
+        assert_eq!(reached.tally.all().count(), all);
     }
 
     #[test]
@@ -161,10 +184,7 @@ mod tests {
         reached.input(input);
         let seen = |line: &[u8], asked: &_, answer: &str| reached.answered(line, asked, answer);
         Answerer::new().text(input, seen).unwrap();
-        let met = reached
-            .met
-            .keys()
-            .map(|(group, name)| format!("{group}: {name}"));
+        let met = reached.tally.all();
         let expected = "inputs: all; inputs: without last newline; limits: asked; lines: answer; \
              lines: case with carriage return; lines: comment; lines: comment with bytes above 127; \
              lines: comment with carriage return; lines: empty; part: empty record; part: refused; \

@@ -13,7 +13,11 @@ pub fn spelled(random: &mut Random, question: &Question) -> Vec<u8> {
     for value in question.numbers() {
         fields.push(number(random, value));
     }
-    fields.extend(question.sheet().map(|sheet| part(random, sheet)));
+    let parts = question.parts();
+    let parts: Vec<String> = parts.iter().map(|bytes| part(random, bytes)).collect();
+    if !parts.is_empty() {
+        fields.push(parts.join(" / "));
+    }
     fields.join(" ").into_bytes()
 }
 

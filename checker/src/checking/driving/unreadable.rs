@@ -30,7 +30,7 @@ pub fn damaged(driver: &mut Driver, random: &mut Random) -> Result<(), Differenc
 pub fn short(random: &mut Random) -> Question {
     let sheet = short_sheet(random);
     let (kind, room) = (random.below(6) as u16, random.below(30));
-    match random.below(12) {
+    match random.below(15) {
         0 => Question::Limits,
         1 => Question::House {
             state: random.below(6) as u8,
@@ -45,6 +45,11 @@ pub fn short(random: &mut Random) -> Question {
         6 => Question::Refusal { kind, sheet },
         7..=8 => Question::Build { room, sheet },
         9 => Question::Certify { room, sheet },
+        10..=12 => {
+            let mut answers = vec![0; random.below(8)];
+            random.fill(&mut answers);
+            Question::Desk { sheet, answers }
+        }
         _ => Question::Judge { room, sheet },
     }
 }

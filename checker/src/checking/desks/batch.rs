@@ -1,0 +1,127 @@
+// Runs of `bench desk` on a whole input: what it writes, and how far it reads.
+
+use super::Desks;
+use crate::checking::difference::{Case, Difference};
+use crate::checking::process::{on_pipe, Printed, LIMIT};
+use crate::checking::program::shown;
+use crate::dialogue::{whole, ENDED, MOST_READ};
+use crate::random::Random;
+use crate::words::Word;
+use std::ffi::OsStr;
+use std::fs::File;
+use std::io::{self, Read};
+use std::ops::RangeInclusive;
+use std::os::unix::ffi::OsStrExt;
+use std::path::Path;
+
+/// What has to be written, and how much of the input be read.
+pub struct Wanted {
+    pub output: Vec<u8>,
+    pub error: Vec<u8>,
+    pub read: RangeInclusive<usize>,
+}
+
+/// The words that ask for the desk with this file.
+pub fn words(path: &Path) -> [Word; 2] {
+    [b"desk".to_vec(), path.as_os_str().as_bytes().to_vec()]
+}
+
+/// The model's dialogue with the file of this name; one that cannot be read is
+/// told with the system's reason.
+pub fn wanted(name: &[u8], input: &[u8]) -> Wanted {
+    match contents(name) {
+        Ok(file) => {
+            let (said, read) = whole(&file, input);
+            let (output, error) = (said.output.into_bytes(), said.error.into_bytes());
+            Wanted {
+                output,
+                error,
+                read,
+            }
+        }
+        Err(error) => {
+            let reason = format!(": {}\n", reason(&error));
+            let (output, error) = (Vec::new(), [name, reason.as_bytes()].concat());
+            let read = 0..=0;
+            Wanted {
+                output,
+                error,
+                read,
+            }
+        }
+    }
+}
+
+/// As much of the file as the program reads.
+fn contents(name: &[u8]) -> io::Result<Vec<u8>> {
+    let mut bytes = Vec::new();
+    let file = File::open(OsStr::from_bytes(name))?;
+    file.take(MOST_READ as u64).read_to_end(&mut bytes)?;
+    Ok(bytes)
+}
+
+/// The C library's words for it, without the number that Rust adds.
+fn reason(error: &io::Error) -> String {
+    let text = error.to_string();
+    let number = text.find(" (os error ");
+    String::from(&text[..number.unwrap_or(text.len())])
+}
+
+impl Wanted {
+    /// Whether an input that stays open is enough for the dialogue to be over.
+    fn needs_no_end(&self, input: &[u8]) -> bool {
+        let lines = &input[..*self.read.end()];
+        let waits = self.error.ends_with(ENDED.as_bytes());
+        !waits && (lines.is_empty() || lines.ends_with(b"\n"))
+    }
+
+    fn is(&self, input: &[u8], got: &Printed) -> bool {
+        let read = got.left.and_then(|left| input.len().checked_sub(left));
+        got.output == self.output
+            && got.error == self.error
+            && got.status == Some(0)
+            && read.is_some_and(|read| self.read.contains(&read))
+    }
+
+    fn shown(&self) -> String {
+        let (output, error) = (self.output.escape_ascii(), self.error.escape_ascii());
+        format!(
+            "output \"{output}\" error \"{error}\" input read {:?}",
+            self.read
+        )
+    }
+}
+
+impl Desks<'_> {
+    /// One run on this input, which stays open or ends; gives the model's.
+    pub fn batch(
+        &mut self,
+        random: &mut Random,
+        case: &Case,
+        path: &Path,
+        input: &[u8],
+    ) -> Result<Wanted, Difference> {
+        let words = words(path);
+        let wanted = wanted(&words[1], input);
+        let open = wanted.needs_no_end(input) && random.once_in(2);
+        let name = if open { "open" } else { "ended" };
+        self.tally.meet("inputs, while it runs", name);
+        self.runs += 1;
+        let differs = |got: &str| {
+            let (path, want) = (path.display(), wanted.shown());
+            let input = input.escape_ascii();
+            case.difference(&format!(
+                "desk {path}, input \"{input}\", {name}: the model gives {want}\nthe program {got}"
+            ))
+        };
+        let got = on_pipe(&self.program, &words, input, LIMIT, open);
+        let mut got = got.map_err(|error| differs(&error.to_string()))?;
+        if let Some(spoil) = self.spoil {
+            spoil.whole(&mut got);
+        }
+        match wanted.is(input, &got) {
+            true => Ok(wanted),
+            false => Err(differs(&shown(&got))),
+        }
+    }
+}

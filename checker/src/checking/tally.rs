@@ -1,0 +1,54 @@
+// What occurred in a run, counted by names in groups.
+
+use std::collections::BTreeMap;
+
+/// A group and the names that have to occur, a comma between them.
+pub type Group = (&'static str, &'static str);
+
+#[derive(Default)]
+pub struct Tally {
+    met: BTreeMap<(&'static str, String), usize>,
+}
+
+impl Tally {
+    pub fn meet(&mut self, group: &'static str, name: &str) {
+        *self.met.entry((group, String::from(name))).or_default() += 1;
+    }
+
+    fn met(&self, group: &'static str, name: &str) -> usize {
+        let met = self.met.get(&(group, String::from(name)));
+        met.copied().unwrap_or_default()
+    }
+
+    /// What never occurred though it should have; `of` says where.
+    pub fn missing(&self, of: &str, groups: impl Iterator<Item = Group>) -> Vec<String> {
+        let mut missing = Vec::new();
+        for (group, expected) in groups {
+            let absent = names(expected).filter(|name| self.met(group, name) == 0);
+            missing.extend(absent.map(|name| format!("{of}, {group}: {name}")));
+        }
+        missing
+    }
+
+    /// A line for each group.
+    pub fn summary(&self, of: &str, groups: impl Iterator<Item = Group>) -> String {
+        let mut text = String::new();
+        for (group, expected) in groups {
+            let count = |name| format!(" {name}:{}", self.met(group, name));
+            let row: Vec<String> = names(expected).map(count).collect();
+            text.push_str(&format!("{of}, {group}:{}\n", row.join(",")));
+        }
+        text
+    }
+
+    /// Every group and name that occurred.
+    #[cfg(test)]
+    pub fn all(&self) -> impl Iterator<Item = String> + '_ {
+        let met = self.met.keys();
+        met.map(|(group, name)| format!("{group}: {name}"))
+    }
+}
+
+pub fn names(names: &'static str) -> impl Iterator<Item = &'static str> {
+    names.split(", ")
+}
