@@ -38,12 +38,22 @@ impl Visitor {
 
 /// A strongly connected machine and a word that separates its states.
 pub fn connected(random: &mut Random) -> (Machine, Vec<u8>) {
+    let (n, k) = match random.below(10) {
+        0..=4 => (random.range(1, 4), random.range(1, 3)),
+        5..=7 => (random.range(2, 6), random.range(1, 4)),
+        _ => (random.range(1, MOST_STATES), random.range(1, MOST_COMMANDS)),
+    };
+    connected_of(random, n, k)
+}
+
+/// The same with the most states.
+pub fn largest(random: &mut Random) -> (Machine, Vec<u8>) {
+    let k = random.range(1, MOST_COMMANDS);
+    connected_of(random, MOST_STATES, k)
+}
+
+fn connected_of(random: &mut Random, n: usize, k: usize) -> (Machine, Vec<u8>) {
     loop {
-        let (n, k) = match random.below(10) {
-            0..=4 => (random.range(1, 4), random.range(1, 3)),
-            5..=7 => (random.range(2, 6), random.range(1, 4)),
-            _ => (random.range(1, MOST_STATES), random.range(1, MOST_COMMANDS)),
-        };
         let (machine, word) = separated(random, n, k);
         if machine.strongly_connected() {
             return (machine, word);

@@ -66,18 +66,18 @@ impl Desks<'_> {
     pub fn input(&mut self, random: &mut Random, answers: &[u8]) -> Vec<u8> {
         let mut lines: Vec<Vec<u8>> = Vec::new();
         lines.extend(answers.iter().map(|&answer| answer_line(random, answer)));
-        if random.once_in(5) {
-            self.tally.meet("inputs, made with", "more behind the end");
-            let count = random.range(1, 5);
-            lines.extend((0..count).map(|_| vec![b'0' + random.below(10) as u8]));
-        }
         for _ in 0..how_many_bad(random) {
             let line = bad_line(random);
-            lines.insert(random.below(lines.len() + 1), line);
+            lines.insert(random.below(lines.len().max(1)), line);
         }
         if random.once_in(6) {
             let line = long_line(random);
             lines.insert(random.below(lines.len() + 1), line);
+        }
+        if random.once_in(5) {
+            self.tally.meet("inputs, made with", "more behind the end");
+            let count = random.range(1, 5);
+            lines.extend((0..count).map(|_| vec![b'0' + random.below(10) as u8]));
         }
         lines.iter().for_each(|line| self.length(line.len()));
         let mut input = lines

@@ -13,6 +13,14 @@ use crate::random::Random;
 use std::io;
 use std::path::Path;
 
+/// How the unit's part of a talk ends.
+#[derive(Clone, Copy, PartialEq, Eq)]
+enum Plan {
+    Answers,
+    EndOfInput,
+    LongLine,
+}
+
 /// A talk with all that was said in it.
 struct Live {
     talk: Talk,
@@ -20,6 +28,8 @@ struct Live {
     dialogue: Dialogue,
     /// Of the lines still to come so many are no answer.
     bad: usize,
+    /// How the input ends, and after how many lines.
+    plan: (Plan, usize),
     answers: Vec<u8>,
     told: usize,
     heard: String,
@@ -49,6 +59,7 @@ impl Desks<'_> {
             visitor,
             dialogue,
             bad: how_many_bad(random),
+            plan: plan(random),
             answers: Vec::new(),
             told: 0,
             heard: String::new(),
@@ -128,6 +139,16 @@ impl Desks<'_> {
     }
 }
 
+/// Mostly the unit answers until the desk ends.
+fn plan(random: &mut Random) -> (Plan, usize) {
+    let lines = random.below(8);
+    match random.below(8) {
+        0 => (Plan::EndOfInput, lines),
+        1 => (Plan::LongLine, lines),
+        _ => (Plan::Answers, 0),
+    }
+}
+
 /// The command of an order's line.
 fn commanded(line: &str) -> Option<u8> {
     let number = line.strip_prefix("COMMAND ")?.strip_suffix('\n')?;
@@ -145,17 +166,21 @@ impl Live {
 
     /// The next line: mostly the unit's answer to this command.
     fn answer(&mut self, random: &mut Random, command: u8) -> Result<Said, String> {
-        if random.once_in(60) {
-            self.talk.hang_up();
-            self.heard += "the input ends\n";
-            return Ok(self.dialogue.hear(Heard::End));
+        let (plan, left) = self.plan;
+        self.plan.1 = left.saturating_sub(1);
+        match plan {
+            Plan::EndOfInput if left == 0 => {
+                self.talk.hang_up();
+                self.heard += "the input ends\n";
+                return Ok(self.dialogue.hear(Heard::End));
+            }
+            Plan::LongLine if left == 0 => {
+                self.say(&long_line(random))?;
+                return Ok(self.dialogue.hear(Heard::Long));
+            }
+            _ => {}
         }
-        if random.once_in(60) {
-            let line = long_line(random);
-            self.say(&line)?;
-            return Ok(self.dialogue.hear(Heard::Long));
-        }
-        if self.bad > 0 && (self.bad > 50 || random.once_in(2)) {
+        if self.bad > 2 || self.bad > 0 && random.once_in(2) {
             self.bad -= 1;
             self.told += 1;
             let line = bad_line(random);

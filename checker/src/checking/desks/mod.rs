@@ -23,7 +23,7 @@ use super::process::LIMIT;
 use super::program::NAME;
 use super::spoil::Spoil;
 use super::tally::Tally;
-use super::visitors::{connected, received, visitors};
+use super::visitors::{connected, largest, received, visitors};
 use crate::desk::Desk;
 use crate::dialogue::{ENDED, NO_ANSWER, TOO_LONG, TOO_MANY};
 use crate::random::Random;
@@ -37,6 +37,8 @@ const TALKS: usize = 2;
 const INPUTS: usize = 3;
 /// One sheet in so many may be refused.
 const REFUSED: usize = 4;
+/// With one machine in so many, of the most states, every unit talks.
+const ALL_TALK: usize = 40;
 
 struct Desks<'a> {
     tally: &'a mut Tally,
@@ -88,17 +90,20 @@ impl Desks<'_> {
     /// One sheet, and units or any input for it.
     fn sheet(&mut self, index: usize) -> std::io::Result<Result<(), Difference>> {
         let random = &mut Random::at(self.seed, 9, index);
+        let all_talk = index.is_multiple_of(ALL_TALK);
         let (kind, sheet) = match random.below(REFUSED) {
-            0 => ("maybe refused", refused(random)),
+            0 if !all_talk => ("maybe refused", refused(random)),
             _ => {
-                let (machine, word) = connected(random);
+                let machine = if all_talk { largest } else { connected };
+                let (machine, word) = machine(random);
                 ("connected", for_building(random, &machine, &word))
             }
         };
         let path = self.scratch.file("sheet", &sheet)?;
         let case = self.case(index, kind, sheet);
+        let talks = if all_talk { usize::MAX } else { TALKS };
         Ok(match Desk::open(&case.sheet) {
-            Ok(desk) => self.units(random, &case, &path, &desk),
+            Ok(desk) => self.units(random, &case, &path, &desk, talks),
             Err(_) => self.whole_input(random, &case, &path, &[1, 2, 3]),
         })
     }
@@ -109,9 +114,10 @@ impl Desks<'_> {
         case: &Case,
         path: &Path,
         desk: &Desk,
+        talks: usize,
     ) -> Result<(), Difference> {
         let mut waiting = visitors(random, &desk.machine);
-        for _ in 0..TALKS {
+        for _ in 0..talks.min(waiting.len()) {
             let visitor = waiting.swap_remove(random.below(waiting.len()));
             self.live(random, case, path, visitor, desk)?;
         }

@@ -10,6 +10,10 @@ pub enum Change {
     More(&'static str),
     /// The first words are others.
     Words(&'static str, &'static str),
+    /// The first such words, wherever they stand, are others.
+    Middle(&'static str, &'static str),
+    /// All from the last such words on is lost.
+    Dropped(&'static str),
     /// The whole answer is another.
     Answer(&'static str, &'static str),
     /// The first byte behind ` | `.
@@ -31,6 +35,10 @@ impl Change {
                 let rest = answer.strip_prefix(start)?;
                 Some(format!("{other}{rest}"))
             }
+            Change::Middle(words, other) => answer
+                .contains(words)
+                .then(|| answer.replacen(words, other, 1)),
+            Change::Dropped(words) => answer.rfind(words).map(|at| String::from(&answer[..at])),
             Change::Answer(start, other) => answer.starts_with(start).then(|| String::from(other)),
             Change::Byte(start) if answer.starts_with(start) => {
                 behind(answer, " | ", |bytes| bytes.first_mut())

@@ -1,7 +1,9 @@
 // Ways to spoil what the program `cases` wrote.
 
 use super::spoiled_answer::spoil_answer;
-use super::spoiled_answer::Change::{self, Answer, Byte, Command, LentByte, More, Moved, Words};
+use super::spoiled_answer::Change::{
+    self, Answer, Byte, Command, Dropped, LentByte, Middle, More, Moved, Words,
+};
 use super::spoiled_run::{answer_kept, comment_lost, count_more, newline_lost, too_long_taken};
 use crate::checking::process::Printed;
 
@@ -11,7 +13,7 @@ pub struct CasesSpoil(usize);
 
 /// A name, how the case begins, its numbers without needless zeros, and what
 /// becomes of the first answer to which the way applies.
-const ANSWERS: [(&str, &str, Change); 36] = [
+const ANSWERS: [(&str, &str, Change); 49] = [
     ("built-length", "build", More("built ")),
     ("built-byte", "build", Byte("built ")),
     ("byte-behind-built", "build", LentByte("built ")),
@@ -45,6 +47,31 @@ const ANSWERS: [(&str, &str, Change); 36] = [
         Answer("none", "commands -"),
     ),
     ("transfer-place", "transfer", More("refused 4 at ")),
+    ("desk-first-command", "desk", More("command ")),
+    ("desk-home-count", "desk", More("home after ")),
+    ("desk-stranger-place", "desk", More("stranger at ")),
+    (
+        "desk-home-for-stranger",
+        "desk",
+        Middle("stranger at ", "home after "),
+    ),
+    (
+        "desk-stranger-for-home",
+        "desk",
+        Middle("home after ", "stranger at "),
+    ),
+    (
+        "desk-drives-on",
+        "desk",
+        Middle("home after 3 home", "home after 3 command 0 home"),
+    ),
+    ("desk-end-lost", "desk", Dropped(" home after")),
+    ("desk-end-once", "desk", Dropped(" stranger at")),
+    ("desk-last-order", "desk", Dropped(" command")),
+    ("desk-cause", "desk", Words("refused 8 ", "refused 6 ")),
+    ("desk-place", "desk", More("refused 8 at ")),
+    ("desk-taken", "desk", Answer("refused ", "command 0")),
+    ("desk-refused", "desk", Answer("command ", "refused 2 at 0")),
     ("house-next", "house 3 2 ", More("next ")),
     ("house-answer", "house 255 255 ", More("answer ")),
     ("limits", "limits", More("sequence ")),
