@@ -12,7 +12,8 @@ bench, bench judge      judge the sheet on standard input: PASS, WRONG, UNFINISH
 bench certify           certify the sequence of the sheet on standard input: CERTIFIED, OPEN or REFUSED
 bench build             build the sequence of the sheet on standard input: the sheet with it as record 3
 bench read KIND         read the sheet on standard input: the payload of record 1 machine, 2 word, 3 sequence, 4 answers
-bench desk SHEET        bring a unit to its start by the sheet in that file: COMMAND, answers on standard input, HOME or STRANGER
+bench desk SHEET        bring a unit to its start by the sheet in that file: COMMAND, answers on standard input, \
+                        HOME or STRANGER
 bench house             the house unit's sheet: machine and word
 bench help, --help, -h  these lines
 ";

@@ -85,10 +85,13 @@ fn empty_and_long() -> Vec<Line> {
     behind.iter().flat_map(with).collect()
 }
 
-/// One to five random words, `read` with one more often.
+/// One to five random words, `read` and `desk` with one more often.
 fn random_line(random: &mut Random) -> Line {
     if random.once_in(3) {
         return vec![b"read".to_vec(), kinds::any(random)];
+    }
+    if random.once_in(8) {
+        return vec![b"desk".to_vec(), kinds::any(random)];
     }
     let words = *random.pick(&[1, 1, 1, 1, 2, 2, 3, 4, 5]);
     (0..words).map(|_| random_word(random)).collect()

@@ -18,7 +18,7 @@ Holds the proved bench against a separately written model.
   --cases N      about so many random cases as text, besides the 65536 of the
                  house unit's table; 0: neither (default 400000)
   --desks M      machines for the program's desk, each with several dialogues;
-                 0: none, and no files either (default 800)
+                 0: none, and no files either (default 500)
   --random-only  without what is the same in every run: the documented cases,
                  words of every kind, chains
   --directory D  where the programs, bench and cases, are (default target/bin)
@@ -63,7 +63,7 @@ impl Default for Options {
             words: 1000,
             lengths: 1,
             cases: 400_000,
-            desks: 800,
+            desks: 500,
             random_only: false,
             directory: PathBuf::from("target/bin"),
             spoil: None,

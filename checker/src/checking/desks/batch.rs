@@ -30,25 +30,25 @@ pub fn words(path: &Path) -> [Word; 2] {
 /// told with the system's reason.
 pub fn wanted(name: &[u8], input: &[u8]) -> Wanted {
     match contents(name) {
-        Ok(file) => {
-            let (said, read) = whole(&file, input);
-            let (output, error) = (said.output.into_bytes(), said.error.into_bytes());
-            Wanted {
-                output,
-                error,
-                read,
-            }
-        }
+        Ok(file) => dialogue(&file, input),
         Err(error) => {
             let reason = format!(": {}\n", reason(&error));
-            let (output, error) = (Vec::new(), [name, reason.as_bytes()].concat());
-            let read = 0..=0;
             Wanted {
-                output,
-                error,
-                read,
+                output: Vec::new(),
+                error: [name, reason.as_bytes()].concat(),
+                read: 0..=0,
             }
         }
+    }
+}
+
+/// The model's dialogue with a file that holds this.
+pub fn dialogue(file: &[u8], input: &[u8]) -> Wanted {
+    let (said, read) = whole(file, input);
+    Wanted {
+        output: said.output.into_bytes(),
+        error: said.error.into_bytes(),
+        read,
     }
 }
 
@@ -93,7 +93,7 @@ impl Wanted {
 }
 
 impl Desks<'_> {
-    /// One run on this input, which stays open or ends; gives the model's.
+    /// One run on this input; gives the model's.
     pub fn batch(
         &mut self,
         random: &mut Random,
@@ -101,8 +101,20 @@ impl Desks<'_> {
         path: &Path,
         input: &[u8],
     ) -> Result<Wanted, Difference> {
-        let words = words(path);
-        let wanted = wanted(&words[1], input);
+        let wanted = wanted(path.as_os_str().as_bytes(), input);
+        self.run(random, case, path, input, &wanted)?;
+        Ok(wanted)
+    }
+
+    /// One run that has to give this; the input stays open or ends.
+    pub fn run(
+        &mut self,
+        random: &mut Random,
+        case: &Case,
+        path: &Path,
+        input: &[u8],
+        wanted: &Wanted,
+    ) -> Result<(), Difference> {
         let open = wanted.needs_no_end(input) && random.once_in(2);
         let name = if open { "open" } else { "ended" };
         self.tally.meet("inputs, while it runs", name);
@@ -114,13 +126,13 @@ impl Desks<'_> {
                 "desk {path}, input \"{input}\", {name}: the model gives {want}\nthe program {got}"
             ))
         };
-        let got = on_pipe(&self.program, &words, input, LIMIT, open);
+        let got = on_pipe(&self.program, &words(path), input, LIMIT, open);
         let mut got = got.map_err(|error| differs(&error.to_string()))?;
         if let Some(spoil) = self.spoil {
             spoil.whole(&mut got);
         }
         match wanted.is(input, &got) {
-            true => Ok(wanted),
+            true => Ok(()),
             false => Err(differs(&shown(&got))),
         }
     }

@@ -18,6 +18,12 @@ const INPUTS: [&[u8]; 3] = [b"2\n21\n6\n6\nmore\n", b"", b"x\n"];
 
 type File = (&'static str, PathBuf);
 
+/// A sheet as long as can be.
+fn longest() -> Vec<u8> {
+    let bytes = [0; LONGEST_SEQUENCE];
+    sheet_of(&ring(), &LONG_WORD, Some(&bytes), Some(&bytes))
+}
+
 impl Desks<'_> {
     pub fn files(&mut self) -> io::Result<Result<(), Difference>> {
         let random = &mut Random::at(self.seed, 9, usize::MAX);
@@ -31,7 +37,7 @@ impl Desks<'_> {
             }
             self.tally.meet("files", name);
         }
-        Ok(Ok(()))
+        self.pieces(&longest())
     }
 
     fn unreadable(&self) -> io::Result<Vec<File>> {
@@ -59,9 +65,8 @@ impl Desks<'_> {
         let (directory, house) = (self.scratch.path(), house_sheet());
         let sheet = self.scratch.file("house", &house)?;
         let strange = OsStr::from_bytes(b"a \xfe\n%d: ");
-        let (link, answers) = (directory.join("link"), [0; LONGEST_SEQUENCE]);
+        let (link, longest) = (directory.join("link"), longest());
         symlink(&sheet, &link)?;
-        let longest = sheet_of(&ring(), &LONG_WORD, Some(&answers), Some(&answers));
         let longer = [&longest[..], &[0]].concat();
         Ok(vec![
             ("any bytes in a name", self.scratch.file(strange, &house)?),

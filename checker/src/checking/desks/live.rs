@@ -175,7 +175,8 @@ impl Live {
                 return Ok(self.dialogue.hear(Heard::End));
             }
             Plan::LongLine if left == 0 => {
-                self.say(&long_line(random))?;
+                let line = long_line(random);
+                self.say(random, &line)?;
                 return Ok(self.dialogue.hear(Heard::Long));
             }
             _ => {}
@@ -184,19 +185,25 @@ impl Live {
             self.bad -= 1;
             self.told += 1;
             let line = bad_line(random);
-            self.say(&line)?;
+            self.say(random, &line)?;
             return Ok(self.dialogue.hear(Heard::Line(&line)));
         }
         let answer = self.visitor.answer(command);
         self.answers.push(answer);
         let line = answer_line(random, answer);
-        self.say(&line)?;
+        self.say(random, &line)?;
         Ok(self.dialogue.hear(Heard::Line(&line)))
     }
 
-    fn say(&mut self, line: &[u8]) -> Result<(), String> {
+    /// Writes the line, in two pieces now and then.
+    fn say(&mut self, random: &mut Random, line: &[u8]) -> Result<(), String> {
         self.heard += &format!("input: \"{}\"\n", line.escape_ascii());
-        let said = self.talk.say(&[line, b"\n"].concat());
+        let line = [line, b"\n"].concat();
+        let (front, back) = match random.below(4) {
+            0 => line.split_at(random.below(line.len())),
+            _ => line.split_at(0),
+        };
+        let said = self.talk.say(front).and_then(|()| self.talk.say(back));
         said.map_err(|error| error.to_string())
     }
 

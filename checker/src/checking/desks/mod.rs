@@ -6,6 +6,7 @@ mod expected;
 mod files;
 mod inputs;
 mod live;
+mod pieces;
 mod scratch;
 mod spoils;
 mod talk;
@@ -15,9 +16,8 @@ pub use expected::groups;
 pub use spoils::DeskSpoil;
 
 use super::compare::Comparer;
-use super::damage::{bytes_damaged, damaged};
 use super::difference::{Case, Difference};
-use super::driving::{for_building, sheet_for_building};
+use super::driving::{for_building, maybe_refused};
 use super::options::Options;
 use super::process::LIMIT;
 use super::program::NAME;
@@ -92,7 +92,7 @@ impl Desks<'_> {
         let random = &mut Random::at(self.seed, 9, index);
         let all_talk = index.is_multiple_of(ALL_TALK);
         let (kind, sheet) = match random.below(REFUSED) {
-            0 if !all_talk => ("maybe refused", refused(random)),
+            0 if !all_talk => ("maybe refused", maybe_refused(random)),
             _ => {
                 let machine = if all_talk { largest } else { connected };
                 let (machine, word) = machine(random);
@@ -151,17 +151,6 @@ impl Desks<'_> {
         self.tally
             .meet("inputs, lines that are no answer", &several(told));
         Ok(())
-    }
-}
-
-/// A sheet that the desk may refuse for any cause.
-fn refused(random: &mut Random) -> Vec<u8> {
-    let sound = sheet_for_building(random);
-    let names = &mut String::new();
-    match random.below(5) {
-        0..=1 => sound,
-        2 => bytes_damaged(random, &sound, names),
-        _ => damaged(random, &sound, names),
     }
 }
 

@@ -8,11 +8,13 @@ pub struct Scratch {
 }
 
 impl Scratch {
-    /// Runs of the checker at the same time have directories of their own.
+    /// Runs of the checker at the same time have directories of their own; one
+    /// that was left behind is removed.
     pub fn new() -> io::Result<Scratch> {
         let name = format!("checker-desk-{}", process::id());
         let directory = env::temp_dir().join(name);
-        fs::create_dir_all(&directory)?;
+        let _ = fs::remove_dir_all(&directory);
+        fs::create_dir(&directory)?;
         Ok(Scratch { directory })
     }
 

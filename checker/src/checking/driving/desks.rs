@@ -3,7 +3,6 @@
 
 use super::driver::Driver;
 use super::sheets;
-use crate::checking::damage::{bytes_damaged, damaged};
 use crate::checking::difference::Difference;
 use crate::checking::visitors::{connected, promised, received, visitors};
 use crate::desk::Desk;
@@ -72,13 +71,7 @@ fn any_bytes(random: &mut Random, known: &[u8]) -> Vec<u8> {
 
 /// A sheet that the desk may refuse for any cause.
 pub fn refused(driver: &mut Driver, random: &mut Random) -> Result<(), Difference> {
-    let sound = sheets::building(random);
-    let names = &mut String::new();
-    let sheet = match random.below(5) {
-        0..=1 => sound,
-        2 => bytes_damaged(random, &sound, names),
-        _ => damaged(random, &sound, names),
-    };
+    let sheet = sheets::maybe_refused(random);
     let answers = any_bytes(random, &[0, 37, 74]);
     ask(driver, random, &sheet, answers)
 }

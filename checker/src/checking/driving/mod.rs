@@ -27,7 +27,7 @@ mod unreadable;
 pub use compare::{first_difference, program_difference};
 pub use driver::{LIMIT, NAME};
 pub use reached::Reached;
-pub use sheets::{building as sheet_for_building, for_building};
+pub use sheets::{for_building, maybe_refused};
 pub use spoils::CasesSpoil;
 
 use super::compare::Comparer;

@@ -1,5 +1,6 @@
 // Sheets for the program's cases.
 
+use crate::checking::damage::{bytes_damaged, damaged};
 use crate::checking::machines::{machine_and_word, separated};
 use crate::checking::sheets::case;
 use crate::machine::Machine;
@@ -47,5 +48,43 @@ pub fn nonsense(random: &mut Random, kind: u16) -> Vec<u8> {
 /// A machine of any size, its word maybe not separating.
 pub fn building(random: &mut Random) -> Vec<u8> {
     let (machine, word) = machine_and_word(random);
+    for_building(random, &machine, &word)
+}
+
+/// A sheet that building and the desk may refuse for any cause.
+pub fn maybe_refused(random: &mut Random) -> Vec<u8> {
+    let names = &mut String::new();
+    let sound = building(random);
+    match random.below(7) {
+        0..=1 => sound,
+        2 => bytes_damaged(random, &sound, names),
+        3 => alike(random),
+        4 => outside(random),
+        _ => damaged(random, &sound, names),
+    }
+}
+
+/// A machine in which two states have the same entries, so that no word
+/// separates them.
+fn alike(random: &mut Random) -> Vec<u8> {
+    let (n, k) = (random.range(2, 6), random.range(1, 3));
+    let (mut machine, word) = separated(random, n, k);
+    let one = random.below(n);
+    let other = (one + random.range(1, n - 1)) % n;
+    machine.next.copy_within(one * k..(one + 1) * k, other * k);
+    machine
+        .answer
+        .copy_within(one * k..(one + 1) * k, other * k);
+    for_building(random, &machine, &word)
+}
+
+/// A next state or a command of the word that there is not.
+fn outside(random: &mut Random) -> Vec<u8> {
+    let (mut machine, mut word) = small(random);
+    let (place, high) = (random.below(machine.next.len()), random.byte());
+    match random.below(2) {
+        0 => machine.next[place] = high.max(machine.n as u8),
+        _ => *word.last_mut().expect("a word has a command") = high.max(machine.k as u8),
+    }
     for_building(random, &machine, &word)
 }

@@ -8,13 +8,15 @@ use crate::notation::MOST_INPUT;
 use crate::random::Random;
 
 /// Long lines: what stands before, the byte that fills them, what stands behind.
-const FILLINGS: [(&[u8], u8, &[u8]); 9] = [
+const FILLINGS: [(&[u8], u8, &[u8]); 11] = [
     (b"#", b'x', b""),
     (b"# ", b' ', b"\n"),
     (b"house 3 ", b'0', b"3"),
     (b"house ", b'0', b" 3\n"),
     (b"refusal 1 {1 ", b'0', b"}{2}\n"),
     (b"build 5 ", b'0', b"6"),
+    (b"desk ", b'0', b"5 / -\n"),
+    (b"desk {1 1 1 0 7}{2 0} / ", b'0', b"7 7"),
     (b"> ", b'>', b"\nlimits"),
     (b"", b'\n', b"limits"),
     (b"x", b'y', b"z"),

@@ -1,0 +1,62 @@
+// A sheet that comes through a named pipe, in pieces: reading it gives less at a
+// time than is asked for.
+
+use super::batch::dialogue;
+use super::Desks;
+use crate::checking::difference::Difference;
+use crate::dialogue::MOST_READ;
+use crate::known::house_sheet;
+use crate::random::Random;
+use std::fs::File;
+use std::io::{self, Write};
+use std::path::{Path, PathBuf};
+use std::process::Command;
+use std::thread::{sleep, spawn};
+use std::time::Duration;
+
+/// Leads the house unit home.
+const INPUT: &[u8] = b"2\n21\n6\n6\n";
+const PAUSE: Duration = Duration::from_micros(200);
+/// The endless pipe is fed with so much; the program has long stopped reading.
+const ENDLESS: usize = 20 * MOST_READ;
+
+impl Desks<'_> {
+    pub fn pieces(&mut self, longest: &[u8]) -> io::Result<Result<(), Difference>> {
+        let random = &mut Random::at(self.seed, 9, usize::MAX - 1);
+        let endless = longest.iter().copied().cycle().take(ENDLESS).collect();
+        let sheets = [
+            ("house unit in pieces", house_sheet(), 5),
+            ("longest in pieces", longest.to_vec(), 4000),
+            ("endless in pieces", endless, 4000),
+        ];
+        for (index, (name, sheet, size)) in sheets.into_iter().enumerate() {
+            let path = self.scratch.path().join(name);
+            feed(&path, sheet.clone(), size)?;
+            let wanted = dialogue(&sheet, INPUT);
+            let case = self.case(index, name, sheet);
+            if let Err(difference) = self.run(random, &case, &path, INPUT, &wanted) {
+                return Ok(Err(difference));
+            }
+            self.tally.meet("files", name);
+        }
+        Ok(Ok(()))
+    }
+}
+
+/// Makes the pipe and writes to it as soon as it is read; nobody waits for that.
+fn feed(path: &Path, sheet: Vec<u8>, size: usize) -> io::Result<()> {
+    let made = Command::new("mkfifo").arg(path).status()?;
+    if !made.success() {
+        return Err(io::Error::other("mkfifo failed"));
+    }
+    let path = PathBuf::from(path);
+    spawn(move || {
+        let mut pipe = File::options().write(true).open(path)?;
+        for piece in sheet.chunks(size) {
+            pipe.write_all(piece)?;
+            sleep(PAUSE);
+        }
+        io::Result::Ok(())
+    });
+    Ok(())
+}
