@@ -1,6 +1,7 @@
 // A case, and a difference found in it, with all that is needed to repeat it.
 
 use std::fmt::Write;
+use std::io;
 
 /// One sheet with where it came from.
 #[derive(Clone, Debug)]
@@ -13,6 +14,13 @@ pub struct Case {
 
 #[derive(Debug)]
 pub struct Difference(pub String);
+
+/// A file or a pipe of the checker's own fails.
+impl From<io::Error> for Difference {
+    fn from(error: io::Error) -> Difference {
+        Difference(format!("the checker's own: {error}"))
+    }
+}
 
 impl Case {
     /// A difference in this case; `what` says where and what the two answers are.

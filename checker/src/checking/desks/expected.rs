@@ -46,3 +46,30 @@ pub fn several(lines: usize) -> String {
         _ => lines.to_string(),
     }
 }
+
+#[cfg(test)]
+mod tests {
+    use super::*;
+    use crate::checking::tally::{names, Tally};
+
+    #[test]
+    fn all_is_missed_until_it_occurs() {
+        let mut tally = Tally::default();
+        let all: usize = groups().map(|(_, expected)| names(expected).count()).sum();
+        assert_eq!(tally.missing("desk", groups()).len(), all);
+        for (group, expected) in groups() {
+            names(expected).for_each(|name| tally.meet(group, name));
+        }
+        assert!(tally.missing("desk", groups()).is_empty());
+        assert_eq!(tally.all().count(), all);
+    }
+
+    #[test]
+    fn numbers_of_lines() {
+        let named = [0, 1, 2, 97, 98, 99, 100].map(several);
+        assert_eq!(
+            named,
+            ["none", "one", "several", "several", "98", "99", "100"]
+        );
+    }
+}

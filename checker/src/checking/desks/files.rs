@@ -19,25 +19,23 @@ const INPUTS: [&[u8]; 3] = [b"2\n21\n6\n6\nmore\n", b"", b"x\n"];
 type File = (&'static str, PathBuf);
 
 /// A sheet as long as can be.
-fn longest() -> Vec<u8> {
+pub fn longest() -> Vec<u8> {
     let bytes = [0; LONGEST_SEQUENCE];
     sheet_of(&ring(), &LONG_WORD, Some(&bytes), Some(&bytes))
 }
 
 impl Desks<'_> {
-    pub fn files(&mut self) -> io::Result<Result<(), Difference>> {
+    pub fn files(&mut self) -> Result<(), Difference> {
         let random = &mut Random::at(self.seed, 9, usize::MAX);
         let files = [self.unreadable()?, self.readable()?].concat();
         for (index, (name, path)) in files.into_iter().enumerate() {
             let case = self.case(index, name, Vec::new());
             for input in INPUTS {
-                if let Err(difference) = self.batch(random, &case, &path, input) {
-                    return Ok(Err(difference));
-                }
+                self.batch(random, &case, &path, input)?;
             }
             self.tally.meet("files", name);
         }
-        self.pieces(&longest())
+        Ok(())
     }
 
     fn unreadable(&self) -> io::Result<Vec<File>> {

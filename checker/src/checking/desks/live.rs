@@ -1,6 +1,7 @@
 // Dialogues with `bench desk` line by line: an answer is written only after the
-// command has come, and what a line is told before the next one is written.
+// command has come, and the next line only after what is told of this one.
 
+use super::batch::words;
 use super::expected::several;
 use super::inputs::{answer_line, bad_line, how_many_bad, long_line};
 use super::talk::Talk;
@@ -51,8 +52,7 @@ impl Desks<'_> {
         let Some(dialogue) = dialogue else {
             return Err(case.difference("the checker's own: refused"));
         };
-        let words = super::batch::words(path);
-        let talk = Talk::start(&self.program, &words, self.limit())
+        let talk = Talk::start(&self.program, &words(path), self.limit())
             .map_err(|error| case.difference(&error.to_string()))?;
         let mut live = Live {
             talk,
@@ -90,11 +90,8 @@ impl Desks<'_> {
         }
         live.closed()?;
         let end = desk.order(&live.answers);
-        let name = ended(
-            desk.word.len(),
-            said.output.as_bytes(),
-            said.error.as_bytes(),
-        );
+        let (output, error) = (said.output.as_bytes(), said.error.as_bytes());
+        let name = ended(desk.word.len(), output, error);
         self.tally.meet("talks", &name);
         self.tally
             .meet("talks, lines that are no answer", &several(live.told));

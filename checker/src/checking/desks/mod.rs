@@ -1,5 +1,5 @@
-// The program `bench desk`: dialogues line by line with units, whole inputs at
-// once, and files that hold no sheet.
+// The program `bench desk` (§8.2): dialogues with units line by line and on whole
+// inputs, and the files that SHEET may name.
 
 mod batch;
 mod expected;
@@ -55,19 +55,17 @@ impl Comparer {
         if options.desks == 0 {
             return Ok(());
         }
-        let failed = |error: std::io::Error| Difference(format!("the checker's files: {error}"));
         let mut desks = Desks {
             tally: &mut self.counts.desks,
             runs: 0,
             seed: options.seed,
             program: options.directory.join(NAME),
             spoil: options.spoil.and_then(Spoil::desk),
-            scratch: Scratch::new().map_err(failed)?,
+            scratch: Scratch::new()?,
         };
-        desks.files().map_err(failed)??;
-        for index in 0..options.desks {
-            desks.sheet(index).map_err(failed)??;
-        }
+        desks.files()?;
+        desks.pieces()?;
+        (0..options.desks).try_for_each(|index| desks.sheet(index))?;
         self.counts.program_runs += desks.runs;
         Ok(())
     }
@@ -88,7 +86,7 @@ impl Desks<'_> {
     }
 
     /// One sheet, and units or any input for it.
-    fn sheet(&mut self, index: usize) -> std::io::Result<Result<(), Difference>> {
+    fn sheet(&mut self, index: usize) -> Result<(), Difference> {
         let random = &mut Random::at(self.seed, 9, index);
         let all_talk = index.is_multiple_of(ALL_TALK);
         let (kind, sheet) = match random.below(REFUSED) {
@@ -102,10 +100,10 @@ impl Desks<'_> {
         let path = self.scratch.file("sheet", &sheet)?;
         let case = self.case(index, kind, sheet);
         let talks = if all_talk { usize::MAX } else { TALKS };
-        Ok(match Desk::open(&case.sheet) {
+        match Desk::open(&case.sheet) {
             Ok(desk) => self.units(random, &case, &path, &desk, talks),
             Err(_) => self.whole_input(random, &case, &path, &[1, 2, 3]),
-        })
+        }
     }
 
     fn units(
@@ -166,17 +164,10 @@ fn ended(word: usize, output: &[u8], error: &[u8]) -> String {
         return String::from(*name);
     }
     let output = String::from_utf8_lossy(output);
-    let last: Vec<&str> = output
-        .lines()
-        .last()
-        .unwrap_or_default()
-        .split(' ')
-        .collect();
-    let number = |place: usize| {
-        last.get(place)
-            .and_then(|number| number.parse::<usize>().ok())
-    };
-    match (last[0], number(2)) {
+    let last = output.lines().last().unwrap_or_default();
+    let words: Vec<&str> = last.split(' ').collect();
+    let number = |place: usize| words.get(place).and_then(|word| word.parse::<usize>().ok());
+    match (words[0], number(2)) {
         ("HOME", Some(commands)) if commands == word => String::from("home with the word"),
         ("HOME", _) => String::from("home later"),
         ("STRANGER", Some(answer)) if answer < word => String::from("stranger in the word"),

@@ -2,6 +2,7 @@
 // time than is asked for.
 
 use super::batch::dialogue;
+use super::files::longest;
 use super::Desks;
 use crate::checking::difference::Difference;
 use crate::dialogue::MOST_READ;
@@ -21,12 +22,13 @@ const PAUSE: Duration = Duration::from_micros(200);
 const ENDLESS: usize = 20 * MOST_READ;
 
 impl Desks<'_> {
-    pub fn pieces(&mut self, longest: &[u8]) -> io::Result<Result<(), Difference>> {
+    pub fn pieces(&mut self) -> Result<(), Difference> {
         let random = &mut Random::at(self.seed, 9, usize::MAX - 1);
+        let longest = longest();
         let endless = longest.iter().copied().cycle().take(ENDLESS).collect();
         let sheets = [
             ("house unit in pieces", house_sheet(), 5),
-            ("longest in pieces", longest.to_vec(), 4000),
+            ("longest in pieces", longest, 4000),
             ("endless in pieces", endless, 4000),
         ];
         for (index, (name, sheet, size)) in sheets.into_iter().enumerate() {
@@ -34,12 +36,10 @@ impl Desks<'_> {
             feed(&path, sheet.clone(), size)?;
             let wanted = dialogue(&sheet, INPUT);
             let case = self.case(index, name, sheet);
-            if let Err(difference) = self.run(random, &case, &path, INPUT, &wanted) {
-                return Ok(Err(difference));
-            }
+            self.run(random, &case, &path, INPUT, &wanted)?;
             self.tally.meet("files", name);
         }
-        Ok(Ok(()))
+        Ok(())
     }
 }
 
