@@ -1,4 +1,4 @@
-// The desk (§7.2): which command a unit of unknown state gets next, until it
+// The desk (§13): which command a unit of unknown state gets next, until it
 // is home, in the start, or a stranger. Every order is found from all answers
 // given so far; nothing is kept between them.
 

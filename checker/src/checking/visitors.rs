@@ -1,5 +1,5 @@
 // Units that come to the desk in some state, and what is promised of them
-// (§7.2): copies of the sheet's machine, begun in every state, and others.
+// (§13): copies of the sheet's machine, begun in every state, and others.
 
 use super::isomorphism::Unit;
 use super::machines::{permutation, separated};
