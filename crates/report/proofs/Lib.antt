@@ -1,2 +1,4 @@
+mod Conversing
 mod Making
 mod Putting
+mod Reading

@@ -1,3 +1,5 @@
+pub mod Numbers
+pub mod Dialogue
 pub mod Text
 pub mod Phrases
 pub mod Lines

@@ -1,4 +1,4 @@
--- The lines that the bench prints, to the byte (§8.1): those of judging, of certifying and of a refusal.
+-- The lines that the bench prints, to the byte (§8.1): those of judging, of certifying, of the desk and of a refusal.
 use Prim.Native.Nat.{ℕ}
 use Prim.Native.String.{String}
 use mathlib.Core.List.{List, [], _∷_, _++_}
@@ -6,6 +6,10 @@ use Rattle.judge.specs.declared.answer.Answer.{Answer as Judgement}
 use Rattle.judge.specs.declared.answer.Answer.the-variants.{Pass, Wrong, Unfinished, Refused as RefusedJudgement}
 use Rattle.certify.specs.declared.answer.Answer.{Answer as Certification}
 use Rattle.certify.specs.declared.answer.Answer.the-variants.{Certified, Open, Refused as RefusedCertification}
+use Rattle.desk.specs.declared.desk.Order.{Order}
+use Rattle.desk.specs.declared.desk.Order.the-variants.{Command, Home, Stranger}
+use Rattle.desk.specs.declared.starting.First.{First}
+use Rattle.desk.specs.declared.starting.First.the-variants.{Command as FirstCommand, Refused as RefusedFirst}
 use Rattle.report.specs.Text.{bytes, decimal}
 use Rattle.report.specs.Phrases.{phrase}
 pub mod Examples
@@ -63,3 +67,26 @@ abbrev pub certifyLine : Certification → List ℕ
 certifyLine (Certified recognised) = certifiedLine recognised
 certifyLine (Open recognised number) = openLine recognised number
 certifyLine (RefusedCertification number place) = refusalLine number place
+
+-- `COMMAND 0`: the command to be sent
+unfoldable pub commandLine : ℕ → List ℕ
+commandLine command = labelled "COMMAND " command ++ newline
+
+-- `HOME after 7`: the number of commands sent
+unfoldable pub homeLine : ℕ → List ℕ
+homeLine after = labelled "HOME after " after ++ newline
+
+-- `STRANGER at 3`: the number of the answer
+unfoldable pub strangerLine : ℕ → List ℕ
+strangerLine place = labelled "STRANGER at " place ++ newline
+
+-- the line for what the desk orders
+abbrev pub orderLine : Order → List ℕ
+orderLine (Command command) = commandLine command
+orderLine (Home after) = homeLine after
+orderLine (Stranger place) = strangerLine place
+
+-- the line for what the desk begins with
+abbrev pub firstLine : First → List ℕ
+firstLine (FirstCommand command) = commandLine command
+firstLine (RefusedFirst number place) = refusalLine number place

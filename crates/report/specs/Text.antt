@@ -1,10 +1,11 @@
--- Text as bytes (§8.1): quoted text, and numbers in decimal.
-use Prim.Native.Nat.{ℕ, zero, suc, _+_, _/_, _%_}
+-- Text as bytes (§8.1): quoted text, and numbers in decimal, written and read.
+use Prim.Native.Nat.{ℕ, zero, suc, _+_, _-_, _*_, _/_, _%_}
 use Prim.Native.Char.{code}
 use Prim.Native.String.{String, [] as none, _∷_ as _then_}
-use mathlib.Core.Bool.{Bool, true, false}
+use mathlib.Core.Bool.{Bool, true, false, cond, _&&_}
 use mathlib.Core.List.{List, [], _∷_, _++_}
-use lib.Dec.{ltb}
+use mathlib.Core.Option.{Option, none as missing, some}
+use lib.Dec.{ltb, leb}
 pub mod Laws
 
 -- the bytes of a text in ASCII: the code of each character
@@ -30,3 +31,22 @@ decimalWithin (suc most) n = lastDigit (ltb n 10) n (decimalWithin most)
 -- recursion: decimal-digit and decimal-more, in Text.Laws, are the equations without it
 unfoldable pub decimal : ℕ → List ℕ
 decimal n = decimalWithin (n + 1) n
+
+-- ---- numbers read
+-- whether a byte is a decimal digit
+abbrev pub isDigit : ℕ → Bool
+isDigit b = leb 48 b && leb b 57
+
+-- whether all bytes are decimal digits
+unfoldable pub allDigits : List ℕ → Bool
+allDigits [] = true
+allDigits (b ∷ bs) = isDigit b && allDigits bs
+
+-- the value of decimal digits that follow digits of this value
+unfoldable pub valueFrom : ℕ → List ℕ → ℕ
+valueFrom value [] = value
+valueFrom value (b ∷ bs) = valueFrom (10 * value + (b - 48)) bs
+
+-- the number that decimal digits give, leading zeros allowed, where it is at most this; no digits give 0
+unfoldable pub numberIn : ℕ → List ℕ → Option ℕ
+numberIn most w = cond (allDigits w && leb (valueFrom 0 w) most) (some (valueFrom 0 w)) missing

@@ -12,6 +12,7 @@ helpText =
     ++ bytes "bench certify           certify the sequence of the sheet on standard input: CERTIFIED, OPEN or REFUSED\n"
     ++ bytes "bench build             build the sequence of the sheet on standard input: the sheet with it as record 3\n"
     ++ bytes "bench read KIND         read the sheet on standard input: the payload of record 1 machine, 2 word, 3 sequence, 4 answers\n"
+    ++ bytes "bench desk SHEET        bring a unit to its start by the sheet in that file: COMMAND, answers on standard input, HOME or STRANGER\n"
     ++ bytes "bench house             the house unit's sheet: machine and word\n"
     ++ bytes "bench help, --help, -h  these lines\n"
 

@@ -1,6 +1,8 @@
 // What the bench writes: the cause phrases, the output lines, the sheets and the list of services,
 // each service's bytes for each stream, made in a lent buffer.
+mod dialogue;
 mod lines;
+mod numbers;
 mod output;
 mod phrases;
 mod pieces;
@@ -8,6 +10,13 @@ mod services;
 mod sheets;
 mod words;
 
+pub use dialogue::LINE;
+pub use dialogue::Turned;
+pub use dialogue::begin;
+pub use dialogue::input_ended;
+pub use dialogue::turn;
+pub use numbers::MaybeNumber;
+pub use numbers::number_in;
 pub use output::OUTPUT;
 pub use output::Written;
 pub use services::INPUT;

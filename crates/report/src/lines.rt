@@ -1,7 +1,8 @@
 // The output lines. A line stands at the start of the buffer, and its length is answered; later
 // bytes stay as they were.
 ghost use Rattle.report.specs.Lines.{passLine, wrongLine, unfinishedLine, judgeLine, certifiedLine, openLine};
-ghost use Rattle.report.specs.Lines.{certifyLine, refusalLine};
+ghost use Rattle.report.specs.Lines.{certifyLine, refusalLine, commandLine, homeLine, strangerLine, orderLine};
+ghost use Rattle.report.specs.Lines.{firstLine};
 ghost use Rattle.report.specs.Printing.{Prints};
 ghost use Rattle.report.specs.Output.{onError, Writes};
 use crate::output::OUTPUT;
@@ -10,6 +11,8 @@ use crate::pieces::put;
 use crate::pieces::put_labelled;
 use crate::pieces::put_phrase;
 use certify::Answer as Certification;
+use desk::First;
+use desk::Order;
 use judge::Answer as Judgement;
 
 // A refusal: number, place and phrase.
@@ -93,5 +96,47 @@ pub fn certify_line(answer: Certification, out: &mut [u8; OUTPUT]) -> usize
         Certification::Certified { recognised } => certified(recognised, out),
         Certification::Open { recognised, number } => still_open(recognised, number, out),
         Certification::Refused { number, place } => refusal_line(number, place, out),
+    }
+}
+
+fn command(number: u8, out: &mut [u8; OUTPUT]) -> usize
+    ensures { λ r. ⌜ Prints (commandLine number) (now (out .entry)) (now (out .exit)) r ⌝ }
+{
+    let a = put_labelled(b"COMMAND ", number as u64, 0, out);
+    put(b"\n", a, out)
+}
+
+fn home(after: u8, out: &mut [u8; OUTPUT]) -> usize
+    ensures { λ r. ⌜ Prints (homeLine after) (now (out .entry)) (now (out .exit)) r ⌝ }
+{
+    let a = put_labelled(b"HOME after ", after as u64, 0, out);
+    put(b"\n", a, out)
+}
+
+fn stranger(place: u8, out: &mut [u8; OUTPUT]) -> usize
+    ensures { λ r. ⌜ Prints (strangerLine place) (now (out .entry)) (now (out .exit)) r ⌝ }
+{
+    let a = put_labelled(b"STRANGER at ", place as u64, 0, out);
+    put(b"\n", a, out)
+}
+
+// What the desk orders.
+pub fn order_line(order: Order, out: &mut [u8; OUTPUT]) -> usize
+    ensures { λ r. ⌜ Prints (orderLine order) (now (out .entry)) (now (out .exit)) r ⌝ }
+{
+    match order {
+        Order::Command { command: number } => command(number, out),
+        Order::Home { after } => home(after, out),
+        Order::Stranger { at } => stranger(at, out),
+    }
+}
+
+// What the desk begins with.
+pub fn first_line(first: First, out: &mut [u8; OUTPUT]) -> usize
+    ensures { λ r. ⌜ Prints (firstLine first) (now (out .entry)) (now (out .exit)) r ⌝ }
+{
+    match first {
+        First::Command { command: number } => command(number, out),
+        First::Refused { number, place } => refusal_line(number, place, out),
     }
 }

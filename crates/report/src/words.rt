@@ -76,11 +76,16 @@ fn help_text(out: &mut [u8; OUTPUT]) -> usize
         out,
     );
     let e = put(
-        b"bench house             the house unit's sheet: machine and word\n",
+        b"bench desk SHEET        bring a unit to its start by the sheet in that file: COMMAND, answers on standard input, HOME or STRANGER\n",
         d,
         out,
     );
-    put(b"bench help, --help, -h  these lines\n", e, out)
+    let f = put(
+        b"bench house             the house unit's sheet: machine and word\n",
+        e,
+        out,
+    );
+    put(b"bench help, --help, -h  these lines\n", f, out)
 }
 
 // Lists the services.

@@ -1,8 +1,8 @@
--- `report::words::help_text` meets its contract: the lines, one behind the other.
+-- `report::words::help_text` meets its contract: the pieces make the list.
 -- Assumes nothing.
-use borrow.Author.Needs.{needs}
 use Rattle.report.specs.Words.{helpText}
 use Rattle.report.proofs.Putting.{puts-append, prints-line}
+use borrow.Author.Needs.{needs}
 use Rattle.report.proofs.words.help_text.Statement.{statement}
 use Rattle.report.proofs.words.help_text.Tie as tie
 
@@ -42,10 +42,17 @@ slice-aggregate-put-6 c = search needs
 put-requires-6 : tie.Need-put-requires-6
 put-requires-6 c κs = search needs
 
+slice-aggregate-put-7 : tie.Need-slice-aggregate-put-7
+slice-aggregate-put-7 c = search needs
+
+put-requires-7 : tie.Need-put-requires-7
+put-requires-7 c κs = search needs
+
 returns : tie.Need-returns
 unfolding helpText
 returns c =
-    let p5 = c .before .before .before in
+    let p6 = c .before .before .before in
+    let p5 = p6 .before .before .before in
     let p4 = p5 .before .before .before in
     let p3 = p4 .before .before .before in
     let p2 = p3 .before .before .before in
@@ -54,11 +61,13 @@ returns c =
     (puts-append _ _
     (puts-append _ _
     (puts-append _ _
+    (puts-append _ _
     (puts-append _ _ (p2 .before .before .before .put .ensures) (p2 .put2 .ensures))
     (p3 .put3 .ensures))
     (p4 .put4 .ensures))
     (p5 .put5 .ensures))
-    (c .put6 .ensures))
+    (p6 .put6 .ensures))
+    (c .put7 .ensures))
 
 pub help-text-spec : {M : Type 1} → statement M
 help-text-spec =
@@ -76,4 +85,6 @@ help-text-spec =
     put-requires-5
     slice-aggregate-put-6
     put-requires-6
+    slice-aggregate-put-7
+    put-requires-7
     returns)

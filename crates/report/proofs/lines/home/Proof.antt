@@ -1,0 +1,36 @@
+-- `report::lines::home` meets its contract: the pieces make the line.
+-- Assumes nothing.
+use Rattle.report.specs.Lines.{homeLine}
+use Rattle.report.proofs.Putting.{puts-append, prints-line}
+use borrow.Author.Needs.{needs}
+use Rattle.report.proofs.lines.home.Statement.{statement}
+use Rattle.report.proofs.lines.home.Tie as tie
+
+slice-aggregate-put-labelled : tie.Need-slice-aggregate-put-labelled
+slice-aggregate-put-labelled c = search needs
+
+put-labelled-requires : tie.Need-put-labelled-requires
+put-labelled-requires c κs = search needs
+
+slice-aggregate-put : tie.Need-slice-aggregate-put
+slice-aggregate-put c = search needs
+
+put-requires : tie.Need-put-requires
+put-requires c κs = search needs
+
+returns : tie.Need-returns
+unfolding homeLine
+returns c =
+    let args = c .before .before .before .before .before .before .args in
+    prints-line (homeLine (args .after))
+    (puts-append _ _ (c .before .before .before .put-labelled .ensures .0) (c .put .ensures))
+
+pub home-spec : {M : Type 1} → statement M
+home-spec =
+    tie.close
+    (tie.spec
+    slice-aggregate-put-labelled
+    put-labelled-requires
+    slice-aggregate-put
+    put-requires
+    returns)
