@@ -10,6 +10,8 @@ use lib.Seq.{length-take-le}
 use Rattle.io.specs.Counts.{Counts}
 use Rattle.streams.specs.declared.input.Input.{Input}
 use Rattle.streams.specs.declared.input.Input.the-variants.{Read, Failed}
+use Rattle.streams.specs.declared.line.Line.{Line}
+use Rattle.streams.specs.declared.line.Line.the-variants.{Read as LineRead, Failed as FailedLine}
 use Rattle.streams.specs.declared.input.Step.{Step}
 use Rattle.streams.specs.declared.input.Step.the-variants.{More, End, Failed as FailedStep}
 use Rattle.streams.specs.Input.{stepAfter}
@@ -26,6 +28,19 @@ read-counts size buffer l count e = let same : size ≡ count = cc in counts-of 
 pub failed-counts : {input : Input} (buffer : List ℕ) → input ≡ Failed → (count : ℕ) → input ≡ Read count
     → Counts count buffer
 failed-counts buffer e count f = let z : _≡_ {A = ℕ} 0 1 = cc in absurd (omega arith)
+
+-- the same of a line, of the last line, and of a line that could not be read
+pub line-counts : (size : ℕ) (buffer : List ℕ) → size ≤ length buffer → (count : ℕ) → LineRead size ≡ LineRead count
+    → Counts count buffer
+line-counts size buffer l count e = let same : size ≡ count = cc in counts-of count buffer (omega (arith, same))
+
+pub last-counts : {line : Line} (size : ℕ) (buffer : List ℕ) → ((count : ℕ) → line ≡ LineRead count → count ≡ size)
+    → size ≤ length buffer → (count : ℕ) → line ≡ LineRead count → Counts count buffer
+last-counts size buffer h l count e = counts-of count buffer (omega (arith, h count e))
+
+pub failed-line-counts : {line : Line} (buffer : List ℕ) → line ≡ FailedLine → (count : ℕ) → line ≡ LineRead count
+    → Counts count buffer
+failed-line-counts buffer e count f = let z : _≡_ {A = ℕ} 0 1 = cc in absurd (omega arith)
 
 -- a read that moved bytes
 pub step-moved : {moved : Bool} (ended interrupted : Bool) (size next : ℕ) → moved ≡ true

@@ -1,4 +1,4 @@
--- `streams::input::read_input` meets its contract. The loop's invariant: what was read stands within the buffer. The
+-- `streams::input::read_all` meets its contract. The loop's invariant: what was read stands within the buffer. The
 -- measure is what is left of the turns. Assumes nothing.
 use borrow.Author.Needs.{needs}
 use native.Mathlib.Omega.{arith}
@@ -7,14 +7,14 @@ use mathlib.Core.Path.{_≡_, refl}
 use lib.ListN.{length}
 use borrow.Author.Tests.{ltb-true}
 use Rattle.streams.proofs.Counting.{read-counts, failed-counts}
-use Rattle.streams.proofs.input.read_input.Statement.{statement}
-use Rattle.streams.proofs.input.read_input.Tie as tie
+use Rattle.streams.proofs.input.read_all.Statement.{statement}
+use Rattle.streams.proofs.input.read_all.Tie as tie
 
 abbrev Inv-loop : tie.InvT-loop
-Inv-loop buf₀ size₀ turns₀ buf size turns = (size ≤ length buf) × (length buf ≡ length buf₀)
+Inv-loop descriptor name buf₀ size₀ turns₀ buf size turns = (size ≤ length buf) × (length buf ≡ length buf₀)
 
 abbrev μ-loop : tie.MeasureT-loop
-μ-loop buf₀ size₀ turns₀ buf size turns = turns
+μ-loop descriptor name buf₀ size₀ turns₀ buf size turns = turns
 
 loop-holds : tie.Need-loop-holds Inv-loop μ-loop
 loop-holds c =
@@ -81,8 +81,8 @@ returns-4 : tie.Need-returns-4 Inv-loop μ-loop
 returns-4 c =
     read-counts _ _ (omega (arith, c .before .before .loop .inv .0))
 
-pub read-input-spec : {M : Type 1} → statement M
-read-input-spec =
+pub read-all-spec : {M : Type 1} → statement M
+read-all-spec =
     tie.close
     (tie.spec
     Inv-loop
