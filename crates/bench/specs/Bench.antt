@@ -1,14 +1,16 @@
--- The bench (§8.2): from its arguments, here called words, and the bytes on its standard input to the bytes that it
--- writes to standard output and to standard error. The laws stand in Bench.Laws and Bench.Input.
+-- The bench (§8.2): from its arguments, here called words, and the bytes of its sheet to the bytes that it writes to
+-- standard output and to standard error; of the desk, what it writes before the first answer. The laws stand in Bench.Laws and Bench.Input.
 use Prim.Native.Nat.{ℕ}
-use mathlib.Core.Bool.{Bool, true, false}
 use mathlib.Core.List.{List}
 use Rattle.report.specs.Output.{Output}
 use Rattle.report.specs.Services.{judged, certified, built, recordRead, houseWritten, helped, mistaken}
+use Rattle.report.specs.Dialogue.{begun}
 use Rattle.bench.specs.declared.words.Service.{Service}
 use Rattle.bench.specs.declared.words.Service.the-variants.{Wrong, OnSheet, House, Help}
 use Rattle.bench.specs.declared.words.SheetService.{SheetService}
-use Rattle.bench.specs.declared.words.SheetService.the-variants.{Judge, Certify, Build, Read}
+use Rattle.bench.specs.declared.words.SheetService.the-variants.{Judge, Certify, Build, Read, Desk}
+use Rattle.bench.specs.declared.words.Source.{Source}
+use Rattle.bench.specs.declared.words.Source.the-variants.{Nothing, Standard, File}
 use Rattle.bench.specs.Words.{serviceOf}
 pub mod Laws
 pub mod Input
@@ -19,20 +21,29 @@ sheetOutput Judge s = judged s
 sheetOutput Certify s = certified s
 sheetOutput Build s = built s
 sheetOutput (Read kind) s = recordRead kind s
+sheetOutput Desk s = begun s
 
--- what a service writes, of the bytes on standard input
+-- what a service writes, of the bytes of its sheet
 abbrev pub output : Service → List ℕ → Output
 output (Wrong mistake) s = mistaken mistake
 output (OnSheet service) s = sheetOutput service s
 output House s = houseWritten
 output Help s = helped
 
--- whether a service reads standard input: the others write the same whatever stands there (unread, in Bench.Laws)
-abbrev pub readsSheet : Service → Bool
-readsSheet (Wrong mistake) = false
-readsSheet (OnSheet service) = true
-readsSheet House = false
-readsSheet Help = false
+-- where the sheet comes from: of the desk from the file that the argument names, else from standard input
+abbrev pub sheetFrom : SheetService → Source
+sheetFrom Judge = Standard
+sheetFrom Certify = Standard
+sheetFrom Build = Standard
+sheetFrom (Read kind) = Standard
+sheetFrom Desk = File
+
+-- and of a service that takes no sheet from nowhere: it writes the same whatever the sheet (unread, in Bench.Laws)
+abbrev pub sourceOf : Service → Source
+sourceOf (Wrong mistake) = Nothing
+sourceOf (OnSheet service) = sheetFrom service
+sourceOf House = Nothing
+sourceOf Help = Nothing
 
 -- what the bench writes
 unfoldable pub bench : List (List ℕ) → List ℕ → Output

@@ -1,18 +1,19 @@
 -- From the arguments of the bench, here called words, to the service that they ask for (§8.2). The laws: Words.Laws.
-use Prim.Native.Nat.{ℕ, zero, suc, _+_, _*_, _-_}
+use Prim.Native.Nat.{ℕ, zero, suc}
 use Prim.Native.String.{String}
-use mathlib.Core.Bool.{Bool, true, cond, _&&_}
+use mathlib.Core.Bool.{cond}
 use mathlib.Core.List.{List, [], _∷_}
-use lib.Dec.{eqb, ltb, leb}
+use mathlib.Core.Option.{Option, none, some}
+use lib.Dec.{eqb, ltb}
 use lib.ListN.{length, getD, replicate}
 use Rattle.machine.specs.Causes.{same}
 use Rattle.report.specs.declared.words.Mistake.the-variants.{Unknown, Empty, Long, Many, Few, Kind}
-use Rattle.report.specs.Text.{bytes}
+use Rattle.report.specs.Text.{bytes, numberIn}
 use Rattle.bench.specs.declared.words.Lookup.{Lookup}
 use Rattle.bench.specs.declared.words.Lookup.the-variants.{Found, Nothing}
 use Rattle.bench.specs.declared.words.Service.{Service}
 use Rattle.bench.specs.declared.words.Service.the-variants.{Wrong, OnSheet, House, Help}
-use Rattle.bench.specs.declared.words.SheetService.the-variants.{Judge, Certify, Build, Read}
+use Rattle.bench.specs.declared.words.SheetService.the-variants.{Judge, Certify, Build, Read, Desk}
 pub mod Laws
 
 -- ---- one argument
@@ -24,31 +25,26 @@ mostArgument = 4095
 unfoldable pub unlessUnfit : List ℕ → Service → Service
 unlessUnfit w service = cond (eqb (length w) 0) (Wrong Empty) (cond (ltb mostArgument (length w)) (Wrong Long) service)
 
--- whether a byte is a decimal digit
-abbrev pub isDigit : ℕ → Bool
-isDigit b = leb 48 b && leb b 57
-
--- whether all bytes are decimal digits
-unfoldable pub allDigits : List ℕ → Bool
-allDigits [] = true
-allDigits (b ∷ bs) = isDigit b && allDigits bs
-
--- the value of decimal digits that follow digits of this value
-unfoldable pub valueFrom : ℕ → List ℕ → ℕ
-valueFrom value [] = value
-valueFrom value (b ∷ bs) = valueFrom (10 * value + (b - 48)) bs
-
 -- the largest number that a record's two bytes of kind hold
 abbrev pub mostKind : ℕ
 mostKind = 65535
 
+-- reading this kind; where there is none, a mistake
+abbrev pub readOr : Option ℕ → Service
+readOr none = Wrong Kind
+readOr (some kind) = OnSheet (Read kind)
+
 -- reading the kind that an argument of one digit or more gives, at most 65535 (§8.2); other arguments are a mistake
 unfoldable pub kindIn : List ℕ → Service
-kindIn w = cond (allDigits w && leb (valueFrom 0 w) mostKind) (OnSheet (Read (valueFrom 0 w))) (Wrong Kind)
+kindIn w = readOr (numberIn mostKind w)
 
 -- reading the kind that the argument KIND gives, or what is wrong with that argument (§8.2)
 unfoldable pub kindOf : List ℕ → Service
 kindOf w = unlessUnfit w (kindIn w)
+
+-- the desk, with the sheet in the file that the argument SHEET names, or what is wrong with that argument (§8.2)
+unfoldable pub deskOf : List ℕ → Service
+deskOf w = unlessUnfit w (OnSheet Desk)
 
 -- ---- the services
 -- a service's name, how many arguments follow it, and which service it is, by the argument after the name
@@ -78,6 +74,7 @@ services =
     and row "certify" 0 (always (OnSheet Certify))
     and row "build" 0 (always (OnSheet Build))
     and row "read" 1 kindOf
+    and row "desk" 1 deskOf
     and row "house" 0 (always House)
     and row "help" 0 (always Help)
     and row "--help" 0 (always Help)

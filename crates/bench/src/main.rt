@@ -1,32 +1,31 @@
-// The bench program: takes the words that it is started with, reads a sheet from standard input
-// where the service wants one, and writes to standard output and standard error.
+// The bench program: takes the words that it is started with, reads a sheet from standard input or
+// a file where the service wants one, and writes to standard output and standard error.
+mod dialogue;
+mod output;
 mod services;
 mod words;
 
 ghost use Prim.Native.Nat.{_-_};
 ghost use mathlib.Core.Path.{_≡_};
+use dialogue::converse;
+use output::write_both;
 use report::INPUT;
 use report::OUTPUT;
 use services::bench;
-use services::reads_sheet;
+use services::sheet_source;
 use streams::Input;
 use streams::read_input;
 use streams::read_word;
-use streams::write_error;
-use streams::write_output;
+use words::Source;
 use words::WORD_BUFFER;
 
-// Writes what the bench answers to its words and a sheet. Once standard output has failed, which
-// is told, nothing more is written; no service so far writes to both. Where standard error fails
-// nothing is left to tell it on, and a program has no exit status to set: its answer is not used.
+// Writes what the bench answers to its words and a sheet.
 fn answer(count: usize, first: &[u8], second: &[u8], sheet: &[u8]) {
     let mut bytes = [0u8; OUTPUT];
     let written = bench(count, first, second, sheet, &mut bytes);
     let out = written.out;
     let end = written.end;
-    if write_output(&bytes[..out]) {
-        write_error(&bytes[out..end]);
-    }
+    write_both(&bytes[..end], out);
 }
 
 // Reads a sheet, and answers.
@@ -51,9 +50,10 @@ fn main() {
     let count = behind_name(os::arg_count());
     let a = read_word(1, &mut first);
     let b = read_word(2, &mut second);
-    if reads_sheet(count, &first[..a], &second[..b]) {
-        answer_input(count, &first[..a], &second[..b]);
-    } else {
-        answer(count, &first[..a], &second[..b], b"");
+    let source = sheet_source(count, &first[..a], &second[..b]);
+    match source {
+        Source::Nothing => answer(count, &first[..a], &second[..b], b""),
+        Source::Standard => answer_input(count, &first[..a], &second[..b]),
+        Source::File => converse(&second[..b]),
     }
 }

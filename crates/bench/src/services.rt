@@ -1,14 +1,17 @@
-// The services: which of them reads a sheet, and what each writes.
+// The services: where the sheet of each comes from, and what each writes.
 ghost use mathlib.Core.Path.{_≡_};
 ghost use Rattle.report.specs.Output.{Writes};
 ghost use Rattle.bench.specs.Words.{serviceOf, wordsOf};
-ghost use Rattle.bench.specs.Bench.{sheetOutput, output, readsSheet};
+ghost use Rattle.report.specs.Dialogue.{begun as begunOf};
+ghost use Rattle.bench.specs.Bench.{sheetOutput, output, sheetFrom, sourceOf};
 ghost use Rattle.bench.specs.Bench.{bench as benchOf};
 use crate::words::Service;
 use crate::words::SheetService;
+use crate::words::Source;
 use crate::words::service_of;
 use report::OUTPUT;
 use report::Written;
+use report::begin;
 use report::build_sheet;
 use report::certify_sheet;
 use report::help;
@@ -17,22 +20,42 @@ use report::judge_sheet;
 use report::read_record;
 use report::tell;
 
-fn reads(service: Service) -> bool
-    ensures { λ r. ⌜ r ≡ readsSheet service ⌝ }
+fn sheet_from(service: SheetService) -> Source
+    ensures { λ r. ⌜ r ≡ sheetFrom service ⌝ }
 {
     match service {
-        Service::Wrong { mistake: _ } => false,
-        Service::OnSheet { service: _ } => true,
-        Service::House => false,
-        Service::Help => false,
+        SheetService::Judge => Source::Standard,
+        SheetService::Certify => Source::Standard,
+        SheetService::Build => Source::Standard,
+        SheetService::Read { kind: _ } => Source::Standard,
+        SheetService::Desk => Source::File,
     }
 }
 
-// Whether the words ask for a service that reads a sheet.
-pub fn reads_sheet(count: usize, first: &[u8], second: &[u8]) -> bool
-    ensures { λ r. ⌜ r ≡ readsSheet (serviceOf (wordsOf count (now (first .entry)) (now (second .entry)))) ⌝ }
+fn source_of(service: Service) -> Source
+    ensures { λ r. ⌜ r ≡ sourceOf service ⌝ }
 {
-    reads(service_of(count, first, second))
+    match service {
+        Service::Wrong { mistake: _ } => Source::Nothing,
+        Service::OnSheet { service: on } => sheet_from(on),
+        Service::House => Source::Nothing,
+        Service::Help => Source::Nothing,
+    }
+}
+
+// Where the sheet comes from of the service that the words ask for.
+pub fn sheet_source(count: usize, first: &[u8], second: &[u8]) -> Source
+    ensures { λ r. ⌜ r ≡ sourceOf (serviceOf (wordsOf count (now (first .entry)) (now (second .entry)))) ⌝ }
+{
+    source_of(service_of(count, first, second))
+}
+
+// What the desk writes before the first answer.
+fn begun(sheet: &[u8], out: &mut [u8; OUTPUT]) -> Written
+    ensures { λ r. ⌜ Writes (begunOf (now (sheet .entry))) (now (out .entry)) (now (out .exit)) r ⌝ }
+{
+    let first = begin(sheet, out);
+    first.written
 }
 
 // What a service on a sheet writes.
@@ -44,6 +67,7 @@ fn perform_on_sheet(service: SheetService, sheet: &[u8], out: &mut [u8; OUTPUT])
         SheetService::Certify => certify_sheet(sheet, out),
         SheetService::Build => build_sheet(sheet, out),
         SheetService::Read { kind } => read_record(sheet, kind, out),
+        SheetService::Desk => begun(sheet, out),
     }
 }
 

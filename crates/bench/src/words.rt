@@ -1,9 +1,11 @@
 // From the words that the bench is started with to the service that they ask for.
 ghost use mathlib.Core.Path.{_≡_};
-ghost use Rattle.bench.specs.Words.{kindIn, kindOf, unlessUnfit, services, foundOr, serviceOf, wordsOf};
+ghost use Rattle.bench.specs.Words.{kindIn, kindOf, deskOf, unlessUnfit, services, foundOr, serviceOf};
+ghost use Rattle.bench.specs.Words.{wordsOf};
 ghost use Rattle.bench.specs.Words.{named as namedIn, counted as countedOf};
 use check::same;
 use report::Mistake;
+use report::number_in;
 
 // The most bytes of a word.
 const WORD: usize = 4_095;
@@ -13,7 +15,7 @@ const WORD: usize = 4_095;
 pub const WORD_BUFFER: usize = WORD + 1;
 
 // The largest number of a kind.
-const KIND: usize = 65_535;
+const KIND: u16 = 65_535;
 
 // The services on a sheet.
 pub enum SheetService {
@@ -21,6 +23,15 @@ pub enum SheetService {
     Certify,
     Build,
     Read { kind: u16 },
+    Desk,
+}
+
+// Where a service's sheet comes from: from nowhere, where it takes none, from standard input, or
+// from the file that a word names.
+pub enum Source {
+    Nothing,
+    Standard,
+    File,
 }
 
 // What the words ask for: to be told what is wrong with them, or a service.
@@ -66,23 +77,18 @@ fn unless_unfit(word: &[u8], service: Service) -> Service
 fn kind_in(word: &[u8]) -> Service
     ensures { λ r. ⌜ r ≡ kindIn (now (word .entry)) ⌝ }
 {
-    let mut value: usize = 0;
-    let mut i = 0;
-    while i < word.len() {
-        let digit = word[i];
-        if digit < 48 {
-            return wrong(Mistake::Kind);
-        }
-        if 57 < digit {
-            return wrong(Mistake::Kind);
-        }
-        value = 10 * value + (digit - 48) as usize;
-        if KIND < value {
-            return wrong(Mistake::Kind);
-        }
-        i += 1;
+    let number = number_in(word, KIND);
+    if number.found {
+        return on_sheet(SheetService::Read { kind: number.value });
     }
-    on_sheet(SheetService::Read { kind: value as u16 })
+    wrong(Mistake::Kind)
+}
+
+// A word that is to be a file's name.
+fn desk_of(word: &[u8]) -> Service
+    ensures { λ r. ⌜ r ≡ deskOf (now (word .entry)) ⌝ }
+{
+    unless_unfit(word, on_sheet(SheetService::Desk))
 }
 
 // A word that is to be a kind.
@@ -117,10 +123,11 @@ fn named(first: &[u8], second: &[u8]) -> Lookup
     let b = found_or(first, b"certify", 0, on_sheet(SheetService::Certify), a);
     let c = found_or(first, b"build", 0, on_sheet(SheetService::Build), b);
     let d = found_or(first, b"read", 1, kind_of(second), c);
-    let e = found_or(first, b"house", 0, Service::House, d);
-    let f = found_or(first, b"help", 0, Service::Help, e);
-    let g = found_or(first, b"--help", 0, Service::Help, f);
-    found_or(first, b"-h", 0, Service::Help, g)
+    let e = found_or(first, b"desk", 1, desk_of(second), d);
+    let f = found_or(first, b"house", 0, Service::House, e);
+    let g = found_or(first, b"help", 0, Service::Help, f);
+    let h = found_or(first, b"--help", 0, Service::Help, g);
+    found_or(first, b"-h", 0, Service::Help, h)
 }
 
 // The service, where as many words stand behind its name as it takes.

@@ -1,4 +1,5 @@
 -- The dialogue of `bench desk` (§8.2), turn by turn: what a line is, what is written, and whether the dialogue goes on.
+-- The laws of its beginning stand in Dialogue.Laws.
 use Prim.Native.Nat.{ℕ, _-_, _≤_}
 use mathlib.Core.Path.{_≡_}
 use mathlib.Core.Bool.{Bool, true, false, cond, _&&_}
@@ -20,6 +21,7 @@ use Rattle.report.specs.declared.dialogue.Turned.{Turned}
 use Rattle.report.specs.Text.{bytes, numberIn}
 use Rattle.report.specs.Lines.{orderLine, firstLine}
 use Rattle.report.specs.Output.{Output, onOutput, onError, Writes}
+pub mod Laws
 
 -- ---- a line
 -- the most bytes of a line, its newline not counted

@@ -14,8 +14,7 @@ enum-known-input : tie.Need-enum-known-input
 enum-known-input c = search needs
 
 array-share-prefix-sheet : tie.Need-array-share-prefix-sheet
-array-share-prefix-sheet c =
-    c .before .before .before .before .read-input .ensures _ (c .before .input .given .1) .0
+array-share-prefix-sheet c = c .before .before .before .before .read-input .ensures _ (c .before .input .given .1) .0
 
 slice-aggregate-answer : tie.Need-slice-aggregate-answer
 slice-aggregate-answer c =

