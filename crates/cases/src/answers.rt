@@ -6,6 +6,8 @@ use crate::output::text;
 use build::Answer as Building;
 use build::MaybeTransfer;
 use certify::Answer as Certification;
+use desk::First;
+use desk::Order;
 use judge::Answer as Judgement;
 use machine::Entry;
 use machine::Limits;
@@ -88,6 +90,23 @@ pub(crate) fn transferred(t: MaybeTransfer, out: &mut [u8], used: usize) -> usiz
         bytes(front(&commands, t.length as usize), out, at)
     } else {
         text(b"none", out, used)
+    }
+}
+
+// The desk's first command, or its refusal.
+pub(crate) fn begun(first: First, out: &mut [u8], used: usize) -> usize {
+    match first {
+        First::Command { command } => labelled(b"command ", command as usize, out, used),
+        First::Refused { number, place } => refused(number, place, out, used),
+    }
+}
+
+// An order behind another.
+pub(crate) fn ordered(order: Order, out: &mut [u8], used: usize) -> usize {
+    match order {
+        Order::Command { command } => labelled(b" command ", command as usize, out, used),
+        Order::Home { after } => labelled(b" home after ", after as usize, out, used),
+        Order::Stranger { at } => labelled(b" stranger at ", at as usize, out, used),
     }
 }
 

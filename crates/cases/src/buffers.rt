@@ -1,11 +1,20 @@
-// The first bytes of a buffer, and one byte for all of it.
+// The first bytes of a buffer and those behind them, and one byte for all of it.
 
 // The first bytes of a buffer; all of them where there are fewer.
 pub(crate) fn front(buf: &[u8], size: usize) -> &[u8] {
     if size <= buf.len() { &buf[..size] } else { buf }
 }
 
-// The same, to write to.
+// The bytes behind the first ones of a buffer; none where there are fewer.
+pub(crate) fn behind(buf: &[u8], size: usize) -> &[u8] {
+    if size <= buf.len() {
+        &buf[size..]
+    } else {
+        &buf[..0]
+    }
+}
+
+// The first bytes, to write to.
 pub(crate) fn lent(buf: &mut [u8], size: usize) -> &mut [u8] {
     if size <= buf.len() {
         &mut buf[..size]

@@ -7,6 +7,7 @@ pub enum Service {
     Refusal,
     Part,
     Transfer,
+    Desk,
     House,
     Limits,
 }
@@ -55,6 +56,7 @@ pub(crate) fn named(line: &[u8]) -> Found {
     let d = named_or(line, b"refusal ", Service::Refusal, c);
     let e = named_or(line, b"part ", Service::Part, d);
     let f = named_or(line, b"transfer ", Service::Transfer, e);
-    let g = named_or(line, b"house ", Service::House, f);
-    named_or(line, b"limits", Service::Limits, g)
+    let g = named_or(line, b"desk ", Service::Desk, f);
+    let h = named_or(line, b"house ", Service::House, g);
+    named_or(line, b"limits", Service::Limits, h)
 }

@@ -209,11 +209,21 @@ fn next_item(line: &[u8], c: Cursor) -> Cursor {
     }
 }
 
+// Whether the ` /` before the next part stands here; behind the last one it is not looked for.
+fn divided(line: &[u8], c: Cursor, last: bool) -> bool {
+    !last && next_is(line, expect(line, c, b' '), b'/')
+}
+
+// Whether one more item begins here.
+fn goes_on(line: &[u8], c: Cursor, last: bool) -> bool {
+    !divided(line, c, last) && (joined(line, c) || next_is(line, c, b' '))
+}
+
 // Items, one behind the other. No line has more of them than bytes.
-fn read_items(line: &[u8], f: Filled, parts: &mut [u8]) -> Filled {
+fn read_items(line: &[u8], f: Filled, last: bool, parts: &mut [u8]) -> Filled {
     let mut filled = read_item(line, f, parts);
     let mut turns = line.len();
-    while turns > 0 && (joined(line, filled.cursor) || next_is(line, filled.cursor, b' ')) {
+    while turns > 0 && goes_on(line, filled.cursor, last) {
         let cursor = next_item(line, filled.cursor);
         let used = filled.used;
         filled = read_item(line, Filled { cursor, used }, parts);
@@ -222,12 +232,12 @@ fn read_items(line: &[u8], f: Filled, parts: &mut [u8]) -> Filled {
     filled
 }
 
-// A part: `-`, or items.
-pub(crate) fn read_part(line: &[u8], f: Filled, parts: &mut [u8]) -> Filled {
+// A part, the last one of a case or not: `-`, or items.
+pub(crate) fn read_part(line: &[u8], f: Filled, last: bool, parts: &mut [u8]) -> Filled {
     if next_is(line, f.cursor, b'-') {
         let cursor = expect(line, f.cursor, b'-');
         let used = f.used;
         return Filled { cursor, used };
     }
-    read_items(line, f, parts)
+    read_items(line, f, last, parts)
 }

@@ -1,4 +1,5 @@
 // The services: the fields of each, and its answer.
+use crate::answers::begun;
 use crate::answers::buffer;
 use crate::answers::built;
 use crate::answers::certified;
@@ -7,7 +8,9 @@ use crate::answers::entry;
 use crate::answers::handed;
 use crate::answers::judged;
 use crate::answers::limits;
+use crate::answers::ordered;
 use crate::answers::transferred;
+use crate::buffers::behind;
 use crate::buffers::fill;
 use crate::buffers::front;
 use crate::buffers::lent;
@@ -15,6 +18,7 @@ use crate::fields::Fields;
 use crate::fields::bytes_and_sheet;
 use crate::fields::no_fields;
 use crate::fields::number_and_sheet;
+use crate::fields::sheet_and_part;
 use crate::fields::two_bytes;
 use crate::names::Service;
 use crate::names::named;
@@ -26,6 +30,10 @@ use crate::parts::limit;
 use build::build;
 use build::transfer;
 use certify::certify;
+use desk::Desk;
+use desk::First;
+use desk::start;
+use desk::step;
 use judge::judge;
 use machine::Machine;
 use machine::house_entry;
@@ -52,6 +60,7 @@ fn read_fields(line: &[u8], service: Service, at: usize, room: u32, parts: &mut 
         ),
         Service::Refusal | Service::Part => number_and_sheet(line, c, KIND, parts),
         Service::Transfer => bytes_and_sheet(line, c, parts),
+        Service::Desk => sheet_and_part(line, c, parts),
         Service::House => two_bytes(line, c),
         Service::Limits => no_fields(line, c),
     }
@@ -105,6 +114,35 @@ fn transfer_case(sheet: &[u8], from: u8, to: u8, out: &mut [u8], used: usize) ->
     }
 }
 
+// The desk's order after each answer.
+fn orders(desk: Desk, answers: &[u8], out: &mut [u8], used: usize) -> usize {
+    let mut turn = desk;
+    let mut at = used;
+    let mut i = 0;
+    while i < answers.len() {
+        let stepped = step(turn, answers[i]);
+        let order = stepped.order;
+        at = ordered(order, out, at);
+        turn = stepped.desk;
+        i += 1;
+    }
+    at
+}
+
+// The first command and the orders behind it; a refusal has none.
+fn desk_case(sheet: &[u8], answers: &[u8], out: &mut [u8], used: usize) -> usize {
+    let started = start(sheet);
+    let first = started.first;
+    let at = begun(first, out, used);
+    match first {
+        First::Command { command: _ } => orders(started.desk, answers, out, at),
+        First::Refused {
+            number: _,
+            place: _,
+        } => at,
+    }
+}
+
 // The answer of a service to its fields, the sheet in the first bytes of the parts. An unknown one
 // has none: its line could not be read.
 fn perform(
@@ -115,7 +153,8 @@ fn perform(
     out: &mut [u8],
     used: usize,
 ) -> usize {
-    let sheet = front(parts, f.size);
+    let sheet = front(parts, f.sheet);
+    let answers = behind(front(parts, f.size), f.sheet);
     let room = f.first as usize;
     let kind = (f.first % 65_536) as u16;
     let a = (f.first % 256) as u8;
@@ -128,6 +167,7 @@ fn perform(
         Service::Refusal => checked(refusal(sheet, kind), out, used),
         Service::Part => part_case(sheet, kind, out, used),
         Service::Transfer => transfer_case(sheet, a, b, out, used),
+        Service::Desk => desk_case(sheet, answers, out, used),
         Service::House => entry(house_entry(a, b), out, used),
         Service::Limits => limits(Machine::limits(), out, used),
     }

@@ -7,10 +7,10 @@ use Rattle.cases.proofs.parts.read_items.Statement.{statement}
 use Rattle.cases.proofs.parts.read_items.Tie as tie
 
 abbrev Inv-loop : tie.InvT-loop
-Inv-loop line parts₀ filled₀ turns₀ parts filled turns = length parts ≡ length parts₀
+Inv-loop line last parts₀ filled₀ turns₀ parts filled turns = length parts ≡ length parts₀
 
 abbrev μ-loop : tie.MeasureT-loop
-μ-loop line parts₀ filled₀ turns₀ parts filled turns = turns
+μ-loop line last parts₀ filled₀ turns₀ parts filled turns = turns
 
 read-item-requires : tie.Need-read-item-requires Inv-loop μ-loop
 read-item-requires c κs = search needs
@@ -18,11 +18,8 @@ read-item-requires c κs = search needs
 loop-holds : tie.Need-loop-holds Inv-loop μ-loop
 loop-holds c = search needs
 
-joined-requires : tie.Need-joined-requires Inv-loop μ-loop
-joined-requires c κs = search needs
-
-next-is-requires : tie.Need-next-is-requires Inv-loop μ-loop
-next-is-requires c κs = search needs
+goes-on-requires : tie.Need-goes-on-requires Inv-loop μ-loop
+goes-on-requires c κs = search needs
 
 next-item-requires : tie.Need-next-item-requires Inv-loop μ-loop
 next-item-requires c κs = search needs
@@ -59,8 +56,7 @@ read-items-spec =
     μ-loop
     read-item-requires
     loop-holds
-    joined-requires
-    next-is-requires
+    goes-on-requires
     next-item-requires
     read-item-requires-2
     sub-turns
