@@ -28,7 +28,7 @@ pub mod Service
 pub mod Twin
 
 -- ---- causes
--- the kinds that building needs (§2.3): the machine, and the word
+-- the kinds that building needs (§2.3), and the desk: the machine, and the word
 abbrev pub buildNeeds : Needs
 buildNeeds = record { word = true; sequence = false; answers = false }
 

@@ -14,6 +14,7 @@ use Rattle.sheet.specs.declared.check.Check.the-variants.{Clear, Refused}
 use Rattle.sheet.specs.Check.{firstCause}
 use Rattle.sheet.specs.Reader.{content}
 use Rattle.sheet.specs.Check.Laws.{clear-refused}
+use Rattle.sheet.specs.Values.Laws.{returns-specified}
 use Rattle.sheet.specs.Writing.{putAt, putEnd}
 use Rattle.sheet.specs.Writing.Laws.{put-fits, end-fits, end-not}
 use Rattle.machine.specs.Limits.{mostWord}
@@ -30,7 +31,7 @@ use Rattle.desk.specs.declared.starting.First.the-variants.{Command as F
 use Rattle.desk.specs.declared.starting.Started.{Started}
 use Rattle.desk.specs.Desk.Laws.{order-reading}
 use Rattle.desk.specs.Desk.Ends.{phase-reading}
-use Rattle.desk.specs.Service.{ordered, Reached, Starts}
+use Rattle.desk.specs.Service.{orderOn, Reached, firstValues, Starts}
 use Rattle.desk.specs.Service.Dialogue.{starting-first, starting-refused}
 
 -- what is put ends within the buffer
@@ -82,7 +83,7 @@ module _ (s : List ℕ) (l : Loaded) (h : ConnectedFrom s l) (before xs : List �
         ∙ sym (getD-take size word 0 0 (omega (arith, size-is, ap length xe, some)))
         ∙ ap (λ (x : List ℕ). getD x 0 0) (word-is ∙ xe)
 
-    order-is : ordered s [] ≡ Command (getD (content 2 s) 0 0)
+    order-is : orderOn s [] ≡ Command (getD (content 2 s) 0 0)
     order-is = order-reading (machineIn s) (content 2 s) [] (omega (arith, some))
 
     begins : Reached s [] (firstDesk l word size heard c)
@@ -103,10 +104,16 @@ module _ (s : List ℕ) (l : Loaded) (h : ConnectedFrom s l) (before xs : List �
       → Starts s (record { first = FirstCommand c; desk = firstDesk l word size heard c })
   starts-clear e =
       let clear = sym (h .check) ∙ e in
-      record { first = ap FirstCommand (command-is clear) ∙ sym (starting-first s clear); desk = λ q. begins q }
+      record {
+        first = returns-specified firstValues (ap FirstCommand (command-is clear) ∙ sym (starting-first s clear));
+        desk = λ q. begins q;
+      }
 
   pub starts-refused : {a b : ℕ} → l .check ≡ Refused a b
       → Starts s (record { first = RefusedFirst a b; desk = firstDesk l word size heard c })
   starts-refused {a} {b} e =
       let refused = sym (h .check) ∙ e in
-      record { first = sym (starting-refused s refused); desk = λ q. clear-refused q refused }
+      record {
+        first = returns-specified firstValues (sym (starting-refused s refused));
+        desk = λ q. clear-refused q refused;
+      }

@@ -1,4 +1,4 @@
 mod Beginning
-mod Locating
+mod Identifying
 mod Parts
 mod Turns

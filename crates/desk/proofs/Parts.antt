@@ -21,11 +21,11 @@ use Rattle.desk.specs.declared.desk.Order.the-variants.{Command, Home, S
 use Rattle.desk.specs.declared.desk.Phase.{Phase}
 use Rattle.desk.specs.declared.desk.Phase.the-variants.{Reading, Driving, Home as HomePhase}
 use Rattle.desk.specs.declared.desk.Phase.the-variants.{Stranger as StrangerPhase}
-use Rattle.desk.specs.declared.location.Followed.{Followed}
+use Rattle.desk.specs.declared.identification.Followed.{Followed}
 use Rattle.desk.specs.declared.stepping.Stepped.{Stepped}
 use Rattle.desk.specs.Desk.{firstState}
 use Rattle.desk.specs.Desk.Laws.{state-none}
-use Rattle.desk.specs.Location.{Locates}
+use Rattle.desk.specs.Identification.{Identifies}
 use Rattle.desk.specs.Stepping.{deskWith, Keeps, AtHome, AtStranger, Sends, Arrives, Drives, wordOf, Finds, Hears}
 
 -- ---- a desk with new parts
@@ -113,7 +113,7 @@ module _ (d : Desk) (state y : ℕ) {e : ℕ} (at : e ≡ state * d .machine .k 
   }
 
 -- ---- the end of the word
-module _ (d : Desk) (position : ℕ) (ys : List ℕ) {f : Followed} (h : Locates (meaning (d .machine)) (wordOf d) ys f) where
+module _ (d : Desk) (position : ℕ) (ys : List ℕ) {f : Followed} (h : Identifies (meaning (d .machine)) (wordOf d) ys f) where
   pub finds-state : f .agrees ≡ true → {r : Stepped} → Arrives d (f .end) (position + 1) r → Finds d position ys r
   finds-state t {r} a =
       let g = h .found t in

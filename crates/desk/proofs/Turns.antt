@@ -13,6 +13,7 @@ use borrow.Author.Tests.{eqb-true, eqb-false, ltb-true, ltb-false}
 use Rattle.sheet.specs.declared.check.Check.the-variants.{Clear}
 use Rattle.sheet.specs.Check.{firstCause}
 use Rattle.sheet.specs.Reader.{content}
+use Rattle.sheet.specs.Values.Laws.{returns-specified}
 use Rattle.machine.specs.Machine.{Mealy, run, answers, meaning, Proper, Distinguishes}
 use Rattle.machine.specs.Causes.{machineIn}
 use Rattle.build.specs.Transfer.{transfer}
@@ -23,7 +24,8 @@ use Rattle.desk.specs.declared.desk.Desk.{Desk}
 use Rattle.desk.specs.declared.desk.Order.{Order}
 use Rattle.desk.specs.declared.desk.Order.the-variants.{Command, Home, Stranger}
 use Rattle.desk.specs.declared.desk.Phase.{Phase}
-use Rattle.desk.specs.declared.desk.Phase.the-variants.{Reading, Driving, Home as HomePhase, Stranger as StrangerPhase}
+use Rattle.desk.specs.declared.desk.Phase.the-variants.{Reading, Driving, Home as HomePhase}
+use Rattle.desk.specs.declared.desk.Phase.the-variants.{Stranger as StrangerPhase}
 use Rattle.desk.specs.declared.stepping.Stepped.{Stepped}
 use Rattle.desk.specs.Desk.{firstState, beganIn, orderOf, isEnd, phaseOf}
 use Rattle.desk.specs.Desk.Laws.{SeenState, nothing, state, seen, first-answers, began-is, order-reading, order-none}
@@ -32,12 +34,12 @@ use Rattle.desk.specs.Desk.Laws.{along-differs, along-next, along-reache
 use Rattle.desk.specs.Desk.Agreement.{course-transfer, order-along}
 use Rattle.desk.specs.Desk.Ends.{order-repeats, end-read, phase-reading, phase-home, phase-stranger, phase-read}
 use Rattle.desk.specs.Desk.Ends.{phase-driven, phase-at-home, phase-at-stranger}
-use Rattle.desk.specs.Service.{ordered, Reached, endOf, Steps}
+use Rattle.desk.specs.Service.{orderOn, Reached, endOf, orderValues, Steps}
 use Rattle.desk.specs.Stepping.{Keeps, AtHome, AtStranger, Sends, Arrives, Drives, wordOf, Reads, Finds, Hears}
 
 -- an order is the specified one, and the answers lead to the desk
-record Right (s ys : List ℕ) (r : Stepped) : Type 0 where
-  order : r .order ≡ ordered s ys
+record Correct (s ys : List ℕ) (r : Stepped) : Type 0 where
+  order : r .order ≡ orderOn s ys
   desk : Reached s ys (r .desk)
 
 -- ---- a sheet that is not refused, and a desk with its machine and word
@@ -77,7 +79,7 @@ module _ (s : List ℕ) (clear : firstCause (connectedCauses s) ≡ Clear) (d : 
   past ys l k = let z : ⊥ = omega arith in absurd z
 
   ended-home : (ys : List ℕ) (n : ℕ) {r : Stepped} → length w ≤ length ys → orderOf M w ys ≡ Home n → AtHome d n r
-      → Right s ys r
+      → Correct s ys r
   ended-home ys n {r} l e h = record {
     order = h .order ∙ sym e;
     desk =
@@ -86,7 +88,7 @@ module _ (s : List ℕ) (clear : firstCause (connectedCauses s) ≡ Clear) (d : 
   }
 
   ended-stranger : (ys : List ℕ) (p : ℕ) {r : Stepped} → length w ≤ length ys → orderOf M w ys ≡ Stranger p
-      → AtStranger d p r → Right s ys r
+      → AtStranger d p r → Correct s ys r
   ended-stranger ys p {r} l e h = record {
     order = h .order ∙ sym e;
     desk =
@@ -96,7 +98,7 @@ module _ (s : List ℕ) (clear : firstCause (connectedCauses s) ≡ Clear) (d : 
 
   -- ---- arriving, all answers being right so far
   arrived-home : {b : ℕ} {v zs : List ℕ} → Along M w b v [] zs → {at n : ℕ} → at ≡ run M b v → n ≡ length zs
-      → {r : Stepped} → Arrives d at n r → Right s zs r
+      → {r : Stepped} → Arrives d at n r → Correct s zs r
   arrived-home {b} {v} {zs} h {at} {n} ae ne a =
       let home = transfer-none-left M (run M b v) (M .start) (h .drives) in
       let many : length v ≡ n = sym (along-length M w h) ∙ sym ne in
@@ -104,7 +106,7 @@ module _ (s : List ℕ) (clear : firstCause (connectedCauses s) ≡ Clear) (d : 
       (a .home (ae ∙ home ∙ ap (λ (N : Mealy). N .start) (sym me)))
 
   arrived-on : {b : ℕ} {v zs : List ℕ} (c : ℕ) (u : List ℕ) → Along M w b v (c ∷ u) zs → {at n : ℕ} → at ≡ run M b v
-      → n ≡ length zs → {r : Stepped} → Arrives d at n r → Right s zs r
+      → n ≡ length zs → {r : Stepped} → Arrives d at n r → Correct s zs r
   arrived-on {b} {v} {zs} c u h {at} {n} ae ne {r} a =
       let moves : transfer (meaning (d .machine)) at (meaning (d .machine) .start) ≡ some (c ∷ u) =
       ap₂ (λ (N : Mealy) (x : ℕ). transfer N x (N .start)) me ae ∙ h .drives in
@@ -120,7 +122,7 @@ module _ (s : List ℕ) (clear : firstCause (connectedCauses s) ≡ Clear) (d : 
       }
 
   arrived : {b : ℕ} {v zs : List ℕ} (rest : List ℕ) → Along M w b v rest zs → {at n : ℕ} → at ≡ run M b v
-      → n ≡ length zs → {r : Stepped} → Arrives d at n r → Right s zs r
+      → n ≡ length zs → {r : Stepped} → Arrives d at n r → Correct s zs r
   arrived [] h ae ne a = arrived-home h ae ne a
   arrived (c ∷ u) h ae ne a = arrived-on c u h ae ne a
 
@@ -129,7 +131,7 @@ module _ (s : List ℕ) (clear : firstCause (connectedCauses s) ≡ Clear) (d : 
 
   -- ---- the answer to a command of the word
   hears-more : (ys : List ℕ) (y : ℕ) → Reached s ys d → length ys + 1 < length w → {r : Stepped}
-      → Reads d (length ys) y r → Right s (ys ++ (y ∷ [])) r
+      → Reads d (length ys) y r → Correct s (ys ++ (y ∷ [])) r
   hears-more ys y g l {r} h =
       let zs = ys ++ (y ∷ []) in
       let long = one-longer ys y in
@@ -150,7 +152,7 @@ module _ (s : List ℕ) (clear : firstCause (connectedCauses s) ≡ Clear) (d : 
       }
 
   hears-last : (p : ℕ) (zs : List ℕ) → p + 1 ≡ length w → length zs ≡ length w → {r : Stepped} → Finds d p zs r
-      → Right s zs r
+      → Correct s zs r
   hears-last p zs l long {r} h = go (seen (firstState M w zs (M .n)))
     where
       began : beganIn M w zs ≡ firstState M w zs (M .n)
@@ -160,7 +162,7 @@ module _ (s : List ℕ) (clear : firstCause (connectedCauses s) ≡ Clear) (d : 
       theirs : firstState (meaning (d .machine)) (wordOf d) zs (meaning (d .machine) .n) ≡ firstState M w zs (M .n)
       theirs = ap₂ (λ (N : Mealy) (x : List ℕ). firstState N x zs (N .n)) me we
 
-      go : SeenState (firstState M w zs (M .n)) → Right s zs r
+      go : SeenState (firstState M w zs (M .n)) → Correct s zs r
       go (nothing e) =
           let place : length w - 1 ≡ p = omega arith in
           ended-stranger zs p (omega (arith, long))
@@ -173,13 +175,13 @@ module _ (s : List ℕ) (clear : firstCause (connectedCauses s) ≡ Clear) (d : 
           arrived (t .0) a (ap₂ (λ (N : Mealy) (x : List ℕ). run N b x) me we) (l ∙ sym long) (h .found b (theirs ∙ e))
 
   hears-right : (ys : List ℕ) (y : ℕ) → Reached s ys d → length ys < length w → {r : Stepped}
-      → Hears d (length ys) y r → Right s (ys ++ (y ∷ [])) r
+      → Hears d (length ys) y r → Correct s (ys ++ (y ∷ [])) r
   hears-right ys y g l {r} h = go (ltb (length ys + 1) (length w)) refl
     where
       few : d .size ≤ 16
       few = omega (arith, se, word .commands .few)
 
-      go : (b : Bool) → ltb (length ys + 1) (length w) ≡ b → Right s (ys ++ (y ∷ [])) r
+      go : (b : Bool) → ltb (length ys + 1) (length w) ≡ b → Correct s (ys ++ (y ∷ [])) r
       go true e =
           let k = ltb-true (length ys + 1) (length w) e in
           hears-more ys y g k (h .reads (omega (arith, se)) few)
@@ -191,7 +193,7 @@ module _ (s : List ℕ) (clear : firstCause (connectedCauses s) ≡ Clear) (d : 
 
   -- ---- the answer to a command of the transfer
   drives-right : (ys : List ℕ) (y at : ℕ) → Reached s ys d → d .phase ≡ Driving at → {r : Stepped} → Drives d at y r
-      → Right s (ys ++ (y ∷ [])) r
+      → Correct s (ys ++ (y ∷ [])) r
   drives-right ys y at g pe {r} h =
       let p = phase-driven M w ys (sym (g .phase) ∙ pe) in
       let c = p .1 .0 in
@@ -204,7 +206,7 @@ module _ (s : List ℕ) (clear : firstCause (connectedCauses s) ≡ Clear) (d : 
       go c (a .0) (a .1) (a .2) on here waiting
     where
       go : (c b : ℕ) (v u : List ℕ) → Along M w b v (c ∷ u) ys → at ≡ run M b v
-          → (d .count ≡ length ys) × (d .sent ≡ c) → Right s (ys ++ (y ∷ [])) r
+          → (d .count ≡ length ys) × (d .sent ≡ c) → Correct s (ys ++ (y ∷ [])) r
       go c b v u on here waiting = tested (eqb (M .answer (run M b v) c) y) refl
         where
           answer-is : meaning (d .machine) .answer at (d .sent) ≡ M .answer (run M b v) c
@@ -230,7 +232,7 @@ module _ (s : List ℕ) (clear : firstCause (connectedCauses s) ≡ Clear) (d : 
                 proper .few-states,
               )
 
-          tested : (t : Bool) → eqb (M .answer (run M b v) c) y ≡ t → Right s (ys ++ (y ∷ [])) r
+          tested : (t : Bool) → eqb (M .answer (run M b v) c) y ≡ t → Correct s (ys ++ (y ∷ [])) r
           tested true e =
               let same-answer = eqb-true (M .answer (run M b v) c) y e in
               arrived u (along-next M w on c u refl y same-answer) next-is
@@ -244,8 +246,8 @@ module _ (s : List ℕ) (clear : firstCause (connectedCauses s) ≡ Clear) (d : 
               (strange ∙ ap Stranger (sym (waiting .0))) (h .differs (λ q. apart (sym answer-is ∙ q)))
 
   -- ---- an end stays
-  stays-right : (ys : List ℕ) (y : ℕ) (o : Order) → Reached s ys d → isEnd (ordered s ys) ≡ true → ordered s ys ≡ o
-      → d .phase ≡ phaseOf M w (ys ++ (y ∷ [])) → Right s (ys ++ (y ∷ [])) (record { order = o; desk = d })
+  stays-right : (ys : List ℕ) (y : ℕ) (o : Order) → Reached s ys d → isEnd (orderOn s ys) ≡ true → orderOn s ys ≡ o
+      → d .phase ≡ phaseOf M w (ys ++ (y ∷ [])) → Correct s (ys ++ (y ∷ [])) (record { order = o; desk = d })
   stays-right ys y o g t e p =
       let zs = ys ++ (y ∷ []) in
       let same-end = order-repeats M w ys t (y ∷ []) in
@@ -264,10 +266,10 @@ module _ (s : List ℕ) (clear : firstCause (connectedCauses s) ≡ Clear) (d : 
 -- ---- step
 -- what step promises, by the phase of the desk
 module _ (d : Desk) (y : ℕ) where
-  right-steps : {r : Stepped} → ((s ys : List ℕ) → Reached s ys d → Right s (ys ++ (y ∷ [])) r)
+  right-steps : {r : Stepped} → ((s ys : List ℕ) → Reached s ys d → Correct s (ys ++ (y ∷ [])) r)
       → ((e : Order) → endOf (d .phase) ≡ some e → (r .order ≡ e) × (r .desk ≡ d)) → Steps d y r
   right-steps h e = record {
-    order = λ s ys g. h s ys g .order;
+    order = λ s ys g. returns-specified orderValues (h s ys g .order);
     desk = λ s ys g. h s ys g .desk;
     repeats = e;
   }

@@ -1,5 +1,5 @@
 -- The desk (§13): what it orders, of a machine, a word and the list of all answers so far. `Ordered` says it and
--- `orderOf` computes it; Desk.Agreement shows that both agree, by the laws of Desk.Laws. Desk.Ends has the laws of ends.
+-- `orderOf` computes it; Desk.Agreement shows that both agree, by the laws of Desk.Laws. Desk.Ends has those of ends.
 use Prim.Native.Nat.{ℕ, zero, suc, _-_, _+_, _≤_, _<_}
 use mathlib.Core.Path.{_≡_}
 use mathlib.Core.Bool.{Bool, true, false, cond}
@@ -14,13 +14,15 @@ use Rattle.build.specs.Transfer.{IsTransfer, transfer}
 use Rattle.desk.specs.declared.desk.Order.{Order}
 use Rattle.desk.specs.declared.desk.Order.the-variants.{Command, Home, Stranger}
 use Rattle.desk.specs.declared.desk.Phase.{Phase}
-use Rattle.desk.specs.declared.desk.Phase.the-variants.{Reading, Driving, Home as HomePhase, Stranger as StrangerPhase}
+use Rattle.desk.specs.declared.desk.Phase.the-variants.{Reading, Driving, Home as HomePhase}
+use Rattle.desk.specs.declared.desk.Phase.the-variants.{Stranger as StrangerPhase}
 pub mod Laws
 pub mod Agreement
 pub mod Ends
 
 -- ---- as the specification says it
--- the commands for a unit that began in state s (§13.1): the word, then the transfer from where it takes s to the start
+-- the commands for a unit that began in state s (§13.1): the word, and the transfer from the state to which the word
+-- leads from s to the start. In the literature, a distinguishing sequence and a transfer sequence to the initial state
 pub record Course (M : Mealy) (w : List ℕ) (s : ℕ) (xs : List ℕ) : Type 0 where
   pub state : s < M .n
   pub homeward : List ℕ
@@ -28,25 +30,30 @@ pub record Course (M : Mealy) (w : List ℕ) (s : ℕ) (xs : List ℕ) : Type 0 
   pub commands : xs ≡ w ++ homeward
 
 -- the answers before place p are those of state s to these commands
-abbrev pub Right : Mealy → ℕ → List ℕ → List ℕ → ℕ → Type 0
-Right M s xs ys p = (i : ℕ) → i < p → getD (answers M s xs) i 0 ≡ getD ys i 0
+abbrev pub RightFrom : Mealy → ℕ → List ℕ → List ℕ → ℕ → Type 0
+RightFrom M s xs ys p = (i : ℕ) → i < p → getD (answers M s xs) i 0 ≡ getD ys i 0
+
+-- why the unit is a stranger at answer p (§13.1)
+pub data Strange (M : Mealy) (w ys : List ℕ) (p : ℕ) : Type 0 where
+  -- no state gives these answers to the word, and p is the number of its last answer
+  no-state : length w ≤ length ys → p ≡ length w - 1
+      → ((s : ℕ) → s < M .n → answers M s w ≡ take (length w) ys → ⊥) → Strange M w ys p
+  -- one does, and p is the number of the first answer to the transfer that is not that state's
+  differing : (s : ℕ) (xs : List ℕ) → Course M w s xs → length w ≤ p → p < length ys → p < length xs
+      → RightFrom M s xs ys p → (getD (answers M s xs) p 0 ≡ getD ys p 0 → ⊥) → Strange M w ys p
 
 -- what the desk orders after the answers ys (§13.1)
 pub data Ordered (M : Mealy) (w ys : List ℕ) : Order → Type 0 where
-  -- the word's next command, as long as not all of it is answered
-  reading : {c : ℕ} → length ys < length w → c ≡ getD w (length ys) 0 → Ordered M w ys (Command c)
-  -- stranger at the word's last answer, where no state answers the whole word so
-  no-state : {p : ℕ} → length w ≤ length ys → p ≡ length w - 1
-      → ((s : ℕ) → s < M .n → answers M s w ≡ take (length w) ys → ⊥) → Ordered M w ys (Stranger p)
-  -- else the transfer's next command, as long as the answers are right
-  driving : {c : ℕ} (s : ℕ) (xs : List ℕ) → Course M w s xs → length w ≤ length ys → length ys < length xs
-      → Right M s xs ys (length ys) → c ≡ getD xs (length ys) 0 → Ordered M w ys (Command c)
-  -- stranger at the first later answer that differs
-  differing : {p : ℕ} (s : ℕ) (xs : List ℕ) → Course M w s xs → length w ≤ p → p < length ys → p < length xs
-      → Right M s xs ys p → (getD (answers M s xs) p 0 ≡ getD ys p 0 → ⊥) → Ordered M w ys (Stranger p)
-  -- home, where all commands are answered right
-  home : {n : ℕ} (s : ℕ) (xs : List ℕ) → Course M w s xs → length xs ≤ length ys → Right M s xs ys (length xs)
+  -- as long as not all of the word is answered, its next command
+  word-next : {c : ℕ} → length ys < length w → c ≡ getD w (length ys) 0 → Ordered M w ys (Command c)
+  -- then, as long as all answers are right and the course is not at its end, the transfer's next command
+  transfer-next : {c : ℕ} (s : ℕ) (xs : List ℕ) → Course M w s xs → length w ≤ length ys → length ys < length xs
+      → RightFrom M s xs ys (length ys) → c ≡ getD xs (length ys) 0 → Ordered M w ys (Command c)
+  -- at its end home, with the number of its commands
+  home : {n : ℕ} (s : ℕ) (xs : List ℕ) → Course M w s xs → length xs ≤ length ys → RightFrom M s xs ys (length xs)
       → n ≡ length xs → Ordered M w ys (Home n)
+  -- stranger, with the number of the answer
+  strange : {p : ℕ} → Strange M w ys p → Ordered M w ys (Stranger p)
 
 -- ---- computed
 -- a state, where a test holds; else none
@@ -54,12 +61,12 @@ unfoldable pub stateIf : Bool → ℕ → Option ℕ
 stateIf true s = some s
 stateIf false s = none
 
--- the least of the states below m that answers the word so, if one does
+-- the least of the states below m that gives these answers to the word, if one does
 unfoldable pub firstState : Mealy → List ℕ → List ℕ → ℕ → Option ℕ
 firstState M w ys zero = none
 firstState M w ys (suc m) = orElse (firstState M w ys m) (stateIf (same (answers M m w) ys) m)
 
--- the state in which the unit began, by its answers to the word: the word separates, so there is at most one
+-- the state that gives the first of these answers to the word: the word separates, so there is at most one
 unfoldable pub beganIn : Mealy → List ℕ → List ℕ → Option ℕ
 beganIn M w ys = firstState M w (take (length w) ys) (M .n)
 
@@ -67,7 +74,7 @@ beganIn M w ys = firstState M w (take (length w) ys) (M .n)
 unfoldable pub course : Mealy → List ℕ → ℕ → List ℕ
 course M w s = w ++ Option·getD (transfer M (run M s w) (M .start)) []
 
--- what is ordered of these commands, by how many answers from the front are those of state s
+-- what is ordered of these commands, by how many answers from the front are right
 unfoldable pub orderAt : List ℕ → List ℕ → ℕ → Order
 orderAt xs ys right =
     cond (ltb right (length xs)) (cond (ltb right (length ys)) (Stranger right) (Command (getD xs right 0)))
@@ -94,6 +101,7 @@ unfoldable pub stateAfter : Mealy → List ℕ → ℕ → Option ℕ → ℕ
 stateAfter M w p none = 0
 stateAfter M w p (some s) = run M s (take p (course M w s))
 
+-- the phase of an order
 unfoldable pub phaseFor : Mealy → List ℕ → List ℕ → Order → Phase
 phaseFor M w ys (Command c) =
     cond (ltb (length ys) (length w)) (Reading (length ys)) (Driving (stateAfter M w (length ys) (beganIn M w ys)))

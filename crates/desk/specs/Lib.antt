@@ -1,4 +1,4 @@
 pub mod Desk
 pub mod Service
-pub mod Location
+pub mod Identification
 pub mod Stepping

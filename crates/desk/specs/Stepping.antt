@@ -10,7 +10,8 @@ use Rattle.build.specs.Transfer.{transfer}
 use Rattle.desk.specs.declared.desk.Desk.{Desk}
 use Rattle.desk.specs.declared.desk.Order.the-variants.{Command, Home, Stranger}
 use Rattle.desk.specs.declared.desk.Phase.{Phase}
-use Rattle.desk.specs.declared.desk.Phase.the-variants.{Reading, Driving, Home as HomePhase, Stranger as StrangerPhase}
+use Rattle.desk.specs.declared.desk.Phase.the-variants.{Reading, Driving, Home as HomePhase}
+use Rattle.desk.specs.declared.desk.Phase.the-variants.{Stranger as StrangerPhase}
 use Rattle.desk.specs.declared.stepping.Stepped.{Stepped}
 use Rattle.desk.specs.Desk.{firstState}
 

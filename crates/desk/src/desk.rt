@@ -11,8 +11,9 @@ pub enum Phase {
     Stranger { at: u8 },
 }
 
-// The machine, the word in the first `size` bytes of its array, the answers to it in those of
-// `heard`, how many answers there were, the command last sent, and the phase.
+// The machine; the word, in the first `size` bytes of its array; in `heard` the answers to its
+// commands before the last; while a command waits for its answer, how many answers are in and that
+// command; and the phase.
 pub struct Desk {
     pub machine: Machine,
     pub word: [u8; Machine::WORD],

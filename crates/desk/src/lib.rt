@@ -1,6 +1,6 @@
-// The desk: brings a unit to its start, command by command (§13).
+// The desk (§13): from any state of a unit to the start, command by command.
 mod desk;
-mod location;
+mod identification;
 mod starting;
 mod stepping;
 

@@ -16,13 +16,13 @@ pub enum First {
     Refused { number: u8, place: usize },
 }
 
-// The answer, and the desk, which on a refusal is none that step can be used with.
+// The answer, and the desk; on a refusal nothing is promised of the desk.
 pub struct Started {
     pub first: First,
     pub desk: Desk,
 }
 
-// Makes all checks of a sheet, and gives the desk and the first command.
+// Checks a sheet for causes 1 to 6 and 8, and gives the desk and the first command.
 pub fn start(sheet: &[u8]) -> Started
     ensures { λ r. ⌜ Starts (now (sheet .entry)) r ⌝ }
 {

@@ -9,7 +9,7 @@ ghost use Rattle.desk.specs.Stepping.{deskWith, AtHome, AtStranger, Arri
 use crate::desk::Desk;
 use crate::desk::Order;
 use crate::desk::Phase;
-use crate::location::locate;
+use crate::identification::identify;
 use build::transfer;
 use machine::Machine;
 use machine::entry_at;
@@ -62,8 +62,8 @@ fn stranger(desk: Desk, at: u8) -> Stepped
     }
 }
 
-// The number behind a number; the largest has none.
-fn following(n: u8) -> u8
+// One more than a number, or the same where that is no byte.
+fn one_more(n: u8) -> u8
     ensures { λ r. ⌜ (n + 1 < 256 → r ≡ n + 1) ⌝ }
 {
     if n == u8::MAX { n } else { n + 1 }
@@ -98,7 +98,7 @@ fn drive(desk: Desk, state: u8, answer: u8) -> Stepped
     if byte(&specified, e) != answer {
         return stranger(desk, desk.count);
     }
-    arrive(desk, byte(&next, e), following(desk.count))
+    arrive(desk, byte(&next, e), one_more(desk.count))
 }
 
 // The word is answered: the state where it ends, by the state in which the unit began.
@@ -110,7 +110,7 @@ fn find(desk: Desk, heard: &[u8], position: u8) -> Stepped
 {
     let m = desk.machine;
     let word = desk.word;
-    let found = locate(m, &word[..desk.size as usize], heard);
+    let found = identify(m, &word[..desk.size as usize], heard);
     if found.agrees {
         arrive(desk, found.end, position + 1)
     } else {
@@ -155,7 +155,7 @@ fn hear(desk: Desk, position: u8, answer: u8) -> Stepped
     }
 }
 
-// Takes the answer to the last command, and gives the desk after it and what is to be done.
+// One step: what is to be done after an answer, and the desk then.
 pub fn step(desk: Desk, answer: u8) -> Stepped
     ensures { λ r. ⌜ Steps desk answer r ⌝ }
 {

@@ -65,8 +65,8 @@ agreed-is xs ys p h =
     equal : (p < agreed xs ys → ⊥) → (agreed xs ys < p → ⊥) → p ≡ agreed xs ys
     equal a b = omega arith
 
--- ---- of lists with a common front
--- a list and its front agree as far as the front goes
+-- ---- of lists with a known common prefix
+-- a list and its prefix agree as far as the prefix goes
 pub agreed-front : (xs zs : List ℕ) → agreed (xs ++ zs) xs ≡ length xs
 unfolding agreed
 agreed-front [] [] = refl
@@ -78,7 +78,7 @@ agreed-front (x ∷ xs) zs = go (eqb x x) refl (agreed-front xs zs)
     go true e h = ap suc h
     go false e h = absurd (eqb-false x x e refl)
 
--- lists that differ behind a common front agree as far as that goes
+-- lists that differ behind a common prefix agree as far as that goes
 pub agreed-then : (xs : List ℕ) (a b : ℕ) (us vs : List ℕ) → (a ≡ b → ⊥)
     → agreed (xs ++ (a ∷ us)) (xs ++ (b ∷ vs)) ≡ length xs
 unfolding agreed
@@ -94,7 +94,7 @@ agreed-then (x ∷ xs) a b us vs d = go (eqb x x) refl (agreed-then xs a b us vs
     go true e h = ap suc h
     go false e h = absurd (eqb-false x x e refl)
 
--- what follows the second list changes nothing where they differ in it, or where it has all of the first
+-- what follows the second list changes nothing where it has all of the first, or where they differ in it
 pub agreed-longer : (xs ys zs : List ℕ) → length xs ≤ agreed xs ys → agreed xs (ys ++ zs) ≡ agreed xs ys
 agreed-longer xs ys zs l =
     let h = agreed-holds xs ys in

@@ -19,8 +19,8 @@ use Rattle.build.specs.Transfer.Laws.{transfer-is, is-transfer, leads-some, tra
 use Rattle.build.specs.Building.{StronglyConnected}
 use Rattle.desk.specs.declared.desk.Order.{Order}
 use Rattle.desk.specs.declared.desk.Order.the-variants.{Command, Home, Stranger}
-use Rattle.desk.specs.Desk.{Course, Right, Ordered, reading, no-state, driving, differing, home, firstState, beganIn}
-use Rattle.desk.specs.Desk.{course, orderAt, orderOf}
+use Rattle.desk.specs.Desk.{Course, RightFrom, Strange, Ordered, word-next, transfer-next, home, strange, no-state, differing}
+use Rattle.desk.specs.Desk.{firstState, beganIn, course, orderAt, orderOf}
 use Rattle.desk.specs.Desk.Laws.{SeenState, nothing, state, seen, state-none, first-answers, first-none, first-one}
 use Rattle.desk.specs.Desk.Laws.{began-is, order-reading, order-none, order-some, at-stranger, at-command, at-home}
 use Rattle.desk.specs.Desk.Laws.{course-is, Along}
@@ -96,7 +96,7 @@ module _ (M : Mealy) (w : List ℕ) (proper : Proper M) (word : Distinguishes M 
       ∙ ap (λ (x : List ℕ). getD x i 0) e
       ∙ getD-take (length w) ys i 0 il
 
-  right-word : (s : ℕ) (xs ys : List ℕ) → Course M w s xs → (p : ℕ) → length w ≤ p → p ≤ length ys → Right M s xs ys p
+  right-word : (s : ℕ) (xs ys : List ℕ) → Course M w s xs → (p : ℕ) → length w ≤ p → p ≤ length ys → RightFrom M s xs ys p
       → answers M s w ≡ take (length w) ys
   right-word s xs ys h p l pl r =
       ext-getD 0 (answers M s w) (take (length w) ys)
@@ -120,14 +120,14 @@ module _ (M : Mealy) (w : List ℕ) (proper : Proper M) (word : Distinguishes M 
       let many = answers-length M s xs in
       let here = a .here (omega (arith, many)) yl in
       let behind : p < length w → ⊥ = λ k. here (word-right s xs ys h l e p k) in
-      rw (at-stranger xs ys pl yl) (differing {p = p} s xs h (omega arith) yl pl (a .before) here)
+      rw (at-stranger xs ys pl yl) (strange {p = p} (differing s xs h (omega arith) yl pl (a .before) here))
   ordered-by s ys sl l e p a true false te ue =
       let xs = course M w s in
       let pl = ltb-true p (length xs) te in
       let yl = ltb-false p (length ys) ue in
       let all : p ≡ length ys = omega (arith, a .in-second) in
       rw (at-command xs ys pl yl)
-      (driving s xs (course-course s sl) l (omega arith) (λ i il. a .before i (omega arith))
+      (transfer-next s xs (course-course s sl) l (omega arith) (λ i il. a .before i (omega arith))
       (ap (λ (i : ℕ). getD xs i 0) all))
   ordered-by s ys sl l e p a false u te ue =
       let xs = course M w s in
@@ -141,7 +141,7 @@ module _ (M : Mealy) (w : List ℕ) (proper : Proper M) (word : Distinguishes M 
     where
       read : length w ≤ length ys → SeenState (beganIn M w ys) → Ordered M w ys (orderOf M w ys)
       read l (nothing e) =
-          rw (order-none M w ys l e) (no-state l refl (first-none M w (take (length w) ys) (M .n) (sym (began-is M w ys) ∙ e)))
+          rw (order-none M w ys l e) (strange (no-state l refl (first-none M w (take (length w) ys) (M .n) (sym (began-is M w ys) ∙ e))))
       read l (state s e) =
           let f = first-answers M w (take (length w) ys) (M .n) (sym (began-is M w ys) ∙ e) in
           let xs = course M w s in
@@ -151,11 +151,11 @@ module _ (M : Mealy) (w : List ℕ) (proper : Proper M) (word : Distinguishes M 
           (ltb right (length ys)) refl refl)
 
       go : (t : Bool) → ltb (length ys) (length w) ≡ t → Ordered M w ys (orderOf M w ys)
-      go true e = let l = ltb-true (length ys) (length w) e in rw (order-reading M w ys l) (reading l refl)
+      go true e = let l = ltb-true (length ys) (length w) e in rw (order-reading M w ys l) (word-next l refl)
       go false e = read (ltb-false (length ys) (length w) e) (seen (beganIn M w ys))
 
   -- ---- and back
-  began-right : (s : ℕ) (xs ys : List ℕ) → Course M w s xs → (p : ℕ) → length w ≤ p → p ≤ length ys → Right M s xs ys p
+  began-right : (s : ℕ) (xs ys : List ℕ) → Course M w s xs → (p : ℕ) → length w ≤ p → p ≤ length ys → RightFrom M s xs ys p
       → beganIn M w ys ≡ some s
   began-right s xs ys h p l pl r =
       began-is M w ys
@@ -172,15 +172,15 @@ module _ (M : Mealy) (w : List ℕ) (proper : Proper M) (word : Distinguishes M 
   course-long s xs h = omega (arith, ap length (h .commands), length-append w (h .homeward))
 
   pub ordered-order : (ys : List ℕ) {o : Order} → Ordered M w ys o → o ≡ orderOf M w ys
-  ordered-order ys (reading l e) = ap Command e ∙ sym (order-reading M w ys l)
-  ordered-order ys (no-state l e h) = ap Stranger e ∙ sym (order-none M w ys l (none-there (seen (beganIn M w ys))))
+  ordered-order ys (word-next l e) = ap Command e ∙ sym (order-reading M w ys l)
+  ordered-order ys (strange (no-state l e h)) = ap Stranger e ∙ sym (order-none M w ys l (none-there (seen (beganIn M w ys))))
     where
       none-there : SeenState (beganIn M w ys) → beganIn M w ys ≡ none
       none-there (nothing q) = q
       none-there (state s q) =
           let f = first-answers M w (take (length w) ys) (M .n) (sym (began-is M w ys) ∙ q) in
           absurd (h s (f .0) (f .1))
-  ordered-order ys (driving s xs h l k r e) =
+  ordered-order ys (transfer-next s xs h l k r e) =
       let many = answers-length M s xs in
       let a : Agreed (answers M s xs) ys (length ys) = record {
         in-first = omega (arith, many);
@@ -189,7 +189,7 @@ module _ (M : Mealy) (w : List ℕ) (proper : Proper M) (word : Distinguishes M 
         here = λ p q x. omega arith;
       } in
       ap Command e ∙ sym (order-right s xs ys h (length ys) l (omega arith) a ∙ at-command xs ys k (omega arith))
-  ordered-order ys (differing {p} s xs h l yl xl r d) =
+  ordered-order ys (strange {p = p} (differing s xs h l yl xl r d)) =
       let many = answers-length M s xs in
       let a : Agreed (answers M s xs) ys p = record {
         in-first = omega (arith, many);
@@ -220,11 +220,10 @@ module _ (M : Mealy) (w : List ℕ) (proper : Proper M) (word : Distinguishes M 
 
       go : {o : Order} → Ordered M w ys o → o ≡ Command c
           → (s : ℕ) × (v : List ℕ) × (u : List ℕ) × Along M w s v (c ∷ u) ys
-      go (reading k q) f = let z : ⊥ = omega arith in absurd z
-      go (no-state k p h) f = let z : _≡_ {A = ℕ} 0 1 = cc in absurd (omega arith)
-      go (differing s xs h k yl xl r d) f = let z : _≡_ {A = ℕ} 0 1 = cc in absurd (omega arith)
+      go (word-next k q) f = let z : ⊥ = omega arith in absurd z
+      go (strange why) f = let z : _≡_ {A = ℕ} 0 1 = cc in absurd (omega arith)
       go (home s xs h k r q) f = let z : _≡_ {A = ℕ} 0 1 = cc in absurd (omega arith)
-      go (driving {c = d} s xs h k yl r q) f =
+      go (transfer-next {c = d} s xs h k yl r q) f =
           let same-command : d ≡ c = cc in
           let next : drop (length ys) xs ≡ c ∷ drop (suc (length ys)) xs =
           drop-cons xs (length ys) 0 yl ∙ ap (λ (x : ℕ). x ∷ drop (suc (length ys)) xs) (sym q ∙ same-command) in

@@ -24,7 +24,8 @@ use Rattle.build.specs.Transfer.Laws.{transfer-below, transfer-rest}
 use Rattle.desk.specs.declared.desk.Order.{Order}
 use Rattle.desk.specs.declared.desk.Order.the-variants.{Command, Home, Stranger}
 use Rattle.desk.specs.declared.desk.Phase.{Phase}
-use Rattle.desk.specs.declared.desk.Phase.the-variants.{Reading, Driving, Home as HomePhase, Stranger as StrangerPhase}
+use Rattle.desk.specs.declared.desk.Phase.the-variants.{Reading, Driving, Home as HomePhase}
+use Rattle.desk.specs.declared.desk.Phase.the-variants.{Stranger as StrangerPhase}
 use Rattle.desk.specs.Desk.{stateIf, firstState, beganIn, course, orderAt, orderFrom, orderOf, stateAfter, phaseFor}
 use Rattle.desk.specs.Desk.{phaseOf}
 

@@ -1,32 +1,33 @@
 -- Dialogues: what start and the steps after it give, each with the desk as last returned. By the two contracts alone,
 -- every order is the specified one; the desk ends after L + n - 1 answers at the latest, whatever they are; it repeats
--- its end; and stranger has one of two reasons.
+-- its end; its phase says whether it reads or drives; and stranger has one of two reasons (§13.2, §13.3).
 use Prim.Native.Nat.{ℕ, _+_, _-_, _≤_, _<_}
-use mathlib.Core.Path.{_≡_, refl, sym, ap, _∙_}
-use mathlib.Core.Bool.{true}
+use mathlib.Core.Path.{_≡_, refl, sym, ap, subst, _∙_}
+use mathlib.Core.Bool.{true, false, true≢false}
+use mathlib.Core.Option.{some}
 use mathlib.Core.List.{List, [], _∷_, _++_}
 use native.Mathlib.Omega.{arith}
-use lib.ListN.{length, getD, take}
+use lib.ListN.{length, getD}
 use Rattle.sheet.specs.declared.check.Check.{Check}
 use Rattle.sheet.specs.declared.check.Check.the-variants.{Clear, Refused}
 use Rattle.sheet.specs.Check.{firstCause, refusedOr}
 use Rattle.sheet.specs.Reader.{content}
-use Rattle.machine.specs.Machine.{Mealy, answers}
+use Rattle.machine.specs.Machine.{run, answers}
 use Rattle.machine.specs.Causes.{machineIn}
 use Rattle.build.specs.Building.{connectedCauses}
 use Rattle.build.specs.Building.Connection.{clear-proper, clear-distinguishes, clear-strongly}
 use Rattle.desk.specs.declared.desk.Desk.{Desk}
 use Rattle.desk.specs.declared.desk.Order.{Order}
 use Rattle.desk.specs.declared.desk.Order.the-variants.{Command, Home, Stranger}
-use Rattle.desk.specs.declared.starting.First.{First}
+use Rattle.desk.specs.declared.desk.Phase.the-variants.{Reading, Driving}
 use Rattle.desk.specs.declared.starting.First.the-variants.{Command as FirstCommand, Refused as RefusedFirst}
 use Rattle.desk.specs.declared.starting.Started.{Started}
 use Rattle.desk.specs.declared.stepping.Stepped.{Stepped}
-use Rattle.desk.specs.Desk.{Course, Right, Ordered, reading, no-state, driving, differing, home, isEnd}
-use Rattle.desk.specs.Desk.Laws.{order-reading}
-use Rattle.desk.specs.Desk.Agreement.{order-ordered}
-use Rattle.desk.specs.Desk.Ends.{order-ends, order-repeats}
-use Rattle.desk.specs.Service.{ordered, Reached, starting, Starts, Steps}
+use Rattle.desk.specs.Desk.{Strange, Ordered, word-next, transfer-next, home, strange, isEnd}
+use Rattle.desk.specs.Desk.Laws.{order-reading, along-phase}
+use Rattle.desk.specs.Desk.Agreement.{order-ordered, order-along}
+use Rattle.desk.specs.Desk.Ends.{order-ends, order-repeats, phase-reading, phase-home, phase-stranger}
+use Rattle.desk.specs.Service.{orderOn, Reached, starting, Starts, endOf, Steps}
 
 -- start on a sheet, then a step for each of the answers ys: the desk and the order that were returned last
 pub data Dialogue (s : List ℕ) : List ℕ → Desk → Order → Type 0 where
@@ -59,15 +60,15 @@ starting-clear s e = first-by (firstCause (connectedCauses s)) (getD (content 2 
 -- ---- every order is the specified one
 module _ (s : List ℕ) where
   pub dialogue-reached : {ys : List ℕ} {d : Desk} {o : Order} → Dialogue s ys d o → Reached s ys d
-  dialogue-reached (begun r h e) = h .desk (starting-clear s (sym (h .first) ∙ e) .0)
+  dialogue-reached (begun r h e) = h .desk (starting-clear s (sym (h .first .is) ∙ e) .0)
   dialogue-reached (continued {ys} y r g h) = h .desk s ys (dialogue-reached g)
 
-  pub dialogue-order : {ys : List ℕ} {d : Desk} {o : Order} → Dialogue s ys d o → o ≡ ordered s ys
+  pub dialogue-order : {ys : List ℕ} {d : Desk} {o : Order} → Dialogue s ys d o → o ≡ orderOn s ys
   dialogue-order (begun r h e) =
-      let k = starting-clear s (sym (h .first) ∙ e) in
+      let k = starting-clear s (sym (h .first .is) ∙ e) in
       let long = clear-distinguishes s (k .0) .commands .some in
       ap Command (k .1) ∙ sym (order-reading (machineIn s) (content 2 s) [] (omega arith))
-  dialogue-order (continued {ys} y r g h) = h .order s ys (dialogue-reached g)
+  dialogue-order (continued {ys} y r g h) = h .order s ys (dialogue-reached g) .is
 
   module _ {ys : List ℕ} {d : Desk} {o : Order} (g : Dialogue s ys d o) where
     clear : firstCause (connectedCauses s) ≡ Clear
@@ -86,6 +87,37 @@ module _ (s : List ℕ) where
         ap isEnd (dialogue-order g)
         ∙ order-ends (machineIn s) (content 2 s) ys (clear-proper s clear .some-states) l
 
+    -- the desk has ended where its order is an end, and its end is that order
+    pub dialogue-ended : isEnd o ≡ true → endOf (d .phase) ≡ some o
+    dialogue-ended t = go o (dialogue-order g) t
+      where
+        go : (x : Order) → x ≡ orderOn s ys → isEnd x ≡ true → endOf (d .phase) ≡ some x
+        go (Command c) e u = let z : false ≡ true = u in absurd (true≢false (sym z))
+        go (Home n) e u =
+            ap endOf (dialogue-reached g .phase ∙ phase-home (machineIn s) (content 2 s) ys (sym e))
+        go (Stranger p) e u =
+            ap endOf (dialogue-reached g .phase ∙ phase-stranger (machineIn s) (content 2 s) ys (sym e))
+
+    -- the desk says that it reads until the word is answered, with the position in the word
+    pub dialogue-reads : length ys < length (content 2 s) → d .phase ≡ Reading (length ys)
+    dialogue-reads l = dialogue-reached g .phase ∙ phase-reading (machineIn s) (content 2 s) ys l
+
+    -- and where it then sends a command, that it drives, with the state reached: that to which the commands sent so far
+    -- lead from the state in which the unit began
+    pub dialogue-drives : length (content 2 s) ≤ length ys → {c : ℕ} → o ≡ Command c
+        → (b : ℕ) × (v : List ℕ) × (ys ≡ answers (machineIn s) b v) × (d .phase ≡ Driving (run (machineIn s) b v))
+    dialogue-drives l {c} e =
+        let word = clear-distinguishes s clear in
+        let a =
+        order-along (machineIn s) (content 2 s) (clear-proper s clear) word (clear-strongly s clear) ys l
+        (sym (dialogue-order g) ∙ e) in (
+          a .0,
+          a .1,
+          a .3 .answered,
+          dialogue-reached g .phase
+              ∙ along-phase (machineIn s) (content 2 s) (a .3) c (a .2) refl (word .separates),
+        )
+
     -- an end is the order to any answers after it
     pub dialogue-repeats : isEnd o ≡ true → (zs : List ℕ) (e : Desk) (p : Order) → Dialogue s (ys ++ zs) e p → p ≡ o
     dialogue-repeats t zs e p f =
@@ -94,24 +126,15 @@ module _ (s : List ℕ) where
         ∙ sym (dialogue-order g)
 
 -- ---- why stranger is told
--- no state answers the whole word so, and the answer is the word's last; or one does, and its answer at p, the first
--- that differs, is another
-pub data Strange (M : Mealy) (w ys : List ℕ) (p : ℕ) : Type 0 where
-  nobody : p ≡ length w - 1 → length w ≤ length ys
-      → ((s : ℕ) → s < M .n → answers M s w ≡ take (length w) ys → ⊥) → Strange M w ys p
-  another : (s : ℕ) (xs : List ℕ) → Course M w s xs → length w ≤ p → p < length ys → p < length xs
-      → Right M s xs ys p → (getD (answers M s xs) p 0 ≡ getD ys p 0 → ⊥) → Strange M w ys p
-
 pub stranger-why : (s : List ℕ) {ys : List ℕ} {d : Desk} {p : ℕ} → Dialogue s ys d (Stranger p)
     → Strange (machineIn s) (content 2 s) ys p
 stranger-why s {ys} {d} {p} g = go (dialogue-ordered s g) refl
   where
     go : {o : Order} → Ordered (machineIn s) (content 2 s) ys o → o ≡ Stranger p
         → Strange (machineIn s) (content 2 s) ys p
-    go (reading k q) f = let z : _≡_ {A = ℕ} 0 1 = cc in absurd (omega arith)
-    go (driving t xs h k yl r q) f = let z : _≡_ {A = ℕ} 0 1 = cc in absurd (omega arith)
+    go (word-next k q) f = let z : _≡_ {A = ℕ} 0 1 = cc in absurd (omega arith)
+    go (transfer-next t xs h k yl r q) f = let z : _≡_ {A = ℕ} 0 1 = cc in absurd (omega arith)
     go (home t xs h k r q) f = let z : _≡_ {A = ℕ} 0 1 = cc in absurd (omega arith)
-    go (no-state {p = q} k e h) f = let same-place : q ≡ p = cc in rw (← same-place) (nobody e k h)
-    go (differing {p = q} t xs h k yl xl r d) f =
+    go (strange {p = q} why) f =
         let same-place : q ≡ p = cc in
-        rw (← same-place) (another t xs h k yl xl r d)
+        subst (λ (x : ℕ). Strange (machineIn s) (content 2 s) ys x) same-place why

@@ -1,7 +1,7 @@
--- A unit that equals the sheet up to renaming is brought home: whatever state it began in, its own answers handed in in
--- order, the desk is never a stranger to it, sends at most L + n - 1 commands, and ends at home with the unit in the
--- state that is assigned to the start.
-use Prim.Native.Nat.{ℕ, suc, _+_, _-_, _≤_, _<_}
+-- Units whose table is isomorphic to the sheet's (§13.3): begun in any state, with the unit's own answers as input, the
+-- dialogue has at most L + n - 1 commands and ends with home, never with stranger, and the unit is then in the state
+-- that is assigned to the start.
+use Prim.Native.Nat.{ℕ, zero, suc, _+_, _≤_, _<_}
 use mathlib.Core.Path.{_≡_, refl, sym, ap, ap₂, _∙_}
 use mathlib.Core.Bool.{Bool, true, false}
 use mathlib.Core.List.{List, [], _∷_, _++_}
@@ -29,17 +29,17 @@ use Rattle.desk.specs.declared.stepping.Stepped.{Stepped}
 use Rattle.desk.specs.Desk.{Course, course, orderOf}
 use Rattle.desk.specs.Desk.Laws.{order-reading, course-short, along-command, along-home}
 use Rattle.desk.specs.Desk.Agreement.{course-course, course-along}
-use Rattle.desk.specs.Service.{ordered, Starts, Steps}
+use Rattle.desk.specs.Service.{orderOn, Starts, Steps}
 use Rattle.desk.specs.Service.Dialogue.{Dialogue, begun, continued, dialogue-reached, dialogue-order}
 
 -- ---- what is said
--- the dialogue with a unit: start, then each command that is ordered goes to the unit, and its answer to step. The list
+-- the dialogue with a unit: start, then each command that is orderOn goes to the unit, and its answer to step. The list
 -- is that of the commands sent
-pub data Driven (s : List ℕ) (U : Unit (machineIn s .n) (machineIn s .k)) : List ℕ → Desk → Order → Type 0 where
-  started : {c : ℕ} (r : Started) → Starts s r → r .first ≡ FirstCommand c → Driven s U [] (r .desk) (Command c)
-  sent : {xs : List ℕ} {d : Desk} {c : ℕ} (r : Stepped) → Driven s U xs d (Command c)
+pub data UnitDialogue (s : List ℕ) (U : Unit (machineIn s .n) (machineIn s .k)) : List ℕ → Desk → Order → Type 0 where
+  started : {c : ℕ} (r : Started) → Starts s r → r .first ≡ FirstCommand c → UnitDialogue s U [] (r .desk) (Command c)
+  sent : {xs : List ℕ} {d : Desk} {c : ℕ} (r : Stepped) → UnitDialogue s U xs d (Command c)
       → Steps d (U .answer (presentState (machineIn s .n) (machineIn s .k) U xs) c) r
-      → Driven s U (xs ++ (c ∷ [])) (r .desk) (r .order)
+      → UnitDialogue s U (xs ++ (c ∷ [])) (r .desk) (r .order)
 
 -- how the dialogue with a unit that equals the sheet up to renaming stands after the commands xs: one more is to be
 -- sent, which is at most the (L + n - 1)-th; or it is at home, after as many commands as it says and at most that many,
@@ -95,11 +95,11 @@ module _ (s : List ℕ) (U : Unit (machineIn s .n) (machineIn s .k)) where
   own-more xs c = answers-append unit (U .u) xs (c ∷ [])
 
   -- it is one with the unit's own answers
-  pub driven-dialogue : {xs : List ℕ} {d : Desk} {o : Order} → Driven s U xs d o → Dialogue s (own xs) d o
+  pub unit-dialogue : {xs : List ℕ} {d : Desk} {o : Order} → UnitDialogue s U xs d o → Dialogue s (own xs) d o
   unfolding answers
-  driven-dialogue (started r h e) = begun r h e
-  driven-dialogue (sent {xs} {d} {c} r g h) =
-      rw (own-more xs c) (continued (U .answer (run unit (U .u) xs) c) r (driven-dialogue g) h)
+  unit-dialogue (started r h e) = begun r h e
+  unit-dialogue (sent {xs} {d} {c} r g h) =
+      rw (own-more xs c) (continued (U .answer (run unit (U .u) xs) c) r (unit-dialogue g) h)
 
   module _ (iso : Isomorphism (machineIn s) U) (clear : firstCause (connectedCauses s) ≡ Clear) where
     abbrev M : Mealy
@@ -147,12 +147,12 @@ module _ (s : List ℕ) (U : Unit (machineIn s .n) (machineIn s .k)) where
     own-front : (i : ℕ) → own (take i all) ≡ answers M (first .0) (take i all)
     own-front i = own-are (take i all) (low-take (M .k) i all all-low)
 
-    asks : (i : ℕ) → i < length all → ordered s (own (take i all)) ≡ Command (getD all i 0)
+    asks : (i : ℕ) → i < length all → orderOn s (own (take i all)) ≡ Command (getD all i 0)
     asks i l =
-        ap (ordered s) (own-front i) ∙ course-asks M w proper word connected (first .0) all way i l
+        ap (orderOn s) (own-front i) ∙ course-asks M w proper word connected (first .0) all way i l
 
-    homes : ordered s (own all) ≡ Home (length all)
-    homes = ap (ordered s) (own-are all all-low) ∙ course-home M w proper word connected (first .0) all way
+    homes : orderOn s (own all) ≡ Home (length all)
+    homes = ap (orderOn s) (own-are all all-low) ∙ course-home M w proper word connected (first .0) all way
 
     -- there it is in the state assigned to the start
     stands : presentState (M .n) (M .k) U all ≡ iso .assigned (M .start)
@@ -174,8 +174,8 @@ module _ (s : List ℕ) (U : Unit (machineIn s .n) (machineIn s .k)) where
         → OnWay (xs ++ (c ∷ []))
     one-more {xs} {d} {c} g h = go (ltb (length xs) (length all)) refl
       where
-        is : Command c ≡ ordered s (own (take (length xs) all))
-        is = dialogue-order s g ∙ ap (λ (x : List ℕ). ordered s (own x)) (h .front)
+        is : Command c ≡ orderOn s (own (take (length xs) all))
+        is = dialogue-order s g ∙ ap (λ (x : List ℕ). orderOn s (own x)) (h .front)
 
         go : (b : Bool) → ltb (length xs) (length all) ≡ b → OnWay (xs ++ (c ∷ []))
         go true e =
@@ -193,19 +193,19 @@ module _ (s : List ℕ) (U : Unit (machineIn s .n) (machineIn s .k)) where
         go false e =
             let l = ltb-false (length xs) (length all) e in
             let z : Command c ≡ Home (length all) =
-            is ∙ ap (λ (x : List ℕ). ordered s (own x)) (take-all (length xs) all l) ∙ homes in
+            is ∙ ap (λ (x : List ℕ). orderOn s (own x)) (take-all (length xs) all l) ∙ homes in
             let impossible : _≡_ {A = ℕ} 0 1 = cc in
             absurd (omega arith)
 
-    on-way : {xs : List ℕ} {d : Desk} {o : Order} → Driven s U xs d o → OnWay xs
+    on-way : {xs : List ℕ} {d : Desk} {o : Order} → UnitDialogue s U xs d o → OnWay xs
     on-way (started r h e) = record { few = omega arith; front = refl }
-    on-way (sent {xs} {d} {c} r g h) = one-more (driven-dialogue g) (on-way g)
+    on-way (sent {xs} {d} {c} r g h) = one-more (unit-dialogue g) (on-way g)
 
     brought : {xs : List ℕ} {d : Desk} {o : Order} → Dialogue s (own xs) d o → OnWay xs → Brought s U iso xs o
     brought {xs} {d} {o} g h = go (ltb (length xs) (length all)) refl
       where
-        is : o ≡ ordered s (own (take (length xs) all))
-        is = dialogue-order s g ∙ ap (λ (x : List ℕ). ordered s (own x)) (h .front)
+        is : o ≡ orderOn s (own (take (length xs) all))
+        is = dialogue-order s g ∙ ap (λ (x : List ℕ). orderOn s (own x)) (h .front)
 
         go : (b : Bool) → ltb (length xs) (length all) ≡ b → Brought s U iso xs o
         go true e =
@@ -215,13 +215,66 @@ module _ (s : List ℕ) (U : Unit (machineIn s .n) (machineIn s .k)) where
             let l = ltb-false (length xs) (length all) e in
             let whole : take (length xs) all ≡ all = take-all (length xs) all l in
             let these : xs ≡ all = h .front ∙ whole in
-            rw (is ∙ ap (λ (x : List ℕ). ordered s (own x)) whole ∙ homes)
+            rw (is ∙ ap (λ (x : List ℕ). orderOn s (own x)) whole ∙ homes)
             (at-home (sym (ap length these)) (omega (arith, all-short, h .few))
             (ap (presentState (M .n) (M .k) U) these ∙ stands))
 
 -- the claim (§13.3)
 pub brought-home : (s : List ℕ) (U : Unit (machineIn s .n) (machineIn s .k)) (r : Isomorphism (machineIn s) U)
-    {xs : List ℕ} {d : Desk} {o : Order} → Driven s U xs d o → Brought s U r xs o
+    {xs : List ℕ} {d : Desk} {o : Order} → UnitDialogue s U xs d o → Brought s U r xs o
 brought-home s U r g =
-    let clear = dialogue-reached s (driven-dialogue s U g) .clear in
-    brought s U r clear (driven-dialogue s U g) (on-way s U r clear g)
+    let clear = dialogue-reached s (unit-dialogue s U g) .clear in
+    brought s U r clear (unit-dialogue s U g) (on-way s U r clear g)
+
+-- ---- the end of such a dialogue: at home, after these commands, at most L + n - 1, with the unit in the state assigned
+-- to the start
+pub record EndsHome (s : List ℕ) (U : Unit (machineIn s .n) (machineIn s .k)) (r : Isomorphism (machineIn s) U)
+    : Type 0 where
+  pub commands : List ℕ
+  pub desk : Desk
+  pub dialogue : UnitDialogue s U commands desk (Home (length commands))
+  pub few : length commands + 1 ≤ length (content 2 s) + machineIn s .n
+  pub stands : presentState (machineIn s .n) (machineIn s .k) U commands ≡ r .assigned (machineIn s .start)
+
+-- step returns whenever it is called, by its proof: so each dialogue with the unit goes on to that end
+module _ (s : List ℕ) (U : Unit (machineIn s .n) (machineIn s .k)) (r : Isomorphism (machineIn s) U)
+    (returns : (xs : List ℕ) (d : Desk) (c : ℕ) → UnitDialogue s U xs d (Command c)
+    → (t : Stepped) × Steps d (U .answer (presentState (machineIn s .n) (machineIn s .k) U xs) c) t) where
+  ends-within : (left : ℕ) {xs : List ℕ} {d : Desk} {o : Order}
+      → length (content 2 s) + machineIn s .n ≤ length xs + 1 + left → UnitDialogue s U xs d o → Brought s U r xs o
+      → EndsHome s U r
+  ends-within zero {xs} {d} l g (under-way k) = let z : ⊥ = omega arith in absurd z
+  ends-within zero {xs} {d} l g (at-home {n} e k q) =
+      record { commands = xs; desk = d; dialogue = rw (← e) g; few = k; stands = q }
+  ends-within (suc left) {xs} {d} l g (under-way {c} k) =
+      let t = returns xs d c g in
+      let h = sent (t .0) g (t .1) in
+      ends-within left (omega (arith, length-append xs (c ∷ []))) h (brought-home s U r h)
+  ends-within (suc left) {xs} {d} l g (at-home {n} e k q) =
+      record { commands = xs; desk = d; dialogue = rw (← e) g; few = k; stands = q }
+
+  pub ends-home : {xs : List ℕ} {d : Desk} {o : Order} → UnitDialogue s U xs d o → EndsHome s U r
+  ends-home g = ends-within (length (content 2 s) + machineIn s .n) (omega arith) g (brought-home s U r g)
+
+-- ---- there are such units: the machine itself, begun in any of its states
+pub begunIn : (M : Mealy) → Proper M → (b : ℕ) → b < M .n → Unit (M .n) (M .k)
+begunIn M h b l = record {
+  m = M .n;
+  few = omega arith;
+  u = b;
+  u-low = l;
+  next = M .next;
+  answer = M .answer;
+  stays = h .stays;
+}
+
+pub begun-alike : (M : Mealy) (h : Proper M) (b : ℕ) (l : b < M .n) → Isomorphism M (begunIn M h b l)
+unfolding begunIn
+begun-alike M h b l = record {
+  assigned = λ s. s;
+  into = λ s k. k;
+  one-to-one = λ s t k m e. e;
+  onto = λ x k. (x, k, refl);
+  answers-alike = λ s c k m. refl;
+  goes-alike = λ s c k m. refl;
+}

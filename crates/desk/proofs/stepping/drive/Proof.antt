@@ -31,8 +31,8 @@ slice-aggregate-byte-2 c = search needs
 byte-requires-2 : tie.Need-byte-requires-2
 byte-requires-2 c κs = search needs
 
-following-requires : tie.Need-following-requires
-following-requires c κs = search needs
+one-more-requires : tie.Need-one-more-requires
+one-more-requires c κs = search needs
 
 arrive-requires : tie.Need-arrive-requires
 arrive-requires c κs = search needs
@@ -46,7 +46,7 @@ returns-2 c =
     let byte = test .before in
     let entry = byte .before .before in
     drives-arrives (start .args .desk) (start .args .state) (start .args .answer) (entry .entry-at .ensures)
-    (byte .byte .ensures) (test .if1 .left) (cell .byte2 .ensures) (number .following .ensures) (c .arrive .ensures)
+    (byte .byte .ensures) (test .if1 .left) (cell .byte2 .ensures) (number .one-more .ensures) (c .arrive .ensures)
 
 pub drive-spec : {M : Type 1} → statement M
 drive-spec =
@@ -59,6 +59,6 @@ drive-spec =
     returns
     slice-aggregate-byte-2
     byte-requires-2
-    following-requires
+    one-more-requires
     arrive-requires
     returns-2)

@@ -18,16 +18,16 @@ array-share-prefix-word c =
     let long : length (start .args .desk .word) ≡ 16 = search needs in
     omega (arith, start .pre .0)
 
-slice-aggregate-locate : tie.Need-slice-aggregate-locate
-slice-aggregate-locate c =
+slice-aggregate-identify : tie.Need-slice-aggregate-identify
+slice-aggregate-identify c =
     let start = c .before .before .before .before .before in
     let long : length (start .args .desk .word) ≡ 16 = search needs in
     sym (length-take-le (start .args .desk .size) (start .args .desk .word) (omega (arith, start .pre .0)))
 
-locate-requires : tie.Need-locate-requires
-locate-requires c κs =
+identify-requires : tie.Need-identify-requires
+identify-requires c κs =
     let start = c .before .before .before .before .before in
-    sym (slice-aggregate-locate c) ∙ sym (start .pre .1 .0)
+    sym (slice-aggregate-identify c) ∙ sym (start .pre .1 .0)
 
 add-arrive : tie.Need-add-arrive
 add-arrive c = search needs
@@ -42,14 +42,14 @@ returns : tie.Need-returns
 returns c =
     let start = c .before .before .before .before .before .before .before .before in
     let found = c .before .before in
-    finds-state (start .args .desk) (start .args .position) (now (start .args .heard)) (found .locate .ensures)
+    finds-state (start .args .desk) (start .args .position) (now (start .args .heard)) (found .identify .ensures)
     (c .before .if1 .taken) (c .arrive .ensures)
 
 returns-2 : tie.Need-returns-2
 returns-2 c =
     let start = c .before .before .before .before .before .before .before .before in
     let found = c .before .before in
-    finds-none (start .args .desk) (start .args .position) (now (start .args .heard)) (found .locate .ensures)
+    finds-none (start .args .desk) (start .args .position) (now (start .args .heard)) (found .identify .ensures)
     (c .before .if1 .left) (c .stranger .ensures)
 
 pub find-spec : {M : Type 1} → statement M
@@ -58,8 +58,8 @@ find-spec =
     (tie.spec
     cast-word
     array-share-prefix-word
-    slice-aggregate-locate
-    locate-requires
+    slice-aggregate-identify
+    identify-requires
     add-arrive
     arrive-requires
     stranger-requires

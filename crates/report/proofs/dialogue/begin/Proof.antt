@@ -27,10 +27,10 @@ returns c =
       starts = started .start .ensures;
       desk = refl;
       left = refl;
-      over = c .is-refused .ensures ∙ ap isRefused (started .start .ensures .first);
+      over = c .is-refused .ensures ∙ ap isRefused (started .start .ensures .first .is);
       written =
           writes-output _ refl
-          (prints-same (ap firstLine (sym (started .start .ensures .first))) (line .first-line .ensures));
+          (prints-same (ap firstLine (sym (started .start .ensures .first .is))) (line .first-line .ensures));
     }
 
 pub begin-spec : {M : Type 1} → statement M

@@ -1,4 +1,4 @@
--- What the search for the state in which a unit began promises. Nothing here has to be believed: the contracts of
+-- What the identification of the state in which a unit began promises. Nothing here has to be believed: the contracts of
 -- `start` and `step` do not name it.
 use Prim.Native.Nat.{ℕ}
 use mathlib.Core.Path.{_≡_}
@@ -6,16 +6,16 @@ use mathlib.Core.Bool.{true, false}
 use mathlib.Core.List.{List}
 use mathlib.Core.Option.{none, some}
 use Rattle.machine.specs.Machine.{Mealy, run, answers}
-use Rattle.desk.specs.declared.location.Followed.{Followed}
+use Rattle.desk.specs.declared.identification.Followed.{Followed}
 use Rattle.desk.specs.Desk.{firstState}
 
--- whether a state answers the word so, and then where the word takes it
+-- whether a state gives these answers to the word, and then where the word leads from it
 pub record Follows (M : Mealy) (w ys : List ℕ) (s : ℕ) (r : Followed) : Type 0 where
   pub agrees : r .agrees ≡ true → answers M s w ≡ ys
   pub ends : r .agrees ≡ true → r .end ≡ run M s w
   pub differs : r .agrees ≡ false → answers M s w ≡ ys → ⊥
 
--- whether a state answers the word so, and then where the word takes the least that does
-pub record Locates (M : Mealy) (w ys : List ℕ) (r : Followed) : Type 0 where
+-- whether some state gives these answers to the word, and then where the word leads from the least that does
+pub record Identifies (M : Mealy) (w ys : List ℕ) (r : Followed) : Type 0 where
   pub found : r .agrees ≡ true → (s : ℕ) × (firstState M w ys (M .n) ≡ some s) × (r .end ≡ run M s w)
   pub missing : r .agrees ≡ false → firstState M w ys (M .n) ≡ none

@@ -1,4 +1,4 @@
--- `desk::location::locate` meets its contract. The loop's invariant: no state before s answers so. Assumes nothing.
+-- `desk::identification::identify` meets its contract. The loop's invariant: no state before s answers so. Assumes nothing.
 use Prim.Native.Nat.{_-_, _≤_}
 use mathlib.Core.Path.{_≡_, refl, sym, _∙_}
 use mathlib.Core.Option.{none}
@@ -7,10 +7,10 @@ use denote.Ref.{now}
 use Rattle.machine.specs.Machine.{meaning}
 use Rattle.machine.specs.Machine.Laws.{meaning-states}
 use Rattle.desk.specs.Desk.{firstState}
-use Rattle.desk.proofs.Locating.{locating-start, locating-found, locating-next, locating-none}
+use Rattle.desk.proofs.Identifying.{identifying-start, identifying-found, identifying-next, identifying-none}
 use borrow.Author.Needs.{needs}
-use Rattle.desk.proofs.location.locate.Statement.{statement}
-use Rattle.desk.proofs.location.locate.Tie as tie
+use Rattle.desk.proofs.identification.identify.Statement.{statement}
+use Rattle.desk.proofs.identification.identify.Tie as tie
 
 abbrev Inv-loop : tie.InvT-loop
 Inv-loop m w ys next answer s₀ s = (s ≤ m .n) × (firstState (meaning m) w ys s ≡ none)
@@ -21,7 +21,7 @@ abbrev μ-loop : tie.MeasureT-loop
 loop-holds : tie.Need-loop-holds Inv-loop μ-loop
 loop-holds c =
     let args = c .before .before .before .before .args in
-    (search needs, locating-start (meaning (args .m)) (now (args .w)) (now (args .ys)))
+    (search needs, identifying-start (meaning (args .m)) (now (args .w)) (now (args .ys)))
 
 slice-aggregate-follow : tie.Need-slice-aggregate-follow Inv-loop μ-loop
 slice-aggregate-follow c = search needs
@@ -36,7 +36,7 @@ returns : tie.Need-returns Inv-loop μ-loop
 returns c =
     let loop = c .before .before .before .before .before .before in
     let args = loop .before .before .before .before .before .args in
-    locating-found (meaning (args .m)) (now (args .w)) (now (args .ys)) (loop .loop .inv .1)
+    identifying-found (meaning (args .m)) (now (args .w)) (now (args .ys)) (loop .loop .inv .1)
     (c .before .follow .ensures (args .m .n) (args .m .start))
     (rw (meaning-states (args .m)) (c .before .before .before .before .if1 .taken)) (c .if2 .taken)
 
@@ -51,7 +51,7 @@ loop-again c =
     let loop = c .before .before .before .before .before .before in
     let args = loop .before .before .before .before .before .args in (
       search needs,
-      locating-next (meaning (args .m)) (now (args .w)) (now (args .ys)) (loop .loop .inv .1)
+      identifying-next (meaning (args .m)) (now (args .w)) (now (args .ys)) (loop .loop .inv .1)
           (c .before .follow .ensures (args .m .n) (args .m .start)) (c .if2 .left),
     )
 
@@ -60,11 +60,11 @@ returns-2 c =
     let loop = c .before .before in
     let args = loop .before .before .before .before .before .args in
     let all : loop .loop .s ≡ args .m .n = omega (arith, loop .loop .inv .0, c .if1 .left) in
-    locating-none (meaning (args .m)) (now (args .w)) (now (args .ys)) (loop .loop .inv .1)
+    identifying-none (meaning (args .m)) (now (args .w)) (now (args .ys)) (loop .loop .inv .1)
     (all ∙ sym (meaning-states (args .m)))
 
-pub locate-spec : {M : Type 1} → statement M
-locate-spec =
+pub identify-spec : {M : Type 1} → statement M
+identify-spec =
     tie.close
     (tie.spec
     Inv-loop

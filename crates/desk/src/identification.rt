@@ -1,15 +1,15 @@
-// The state in which a unit began to answer the word, by its answers.
+// The identification of the state in which a unit began, by its answers to the word.
 ghost use mathlib.Core.Path.{_≡_};
 ghost use mathlib.Core.List.{List};
 ghost use Prim.Native.Nat.{ℕ};
 ghost use lib.ListN.{length};
 ghost use Rattle.machine.specs.Machine.{tabled, meaning};
-ghost use Rattle.desk.specs.Location.{Follows, Locates};
+ghost use Rattle.desk.specs.Identification.{Follows, Identifies};
 use machine::Machine;
 use machine::entry_at;
 use sheet::byte;
 
-// Whether a state answers the word so, and where the word takes it then.
+// Whether a state gives certain answers to the word, and where the word leads from it then.
 pub struct Followed {
     pub agrees: bool,
     pub end: u8,
@@ -41,10 +41,11 @@ fn follow(next: &[u8], answer: &[u8], k: u8, w: &[u8], ys: &[u8], s: u8) -> Foll
     }
 }
 
-// Finds the least state that answers the word so.
-pub fn locate(m: Machine, w: &[u8], ys: &[u8]) -> Followed
+// Whether some state gives these answers to the word, and where the word leads from the least that
+// does.
+pub fn identify(m: Machine, w: &[u8], ys: &[u8]) -> Followed
     requires { ⌜ length (now w) ≡ length (now ys) ⌝ }
-    ensures { λ r. ⌜ Locates (meaning m) (now (w .entry)) (now (ys .entry)) r ⌝ }
+    ensures { λ r. ⌜ Identifies (meaning m) (now (w .entry)) (now (ys .entry)) r ⌝ }
 {
     let next = m.next;
     let answer = m.answer;

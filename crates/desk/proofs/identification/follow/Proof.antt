@@ -1,15 +1,15 @@
--- `desk::location::follow` meets its contract. The loop's invariant: the first i answers are right, and state is where
+-- `desk::identification::follow` meets its contract. The loop's invariant: the first i answers are right, and state is where
 -- the first i commands lead. Assumes nothing.
 use Prim.Native.Nat.{ℕ, _-_}
 use lib.ListN.{length}
 use denote.Ref.{now}
 use Rattle.machine.specs.Machine.{tabled}
 use Rattle.machine.specs.Machine.Laws.{tabled-next, tabled-answer}
-use Rattle.desk.proofs.Locating.{Following, following-start, following-differs, following-next, following-ends}
+use Rattle.desk.proofs.Identifying.{Following, following-start, following-differs, following-next, following-ends}
 use mathlib.Core.Path.{refl}
 use borrow.Author.Needs.{needs}
-use Rattle.desk.proofs.location.follow.Statement.{statement}
-use Rattle.desk.proofs.location.follow.Tie as tie
+use Rattle.desk.proofs.identification.follow.Statement.{statement}
+use Rattle.desk.proofs.identification.follow.Tie as tie
 
 abbrev Inv-loop : tie.InvT-loop
 Inv-loop next answer k w ys s state₀ i₀ state i =

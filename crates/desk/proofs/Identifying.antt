@@ -12,10 +12,10 @@ use lib.Seq.{take-all, take-suc, getD-take, getD-at, length-take-le}
 use Rattle.machine.specs.Machine.{Mealy, run, answers}
 use Rattle.machine.specs.Machine.Laws.{run-none, run-cons, run-append, answers-none, answers-cons, answers-append}
 use Rattle.machine.specs.Machine.Laws.{answers-take, answers-length}
-use Rattle.desk.specs.declared.location.Followed.{Followed}
+use Rattle.desk.specs.declared.identification.Followed.{Followed}
 use Rattle.desk.specs.Desk.{firstState}
 use Rattle.desk.specs.Desk.Laws.{first-nowhere, first-here, first-passed, first-stays}
-use Rattle.desk.specs.Location.{Follows, Locates}
+use Rattle.desk.specs.Identification.{Follows, Identifies}
 
 -- ---- along the word: the first i answers are right, and state is where the first i commands lead
 pub record Following (M : Mealy) (w ys : List ℕ) (s state i : ℕ) : Type 0 where
@@ -96,12 +96,12 @@ module _ (M : Mealy) (w ys : List ℕ) (s : ℕ) (even : length w ≡ length ys)
 
 -- ---- over the states: none before s answers so
 module _ (M : Mealy) (w ys : List ℕ) where
-  pub locating-start : firstState M w ys 0 ≡ none
-  locating-start = first-nowhere M w ys
+  pub identifying-start : firstState M w ys 0 ≡ none
+  identifying-start = first-nowhere M w ys
 
   module _ {s : ℕ} (h : firstState M w ys s ≡ none) {r : Followed} (f : Follows M w ys s r) where
-    pub locating-found : s < M .n → r .agrees ≡ true → Locates M w ys r
-    locating-found l t = record {
+    pub identifying-found : s < M .n → r .agrees ≡ true → Identifies M w ys r
+    identifying-found l t = record {
       found = λ _. (
         s,
         ap (firstState M w ys) (meets s (M .n) l)
@@ -114,12 +114,12 @@ module _ (M : Mealy) (w ys : List ℕ) where
         meets : (a b : ℕ) → a < b → b ≡ a + 1 + (b - (a + 1))
         meets a b k = omega arith
 
-    pub locating-next : r .agrees ≡ false → firstState M w ys (s + 1) ≡ none
-    locating-next e = first-passed M w ys s h (f .differs e)
+    pub identifying-next : r .agrees ≡ false → firstState M w ys (s + 1) ≡ none
+    identifying-next e = first-passed M w ys s h (f .differs e)
 
-  pub locating-none : {s : ℕ} → firstState M w ys s ≡ none → s ≡ M .n → {e : ℕ}
-      → Locates M w ys (record { agrees = false; end = e })
-  locating-none h e = record {
+  pub identifying-none : {s : ℕ} → firstState M w ys s ≡ none → s ≡ M .n → {e : ℕ}
+      → Identifies M w ys (record { agrees = false; end = e })
+  identifying-none h e = record {
     found = λ t. absurd (true≢false (sym t));
     missing = λ t. ap (firstState M w ys) (sym e) ∙ h;
   }
