@@ -1,5 +1,6 @@
 -- The bench (§8.2): from its arguments, here called words, and the bytes of its sheet to the bytes that it writes to
--- standard output and to standard error; of the desk, what it writes before the first answer. The laws stand in Bench.Laws and Bench.Input.
+-- standard output and to standard error; of the desk, what it writes before the first answer. The laws stand in
+-- Bench.Laws and Bench.Input.
 use Prim.Native.Nat.{ℕ}
 use mathlib.Core.List.{List}
 use Rattle.report.specs.Output.{Output}

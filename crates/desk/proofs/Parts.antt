@@ -113,20 +113,21 @@ module _ (d : Desk) (state y : ℕ) {e : ℕ} (at : e ≡ state * d .machine .k 
   }
 
 -- ---- the end of the word
-module _ (d : Desk) (position : ℕ) (ys : List ℕ) {f : Followed} (h : Identifies (meaning (d .machine)) (wordOf d) ys f) where
-  pub finds-state : f .agrees ≡ true → {r : Stepped} → Arrives d (f .end) (position + 1) r → Finds d position ys r
-  finds-state t {r} a =
-      let g = h .found t in
-      record {
-        missing = λ e. state-none (g .1) e;
-        found = λ s e.
-            let here : g .0 ≡ s = mem-unique (g .1) e in
-            subst₂ (λ (x y : ℕ). Arrives d x y r)
-            (g .2 ∙ ap (λ (x : ℕ). run (meaning (d .machine)) x (wordOf d)) here) refl a;
-      }
+module _ (d : Desk) (position : ℕ) (ys : List ℕ) {f : Followed} (h : Identifies (meaning (d .machine)) (wordOf d) ys f)
+  where
+    pub finds-state : f .agrees ≡ true → {r : Stepped} → Arrives d (f .end) (position + 1) r → Finds d position ys r
+    finds-state t {r} a =
+        let g = h .found t in
+        record {
+          missing = λ e. state-none (g .1) e;
+          found = λ s e.
+              let here : g .0 ≡ s = mem-unique (g .1) e in
+              subst₂ (λ (x y : ℕ). Arrives d x y r)
+              (g .2 ∙ ap (λ (x : ℕ). run (meaning (d .machine)) x (wordOf d)) here) refl a;
+        }
 
-  pub finds-none : f .agrees ≡ false → {r : Stepped} → AtStranger d position r → Finds d position ys r
-  finds-none t a = record { missing = λ _. a; found = λ s e. state-none e (h .missing t) }
+    pub finds-none : f .agrees ≡ false → {r : Stepped} → AtStranger d position r → Finds d position ys r
+    finds-none t a = record { missing = λ _. a; found = λ s e. state-none e (h .missing t) }
 
 -- ---- a command of the word
 module _ (d : Desk) (position y : ℕ) where

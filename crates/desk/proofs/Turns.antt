@@ -28,8 +28,10 @@ use Rattle.desk.specs.declared.desk.Phase.the-variants.{Reading, Driving
 use Rattle.desk.specs.declared.desk.Phase.the-variants.{Stranger as StrangerPhase}
 use Rattle.desk.specs.declared.stepping.Stepped.{Stepped}
 use Rattle.desk.specs.Desk.{firstState, beganIn, orderOf, isEnd, phaseOf}
-use Rattle.desk.specs.Desk.Laws.{SeenState, nothing, state, seen, first-answers, began-is, order-reading, order-none}
-use Rattle.desk.specs.Desk.Laws.{course-short, Along, along-word, along-length, along-read, along-home, along-command}
+use Rattle.desk.specs.Desk.Laws.{SeenState, nothing, state, seen, first-answers, began-is, order-reading}
+use Rattle.desk.specs.Desk.Laws.{order-none}
+use Rattle.desk.specs.Desk.Laws.{course-short, Along, along-word, along-length, along-read, along-home}
+use Rattle.desk.specs.Desk.Laws.{along-command}
 use Rattle.desk.specs.Desk.Laws.{along-differs, along-next, along-reached, along-phase}
 use Rattle.desk.specs.Desk.Agreement.{course-transfer, order-along}
 use Rattle.desk.specs.Desk.Ends.{order-repeats, end-read, phase-reading, phase-home, phase-stranger, phase-read}

@@ -1,5 +1,5 @@
--- What the identification of the state in which a unit began promises. Nothing here has to be believed: the contracts of
--- `start` and `step` do not name it.
+-- What the identification of the state in which a unit began promises. Nothing here has to be believed: the contracts
+-- of `start` and `step` do not name it.
 use Prim.Native.Nat.{ℕ}
 use mathlib.Core.Path.{_≡_}
 use mathlib.Core.Bool.{true, false}

@@ -32,9 +32,9 @@ pub mod Homecoming
 abbrev pub orderOn : List ℕ → List ℕ → Order
 orderOn s ys = orderOf (machineIn s) (content 2 s) ys
 
--- the list of answers ys leads to this desk, on a sheet that is not refused. Machine, word and phase are then fixed; the
--- answers are kept while not all of the word is answered, their number and the last command while one is waited for;
--- otherwise these three are free
+-- the list of answers ys leads to this desk, on a sheet that is not refused. Machine, word and phase are then fixed;
+-- the answers are kept while not all of the word is answered, their number and the last command while one is waited
+-- for; otherwise these three are free
 pub record Reached (s ys : List ℕ) (d : Desk) : Type 0 where
   pub clear : firstCause (connectedCauses s) ≡ Clear
   pub machine : meaning (d .machine) ≡ machineIn s
@@ -75,9 +75,9 @@ orderValues (Home n) = inr (inl n)
 orderValues (Stranger p) = inr (inr p)
 
 -- what step promises of a desk and an answer y: for every sheet and every list of answers that leads to the desk, it
--- orders what is specified for that list and y, with its values, and that longer list leads to the new desk; a desk that
--- has ended repeats its end and stays as it is. Of a desk that has not ended and to which no list of answers leads, on
--- any sheet, order and new desk are free
+-- orders what is specified for that list and y, with its values, and that longer list leads to the new desk; a desk
+-- that has ended repeats its end and stays as it is. Of a desk that has not ended and to which no list of answers
+-- leads, on any sheet, order and new desk are free
 pub record Steps (d : Desk) (y : ℕ) (r : Stepped) : Type 0 where
   pub order : (s ys : List ℕ) → Reached s ys d → Returns orderValues (orderOn s (ys ++ (y ∷ []))) (r .order)
   pub desk : (s ys : List ℕ) → Reached s ys d → Reached s (ys ++ (y ∷ [])) (r .desk)

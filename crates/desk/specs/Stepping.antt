@@ -79,7 +79,8 @@ pub record Reads (d : Desk) (position y : ℕ) (r : Stepped) : Type 0 where
 
 -- the answer to the word's last command: the state is found, or there is none
 pub record Finds (d : Desk) (position : ℕ) (ys : List ℕ) (r : Stepped) : Type 0 where
-  pub missing : firstState (meaning (d .machine)) (wordOf d) ys (meaning (d .machine) .n) ≡ none → AtStranger d position r
+  pub missing : firstState (meaning (d .machine)) (wordOf d) ys (meaning (d .machine) .n) ≡ none → AtStranger d position
+      r
   pub found : (s : ℕ) → firstState (meaning (d .machine)) (wordOf d) ys (meaning (d .machine) .n) ≡ some s
       → Arrives d (run (meaning (d .machine)) s (wordOf d)) (position + 1) r
 

@@ -20,7 +20,8 @@ fn follow(next: &[u8], answer: &[u8], k: u8, w: &[u8], ys: &[u8], s: u8) -> Foll
     requires { ⌜ length (now w) ≡ length (now ys) ⌝ }
     ensures { λ r. ⌜
         ((n start : ℕ)
-        → Follows (tabled n k start (now (next .entry)) (now (answer .entry))) (now (w .entry)) (now (ys .entry)) s r) ⌝ }
+        → Follows (tabled n k start (now (next .entry)) (now (answer .entry))) (now (w .entry))
+        (now (ys .entry)) s r) ⌝ }
 {
     let mut state = s;
     let mut i = 0;

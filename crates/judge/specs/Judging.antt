@@ -46,8 +46,8 @@ cause11 (Open recognised number) = Refused 11 number
 cause11 (RefusedCertification number place) = Refused number place
 
 -- ---- the results
--- the result (§7), by how many answers from the front are the specified ones: wrong where an answer at that place was given, unfinished where none was and the
--- sequence goes on, otherwise pass with N and the state of place N
+-- the result (§7), by how many answers from the front are the specified ones: wrong where an answer at that place was
+-- given, unfinished where none was and the sequence goes on, otherwise pass with N and the state of place N
 unfoldable pub resultAt : Mealy → List ℕ → List ℕ → ℕ → Answer
 resultAt M xs ys right =
     cond (ltb right (length ys)) (Wrong right (getD (answers M (M .start) xs) right 0) (getD ys right 0))

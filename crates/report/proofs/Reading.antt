@@ -49,7 +49,8 @@ pub number-end : (most value i : ℕ) (w : List ℕ) → value ≤ most → leng
     → numberFrom most value (drop i w) ≡ some value
 number-end most value i w l m k =
     let e : i ≡ length w = omega arith in
-    ap (λ (n : ℕ). numberFrom most value (drop n w)) e ∙ ap (numberFrom most value) (drop-length w) ∙ number-none most value l
+    ap (λ (n : ℕ). numberFrom most value (drop n w)) e ∙ ap (numberFrom most value) (drop-length w) ∙ number-none most
+    value l
 
 -- one byte more: a digit, or not
 number-cons : (most value b : ℕ) (w : List ℕ) (t : Bool) → isDigit b ≡ t

@@ -182,7 +182,8 @@ fn other(desk: Desk, left: u8, out: &mut [u8; OUTPUT]) -> Turned
 // The turn of a line that is too long.
 fn long(desk: Desk, left: u8, out: &mut [u8; OUTPUT]) -> Turned
     ensures { λ r. ⌜
-        Told desk left true (stopLine (bytes "a line is longer than 80 bytes")) (now (out .entry)) (now (out .exit)) r ⌝ }
+        Told desk left true (stopLine (bytes "a line is longer than 80 bytes")) (now (out .entry))
+        (now (out .exit)) r ⌝ }
 {
     let size = put_stop(b"a line is longer than 80 bytes", 0, out);
     let written = Written { out: 0, end: size };

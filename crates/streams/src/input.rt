@@ -40,8 +40,8 @@ fn step_after(moved: bool, ended: bool, interrupted: bool, size: usize, next: us
     Step::More { size }
 }
 
-// One read, behind the bytes that are there and up to a place of the buffer. The error is asked for right after the read; it
-// decides only where the read failed.
+// One read, behind the bytes that are there and up to a place of the buffer. The error is asked for
+// right after the read; it decides only where the read failed.
 pub fn read_more(descriptor: i32, buf: &mut [u8], size: usize, end: usize) -> Step
     requires { ⌜ size ≤ end ⌝ }
     requires { ⌜ end ≤ length (now buf) ⌝ }

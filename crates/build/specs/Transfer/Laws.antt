@@ -237,7 +237,8 @@ transfer-rest M a b c {u} e =
               (record {
                 few = omega (arith, h .few);
                 found = ap (λ (x : ℕ). firstPath M b (length u) (M .next a x)) head ∙ f ∙ ap some (sym tail);
-                passed = λ m l. passed-by m al low (seen (firstPath M b m (M .next a c))) (h .passed (suc m) (omega arith));
+                passed = λ m l. passed-by m al low (seen (firstPath M b m (M .next a c)))
+                    (h .passed (suc m) (omega arith));
               }),
         )
 

@@ -19,10 +19,13 @@ use Rattle.build.specs.Transfer.Laws.{transfer-is, is-transfer, leads-some, tra
 use Rattle.build.specs.Building.{StronglyConnected}
 use Rattle.desk.specs.declared.desk.Order.{Order}
 use Rattle.desk.specs.declared.desk.Order.the-variants.{Command, Home, Stranger}
-use Rattle.desk.specs.Desk.{Course, RightFrom, Strange, Ordered, word-next, transfer-next, home, strange, no-state, differing}
+use Rattle.desk.specs.Desk.{Course, RightFrom, Strange, Ordered, word-next, transfer-next, home, strange}
+use Rattle.desk.specs.Desk.{no-state, differing}
 use Rattle.desk.specs.Desk.{firstState, beganIn, course, orderAt, orderOf}
-use Rattle.desk.specs.Desk.Laws.{SeenState, nothing, state, seen, state-none, first-answers, first-none, first-one}
-use Rattle.desk.specs.Desk.Laws.{began-is, order-reading, order-none, order-some, at-stranger, at-command, at-home}
+use Rattle.desk.specs.Desk.Laws.{SeenState, nothing, state, seen, state-none, first-answers, first-none}
+use Rattle.desk.specs.Desk.Laws.{first-one}
+use Rattle.desk.specs.Desk.Laws.{began-is, order-reading, order-none, order-some, at-stranger, at-command}
+use Rattle.desk.specs.Desk.Laws.{at-home}
 use Rattle.desk.specs.Desk.Laws.{course-is, Along}
 
 -- the answers to the front of a course are the first of its answers
@@ -96,7 +99,8 @@ module _ (M : Mealy) (w : List ℕ) (proper : Proper M) (word : Distinguishes M 
       ∙ ap (λ (x : List ℕ). getD x i 0) e
       ∙ getD-take (length w) ys i 0 il
 
-  right-word : (s : ℕ) (xs ys : List ℕ) → Course M w s xs → (p : ℕ) → length w ≤ p → p ≤ length ys → RightFrom M s xs ys p
+  right-word : (s : ℕ) (xs ys : List ℕ) → Course M w s xs → (p : ℕ) → length w ≤ p → p ≤ length ys
+      → RightFrom M s xs ys p
       → answers M s w ≡ take (length w) ys
   right-word s xs ys h p l pl r =
       ext-getD 0 (answers M s w) (take (length w) ys)
@@ -141,7 +145,8 @@ module _ (M : Mealy) (w : List ℕ) (proper : Proper M) (word : Distinguishes M 
     where
       read : length w ≤ length ys → SeenState (beganIn M w ys) → Ordered M w ys (orderOf M w ys)
       read l (nothing e) =
-          rw (order-none M w ys l e) (strange (no-state l refl (first-none M w (take (length w) ys) (M .n) (sym (began-is M w ys) ∙ e))))
+          rw (order-none M w ys l e)
+          (strange (no-state l refl (first-none M w (take (length w) ys) (M .n) (sym (began-is M w ys) ∙ e))))
       read l (state s e) =
           let f = first-answers M w (take (length w) ys) (M .n) (sym (began-is M w ys) ∙ e) in
           let xs = course M w s in
@@ -155,7 +160,8 @@ module _ (M : Mealy) (w : List ℕ) (proper : Proper M) (word : Distinguishes M 
       go false e = read (ltb-false (length ys) (length w) e) (seen (beganIn M w ys))
 
   -- ---- and back
-  began-right : (s : ℕ) (xs ys : List ℕ) → Course M w s xs → (p : ℕ) → length w ≤ p → p ≤ length ys → RightFrom M s xs ys p
+  began-right : (s : ℕ) (xs ys : List ℕ) → Course M w s xs → (p : ℕ) → length w ≤ p → p ≤ length ys
+      → RightFrom M s xs ys p
       → beganIn M w ys ≡ some s
   began-right s xs ys h p l pl r =
       began-is M w ys
@@ -173,7 +179,8 @@ module _ (M : Mealy) (w : List ℕ) (proper : Proper M) (word : Distinguishes M 
 
   pub ordered-order : (ys : List ℕ) {o : Order} → Ordered M w ys o → o ≡ orderOf M w ys
   ordered-order ys (word-next l e) = ap Command e ∙ sym (order-reading M w ys l)
-  ordered-order ys (strange (no-state l e h)) = ap Stranger e ∙ sym (order-none M w ys l (none-there (seen (beganIn M w ys))))
+  ordered-order ys (strange (no-state l e h)) =
+      ap Stranger e ∙ sym (order-none M w ys l (none-there (seen (beganIn M w ys))))
     where
       none-there : SeenState (beganIn M w ys) → beganIn M w ys ≡ none
       none-there (nothing q) = q

@@ -17,7 +17,8 @@ use Rattle.desk.specs.declared.desk.Order.the-variants.{Command, Home, S
 use Rattle.desk.specs.declared.desk.Phase.the-variants.{Reading, Driving, Home as HomePhase}
 use Rattle.desk.specs.declared.desk.Phase.the-variants.{Stranger as StrangerPhase}
 use Rattle.desk.specs.Desk.{beganIn, course, orderAt, orderOf, isEnd, stateAfter, phaseFor, phaseOf}
-use Rattle.desk.specs.Desk.Laws.{SeenState, nothing, state, seen, began-more, order-reading, order-none, order-some}
+use Rattle.desk.specs.Desk.Laws.{SeenState, nothing, state, seen, began-more, order-reading, order-none}
+use Rattle.desk.specs.Desk.Laws.{order-some}
 use Rattle.desk.specs.Desk.Laws.{at-stranger, at-command, at-home, course-short}
 
 -- a command is no end
@@ -89,7 +90,8 @@ module _ (M : Mealy) (w ys : List ℕ) where
           let xs = course M w s in
           let here = order-some M w ys read e in
           order-some M w (ys ++ zs) later (began-more M w ys read zs ∙ e)
-          ∙ at s xs (ltb (agreed (answers M s xs) ys) (length xs)) (ltb (agreed (answers M s xs) ys) (length ys)) refl refl
+          ∙ at s xs (ltb (agreed (answers M s xs) ys) (length xs)) (ltb (agreed (answers M s xs) ys) (length ys)) refl
+          refl
           (ap isEnd (sym here) ∙ t)
           ∙ sym here
 

@@ -26,7 +26,8 @@ use Rattle.desk.specs.declared.desk.Order.the-variants.{Command, Home, S
 use Rattle.desk.specs.declared.desk.Phase.{Phase}
 use Rattle.desk.specs.declared.desk.Phase.the-variants.{Reading, Driving, Home as HomePhase}
 use Rattle.desk.specs.declared.desk.Phase.the-variants.{Stranger as StrangerPhase}
-use Rattle.desk.specs.Desk.{stateIf, firstState, beganIn, course, orderAt, orderFrom, orderOf, stateAfter, phaseFor}
+use Rattle.desk.specs.Desk.{stateIf, firstState, beganIn, course, orderAt, orderFrom, orderOf, stateAfter}
+use Rattle.desk.specs.Desk.{phaseFor}
 use Rattle.desk.specs.Desk.{phaseOf}
 
 -- ---- the state in which a unit began
@@ -75,7 +76,8 @@ module _ (M : Mealy) (w ys : List ℕ) where
   pub first-answers : (m : ℕ) {s : ℕ} → firstState M w ys m ≡ some s → (s < m) × (answers M s w ≡ ys)
   unfolding firstState orElse stateIf
   first-answers zero {s} e = state-none e refl
-  first-answers (suc m) {s} e = go (firstState M w ys m) refl (λ r p. first-answers m p) (same (answers M m w) ys) refl e
+  first-answers (suc m) {s} e = go (firstState M w ys m) refl (λ r p. first-answers m p) (same (answers M m w) ys)
+      refl e
     where
       go : (o : Option ℕ) → firstState M w ys m ≡ o
           → ((r : ℕ) → firstState M w ys m ≡ some r → (r < m) × (answers M r w ≡ ys))

@@ -79,7 +79,8 @@ module _ (M : Mealy) (w : List ℕ) (proper : Proper M) (word : Distinguishes M 
       let long : length w ≤ length xs = omega (arith, ap length (h .commands), length-append w (h .homeward)) in
       let all = take-length xs in
       ap (λ (x : List ℕ). orderOf M w (answers M s x)) (sym all)
-      ∙ along-home M w (course-along M w proper word connected s xs h (length xs) long) (word .separates) (drop-length xs)
+      ∙ along-home M w (course-along M w proper word connected s xs h (length xs) long) (word .separates)
+      (drop-length xs)
       ∙ ap (λ (x : List ℕ). Home (length x)) all
 
 -- ---- and of the dialogue
@@ -226,8 +227,8 @@ brought-home s U r g =
     let clear = dialogue-reached s (unit-dialogue s U g) .clear in
     brought s U r clear (unit-dialogue s U g) (on-way s U r clear g)
 
--- ---- the end of such a dialogue: at home, after these commands, at most L + n - 1, with the unit in the state assigned
--- to the start
+-- ---- the end of such a dialogue: at home, after these commands, at most L + n - 1, with the unit in the state
+-- assigned to the start
 pub record EndsHome (s : List ℕ) (U : Unit (machineIn s .n) (machineIn s .k)) (r : Isomorphism (machineIn s) U)
     : Type 0 where
   pub commands : List ℕ

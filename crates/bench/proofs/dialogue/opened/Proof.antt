@@ -16,7 +16,8 @@ slice-aggregate-write-both : tie.Need-slice-aggregate-write-both
 slice-aggregate-write-both c = search needs
 
 write-both-requires : tie.Need-write-both-requires
-write-both-requires c κs = omega (arith, out-end (c .before .before .begin .ensures .written), c .before .before .begin .ensures .written .counts .1)
+write-both-requires c κs = omega
+    (arith, out-end (c .before .before .begin .ensures .written), c .before .before .begin .ensures .written .counts .1)
 
 left-by-requires : tie.Need-left-by-requires
 left-by-requires c κs = search needs

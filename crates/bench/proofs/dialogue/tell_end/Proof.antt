@@ -16,7 +16,8 @@ slice-aggregate-write-both : tie.Need-slice-aggregate-write-both
 slice-aggregate-write-both c = search needs
 
 write-both-requires : tie.Need-write-both-requires
-write-both-requires c κs = omega (arith, out-end (c .before .input-ended .ensures), c .before .input-ended .ensures .counts .1)
+write-both-requires c κs = omega
+    (arith, out-end (c .before .input-ended .ensures), c .before .input-ended .ensures .counts .1)
 
 returns : tie.Need-returns
 returns c = search needs

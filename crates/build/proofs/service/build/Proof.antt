@@ -105,7 +105,8 @@ returns-3 c =
     let early = word .before .before in
     let load = early .before .before .before in
     let start = load .before .before .before .before in
-    built (now (start .args .sheet)) (now (start .args .buffer)) (load .load-table .result) (load .load-table .ensures .0)
+    built (now (start .args .sheet)) (now (start .args .buffer)) (load .load-table .result)
+    (load .load-table .ensures .0)
     (early .enum-told .given .1) (now (word .read .result))
     (handed-content _ (start .args .sheet) (word .read .result) (word .read .ensures))
     (counted .write-sequence .ensures .ends)

@@ -1,11 +1,12 @@
--- `desk::identification::follow` meets its contract. The loop's invariant: the first i answers are right, and state is where
--- the first i commands lead. Assumes nothing.
+-- `desk::identification::follow` meets its contract. The loop's invariant: the first i answers are right, and state is
+-- where the first i commands lead. Assumes nothing.
 use Prim.Native.Nat.{ℕ, _-_}
 use lib.ListN.{length}
 use denote.Ref.{now}
 use Rattle.machine.specs.Machine.{tabled}
 use Rattle.machine.specs.Machine.Laws.{tabled-next, tabled-answer}
-use Rattle.desk.proofs.Identifying.{Following, following-start, following-differs, following-next, following-ends}
+use Rattle.desk.proofs.Identifying.{Following, following-start, following-differs, following-next}
+use Rattle.desk.proofs.Identifying.{following-ends}
 use mathlib.Core.Path.{refl}
 use borrow.Author.Needs.{needs}
 use Rattle.desk.proofs.identification.follow.Statement.{statement}
@@ -44,7 +45,8 @@ returns c n start =
     let loop = test .before in
     let begin = loop .before .before .before .before .before in
     let args = begin .args in
-    following-differs (tabled n (args .k) start (now (args .next)) (now (args .answer))) (now (args .w)) (now (args .ys))
+    following-differs (tabled n (args .k) start (now (args .next)) (now (args .answer))) (now (args .w))
+    (now (args .ys))
     (args .s) (begin .pre) (loop .loop .inv n start) (test .loop-test .taken)
     (tabled-answer n (args .k) start (now (args .next)) (now (args .answer)) (loop .loop .state) _ (byte .byte .ensures)
     (entry .entry-at .ensures))

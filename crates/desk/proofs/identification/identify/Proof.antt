@@ -1,4 +1,5 @@
--- `desk::identification::identify` meets its contract. The loop's invariant: no state before s answers so. Assumes nothing.
+-- `desk::identification::identify` meets its contract. The loop's invariant: no state before s answers so. Assumes
+-- nothing.
 use Prim.Native.Nat.{_-_, _≤_}
 use mathlib.Core.Path.{_≡_, refl, sym, _∙_}
 use mathlib.Core.Option.{none}

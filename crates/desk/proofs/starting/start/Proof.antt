@@ -45,7 +45,8 @@ returns c =
     let put = c .before .before .before .before .before in
     starts-clear (now (start .args .sheet)) (load .load-connected .result) (load .load-connected .ensures) _
     (now (put .before .before .read .result)) refl
-    (handed-content _ (start .args .sheet) (put .before .before .read .result) (put .before .before .read .ensures)) _ (put .put .ensures .0)
+    (handed-content _ (start .args .sheet) (put .before .before .read .result) (put .before .before .read .ensures)) _
+    (put .put .ensures .0)
     _ (put .put .ensures .1) _ _ (c .before .before .byte .ensures) (c .enum-told .given .1)
 
 returns-2 : tie.Need-returns-2

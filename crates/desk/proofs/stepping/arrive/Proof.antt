@@ -11,7 +11,8 @@ home-requires c κs = search needs
 returns : tie.Need-returns
 returns c =
     let start = c .before .before .before .before in
-    arrives-home (start .args .desk) (start .args .state) (start .args .count) (c .before .if1 .taken) (c .home .ensures)
+    arrives-home (start .args .desk) (start .args .state) (start .args .count) (c .before .if1 .taken)
+    (c .home .ensures)
 
 transfer-requires : tie.Need-transfer-requires
 transfer-requires c κs = search needs

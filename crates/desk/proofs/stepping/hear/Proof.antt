@@ -52,7 +52,8 @@ returns-3 c =
     let heard = test .before in
     let start = heard .before .before .before .before .before in
     hears-last (start .args .desk) (start .args .position) (start .args .answer)
-    (omega (arith, heard .before .before .if2 .left)) _ (heard .heard-with .ensures) (test .if3 .taken) (c .find .ensures)
+    (omega (arith, heard .before .before .if2 .left)) _ (heard .heard-with .ensures) (test .if3 .taken)
+    (c .find .ensures)
 
 add-command : tie.Need-add-command
 add-command c = search needs

@@ -1,5 +1,5 @@
--- `report::dialogue::others_line` meets its contract: the line, and behind it where it is the last that the dialogue stops.
--- Assumes nothing.
+-- `report::dialogue::others_line` meets its contract: the line, and behind it where it is the last that the dialogue
+-- stops. Assumes nothing.
 use Rattle.report.specs.Dialogue.{otherLine}
 use Rattle.report.proofs.Putting.{puts-append, puts-same, prints-line}
 use Rattle.report.proofs.Conversing.{others-more, others-last}
@@ -30,7 +30,8 @@ unfolding otherLine
 returns-2 c =
     let left = c .before .before .before .before .before .before .before .args .left in
     prints-line _
-    (puts-same (others-last left (c .before .before .before .if1 .left)) (puts-append _ _ (c .before .before .before .before .put .ensures) (c .put-stop .ensures)))
+    (puts-same (others-last left (c .before .before .before .if1 .left))
+    (puts-append _ _ (c .before .before .before .before .put .ensures) (c .put-stop .ensures)))
 
 pub others-line-spec : {M : Type 1} → statement M
 others-line-spec =

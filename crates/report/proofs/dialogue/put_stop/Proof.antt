@@ -25,7 +25,8 @@ returns : tie.Need-returns
 unfolding stopLine
 returns c =
     puts-append _ _
-    (puts-append _ _ (c .before .before .before .before .before .put .ensures) (c .before .before .before .put2 .ensures))
+    (puts-append _ _ (c .before .before .before .before .before .put .ensures)
+    (c .before .before .before .put2 .ensures))
     (c .put3 .ensures)
 
 pub put-stop-spec : {M : Type 1} → statement M

@@ -13,7 +13,8 @@ returns-2 : tie.Need-returns-2
 returns-2 c = reply-empty (now (c .before .before .before .args .line)) (c .if2 .taken)
 
 returns-3 : tie.Need-returns-3
-returns-3 c = reply-more (now (c .before .before .before .before .args .line)) (c .before .before .if1 .left) (c .if3 .taken)
+returns-3 c = reply-more (now (c .before .before .before .before .args .line)) (c .before .before .if1 .left)
+    (c .if3 .taken)
 
 number-in-requires : tie.Need-number-in-requires
 number-in-requires c κs = search needs

@@ -1,5 +1,5 @@
--- `report::numbers::number_in` meets its contract. The loop's invariant: what the bytes from i on give, behind digits of
--- the value so far, is what the text gives. Assumes nothing.
+-- `report::numbers::number_in` meets its contract. The loop's invariant: what the bytes from i on give, behind digits
+-- of the value so far, is what the text gives. Assumes nothing.
 use borrow.Author.Needs.{needs}
 use Prim.Native.Nat.{_+_, _-_, _≤_}
 use mathlib.Core.Path.{_≡_, sym, _∙_}
@@ -95,7 +95,8 @@ returns-4 : tie.Need-returns-4 Inv-loop μ-loop
 returns-4 c =
     let head = c .before .loop in
     let args = c .before .before .before .args in
-    sym (number-end (args .most) (head .value) (head .i) (now (args .text)) (head .inv .1) (search needs) (head .inv .0))
+    sym (number-end (args .most) (head .value) (head .i) (now (args .text)) (head .inv .1) (search needs)
+    (head .inv .0))
     ∙ head .inv .2
 
 pub number-in-spec : {M : Type 1} → statement M

@@ -35,7 +35,13 @@ same-length : tie.Need-same-length Inv-loop μ-loop
 same-length c = search needs
 
 returns : tie.Need-returns Inv-loop μ-loop
-returns c = line-counts _ _ (omega (arith, same-length c, c .before .before .before .before .before .before .before .before .before .before .before .before .loop .inv))
+returns c = line-counts _ _
+    (omega (
+      arith,
+      same-length c,
+      c .before .before .before .before .before .before .before .before .before .before
+          .before .before .loop .inv,
+    ))
 
 enum-told : tie.Need-enum-told Inv-loop μ-loop
 enum-told c = search needs
@@ -65,10 +71,19 @@ sub-turns : tie.Need-sub-turns Inv-loop μ-loop
 sub-turns c = search needs
 
 loop-less : tie.Need-loop-less Inv-loop μ-loop
-loop-less c = omega (arith, ltb-true 0 (c .before .before .before .before .before .before .before .before .before .before .before .before .loop .turns) (c .before .before .before .before .before .before .before .before .before .before .if1 .taken))
+loop-less c = omega (
+  arith,
+  ltb-true 0
+      (c .before .before .before .before .before .before .before .before .before .before .before .before .loop .turns)
+      (c .before .before .before .before .before .before .before .before .before .before .if1 .taken),
+)
 
 loop-again : tie.Need-loop-again Inv-loop μ-loop
-loop-again c = (c .before .before .before .before .before .before .before .before .read-more .ensures _ (c .before .before .before .before .step .given .1) .0, search needs)
+loop-again c = (
+  c .before .before .before .before .before .before .before .before .read-more .ensures _
+      (c .before .before .before .before .step .given .1) .0,
+  search needs,
+)
 
 failed-line-requires-2 : tie.Need-failed-line-requires-2 Inv-loop μ-loop
 failed-line-requires-2 c κs = search needs
