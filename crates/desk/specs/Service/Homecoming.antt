@@ -41,7 +41,7 @@ pub data UnitDialogue (s : List ℕ) (U : Unit (machineIn s .n) (machineIn s .k)
       → Steps d (U .answer (presentState (machineIn s .n) (machineIn s .k) U xs) c) r
       → UnitDialogue s U (xs ++ (c ∷ [])) (r .desk) (r .order)
 
--- how the dialogue with a unit that equals the sheet up to renaming stands after the commands xs: one more is to be
+-- how the dialogue with a unit whose table is isomorphic to the sheet's stands after the commands xs: one more is to be
 -- sent, which is at most the (L + n - 1)-th; or it is at home, after as many commands as it says and at most that many,
 -- and the unit is in the state that is assigned to the start. Stranger is not among them
 pub data Brought (s : List ℕ) (U : Unit (machineIn s .n) (machineIn s .k)) (r : Isomorphism (machineIn s) U)
