@@ -29,6 +29,13 @@ spaced (b ∷ bs) = bytes " " ++ (b ∷ bs)
 abbrev pub newline : List ℕ
 newline = bytes "\n"
 
+-- a line of a text and a number, and the bytes of the longest such text
+abbrev pub numberedLine : List ℕ → ℕ → List ℕ
+numberedLine text n = (text ++ decimal n) ++ newline
+
+abbrev pub longestLabel : ℕ
+longestLabel = 12
+
 -- ---- the lines
 -- `REFUSED 6 at 1 word does not separate`: number, place and phrase; without a phrase the line ends after the place
 unfoldable pub refusalLine : ℕ → ℕ → List ℕ
@@ -45,7 +52,7 @@ wrongLine place specified given =
 
 -- `UNFINISHED 4`: how many answers there are
 unfoldable pub unfinishedLine : ℕ → List ℕ
-unfinishedLine number = labelled "UNFINISHED " number ++ newline
+unfinishedLine number = numberedLine (bytes "UNFINISHED ") number
 
 -- the line for an answer of judging
 abbrev pub judgeLine : Judgement → List ℕ
@@ -56,7 +63,7 @@ judgeLine (RefusedJudgement number place) = refusalLine number place
 
 -- `CERTIFIED 13`: the number of recognised places
 unfoldable pub certifiedLine : ℕ → List ℕ
-certifiedLine recognised = labelled "CERTIFIED " recognised ++ newline
+certifiedLine recognised = numberedLine (bytes "CERTIFIED ") recognised
 
 -- `OPEN 2 recognised 5`: the open number, then the number of recognised places
 unfoldable pub openLine : ℕ → ℕ → List ℕ
@@ -70,15 +77,15 @@ certifyLine (RefusedCertification number place) = refusalLine number place
 
 -- `COMMAND 0`: the command to be sent
 unfoldable pub commandLine : ℕ → List ℕ
-commandLine command = labelled "COMMAND " command ++ newline
+commandLine command = numberedLine (bytes "COMMAND ") command
 
 -- `HOME after 7`: the number of commands sent
 unfoldable pub homeLine : ℕ → List ℕ
-homeLine after = labelled "HOME after " after ++ newline
+homeLine after = numberedLine (bytes "HOME after ") after
 
 -- `STRANGER at 3`: the number of the answer
 unfoldable pub strangerLine : ℕ → List ℕ
-strangerLine place = labelled "STRANGER at " place ++ newline
+strangerLine place = numberedLine (bytes "STRANGER at ") place
 
 -- the line for what the desk orders
 abbrev pub orderLine : Order → List ℕ

@@ -1,8 +1,9 @@
 // The output lines. A line stands at the start of the buffer, and its length is answered; later
 // bytes stay as they were.
-ghost use Rattle.report.specs.Lines.{passLine, wrongLine, unfinishedLine, judgeLine, certifiedLine, openLine};
-ghost use Rattle.report.specs.Lines.{certifyLine, refusalLine, commandLine, homeLine, strangerLine, orderLine};
-ghost use Rattle.report.specs.Lines.{firstLine};
+ghost use Prim.Native.Nat.{_≤_};
+ghost use lib.ListN.{length};
+ghost use Rattle.report.specs.Lines.{longestLabel, numberedLine, passLine, wrongLine, judgeLine, openLine};
+ghost use Rattle.report.specs.Lines.{certifyLine, refusalLine, orderLine, firstLine};
 ghost use Rattle.report.specs.Printing.{Prints};
 ghost use Rattle.report.specs.Output.{onError, Writes};
 use crate::output::OUTPUT;
@@ -33,6 +34,15 @@ pub fn refused(number: u8, place: usize, out: &mut [u8; OUTPUT]) -> Written
     Written { out: 0, end: size }
 }
 
+// A line of a text and a number.
+fn numbered(text: &[u8], number: u64, out: &mut [u8; OUTPUT]) -> usize
+    requires { ⌜ length (now text) ≤ longestLabel ⌝ }
+    ensures { λ r. ⌜ Prints (numberedLine (now (text .entry)) number) (now (out .entry)) (now (out .exit)) r ⌝ }
+{
+    let a = put_labelled(text, number, 0, out);
+    put(b"\n", a, out)
+}
+
 fn passed(size: usize, end: u8, out: &mut [u8; OUTPUT]) -> usize
     ensures { λ r. ⌜ Prints (passLine size end) (now (out .entry)) (now (out .exit)) r ⌝ }
 {
@@ -48,20 +58,6 @@ fn wrong(place: usize, specified: u8, given: u8, out: &mut [u8; OUTPUT]) -> usiz
     let b = put_labelled(b" want ", specified as u64, a, out);
     let c = put_labelled(b" got ", given as u64, b, out);
     put(b"\n", c, out)
-}
-
-fn unfinished(number: usize, out: &mut [u8; OUTPUT]) -> usize
-    ensures { λ r. ⌜ Prints (unfinishedLine number) (now (out .entry)) (now (out .exit)) r ⌝ }
-{
-    let a = put_labelled(b"UNFINISHED ", number as u64, 0, out);
-    put(b"\n", a, out)
-}
-
-fn certified(recognised: usize, out: &mut [u8; OUTPUT]) -> usize
-    ensures { λ r. ⌜ Prints (certifiedLine recognised) (now (out .entry)) (now (out .exit)) r ⌝ }
-{
-    let a = put_labelled(b"CERTIFIED ", recognised as u64, 0, out);
-    put(b"\n", a, out)
 }
 
 fn still_open(recognised: usize, number: usize, out: &mut [u8; OUTPUT]) -> usize
@@ -83,7 +79,7 @@ pub fn judge_line(answer: Judgement, out: &mut [u8; OUTPUT]) -> usize
             specified,
             given,
         } => wrong(place, specified, given, out),
-        Judgement::Unfinished { number } => unfinished(number, out),
+        Judgement::Unfinished { number } => numbered(b"UNFINISHED ", number as u64, out),
         Judgement::Refused { number, place } => refusal_line(number, place, out),
     }
 }
@@ -93,31 +89,10 @@ pub fn certify_line(answer: Certification, out: &mut [u8; OUTPUT]) -> usize
     ensures { λ r. ⌜ Prints (certifyLine answer) (now (out .entry)) (now (out .exit)) r ⌝ }
 {
     match answer {
-        Certification::Certified { recognised } => certified(recognised, out),
+        Certification::Certified { recognised } => numbered(b"CERTIFIED ", recognised as u64, out),
         Certification::Open { recognised, number } => still_open(recognised, number, out),
         Certification::Refused { number, place } => refusal_line(number, place, out),
     }
-}
-
-fn command(number: u8, out: &mut [u8; OUTPUT]) -> usize
-    ensures { λ r. ⌜ Prints (commandLine number) (now (out .entry)) (now (out .exit)) r ⌝ }
-{
-    let a = put_labelled(b"COMMAND ", number as u64, 0, out);
-    put(b"\n", a, out)
-}
-
-fn home(after: u8, out: &mut [u8; OUTPUT]) -> usize
-    ensures { λ r. ⌜ Prints (homeLine after) (now (out .entry)) (now (out .exit)) r ⌝ }
-{
-    let a = put_labelled(b"HOME after ", after as u64, 0, out);
-    put(b"\n", a, out)
-}
-
-fn stranger(place: u8, out: &mut [u8; OUTPUT]) -> usize
-    ensures { λ r. ⌜ Prints (strangerLine place) (now (out .entry)) (now (out .exit)) r ⌝ }
-{
-    let a = put_labelled(b"STRANGER at ", place as u64, 0, out);
-    put(b"\n", a, out)
 }
 
 // What the desk orders.
@@ -125,9 +100,9 @@ pub fn order_line(order: Order, out: &mut [u8; OUTPUT]) -> usize
     ensures { λ r. ⌜ Prints (orderLine order) (now (out .entry)) (now (out .exit)) r ⌝ }
 {
     match order {
-        Order::Command { command: number } => command(number, out),
-        Order::Home { after } => home(after, out),
-        Order::Stranger { at } => stranger(at, out),
+        Order::Command { command } => numbered(b"COMMAND ", command as u64, out),
+        Order::Home { after } => numbered(b"HOME after ", after as u64, out),
+        Order::Stranger { at } => numbered(b"STRANGER at ", at as u64, out),
     }
 }
 
@@ -136,7 +111,7 @@ pub fn first_line(first: First, out: &mut [u8; OUTPUT]) -> usize
     ensures { λ r. ⌜ Prints (firstLine first) (now (out .entry)) (now (out .exit)) r ⌝ }
 {
     match first {
-        First::Command { command: number } => command(number, out),
+        First::Command { command } => numbered(b"COMMAND ", command as u64, out),
         First::Refused { number, place } => refusal_line(number, place, out),
     }
 }

@@ -1,7 +1,7 @@
--- `report::lines::certify_line` meets its contract: each answer's own line.
+-- `report::lines::certify_line` meets its contract: each case's own line.
 -- Assumes nothing.
 use mathlib.Core.Path.{ap}
-use Rattle.report.specs.Lines.{certifyLine}
+use Rattle.report.specs.Lines.{certifyLine, certifiedLine}
 use Rattle.report.proofs.Putting.{prints-same}
 use borrow.Author.Needs.{needs}
 use Rattle.report.proofs.lines.certify_line.Statement.{statement}
@@ -10,8 +10,11 @@ use Rattle.report.proofs.lines.certify_line.Tie as tie
 enum-known-answer : tie.Need-enum-known-answer
 enum-known-answer c = search needs
 
-certified-requires : tie.Need-certified-requires
-certified-requires c κs = search needs
+slice-aggregate-numbered : tie.Need-slice-aggregate-numbered
+slice-aggregate-numbered c = search needs
+
+numbered-requires : tie.Need-numbered-requires
+numbered-requires c κs = search needs
 
 enum-known-answer-2 : tie.Need-enum-known-answer-2
 enum-known-answer-2 c = search needs
@@ -26,7 +29,8 @@ refusal-line-requires : tie.Need-refusal-line-requires
 refusal-line-requires c κs = search needs
 
 returns : tie.Need-returns
-returns c = prints-same (ap certifyLine (c .before .before .before .answer .given .1)) (c .certified .ensures)
+unfolding certifiedLine
+returns c = prints-same (ap certifyLine (c .before .before .before .before .answer .given .1)) (c .numbered .ensures)
 
 returns-2 : tie.Need-returns-2
 returns-2 c = prints-same (ap certifyLine (c .before .before .before .answer2 .given .1)) (c .still-open .ensures)
@@ -39,7 +43,8 @@ certify-line-spec =
     tie.close
     (tie.spec
     enum-known-answer
-    certified-requires
+    slice-aggregate-numbered
+    numbered-requires
     enum-known-answer-2
     still-open-requires
     enum-known-answer-3

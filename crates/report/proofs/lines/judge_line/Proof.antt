@@ -1,9 +1,9 @@
--- `report::lines::judge_line` meets its contract: each answer's own line.
+-- `report::lines::judge_line` meets its contract: each case's own line.
 -- Assumes nothing.
-use borrow.Author.Needs.{needs}
 use mathlib.Core.Path.{ap}
-use Rattle.report.specs.Lines.{judgeLine}
+use Rattle.report.specs.Lines.{judgeLine, unfinishedLine}
 use Rattle.report.proofs.Putting.{prints-same}
+use borrow.Author.Needs.{needs}
 use Rattle.report.proofs.lines.judge_line.Statement.{statement}
 use Rattle.report.proofs.lines.judge_line.Tie as tie
 
@@ -22,8 +22,11 @@ wrong-requires c κs = search needs
 enum-known-answer-3 : tie.Need-enum-known-answer-3
 enum-known-answer-3 c = search needs
 
-unfinished-requires : tie.Need-unfinished-requires
-unfinished-requires c κs = search needs
+slice-aggregate-numbered : tie.Need-slice-aggregate-numbered
+slice-aggregate-numbered c = search needs
+
+numbered-requires : tie.Need-numbered-requires
+numbered-requires c κs = search needs
 
 enum-known-answer-4 : tie.Need-enum-known-answer-4
 enum-known-answer-4 c = search needs
@@ -32,20 +35,17 @@ refusal-line-requires : tie.Need-refusal-line-requires
 refusal-line-requires c κs = search needs
 
 returns : tie.Need-returns
-returns c =
-    prints-same (ap judgeLine (c .before .before .before .answer .given .1)) (c .passed .ensures)
+returns c = prints-same (ap judgeLine (c .before .before .before .answer .given .1)) (c .passed .ensures)
 
 returns-2 : tie.Need-returns-2
-returns-2 c =
-    prints-same (ap judgeLine (c .before .before .before .answer2 .given .1)) (c .wrong .ensures)
+returns-2 c = prints-same (ap judgeLine (c .before .before .before .answer2 .given .1)) (c .wrong .ensures)
 
 returns-3 : tie.Need-returns-3
-returns-3 c =
-    prints-same (ap judgeLine (c .before .before .before .answer3 .given .1)) (c .unfinished .ensures)
+unfolding unfinishedLine
+returns-3 c = prints-same (ap judgeLine (c .before .before .before .before .answer3 .given .1)) (c .numbered .ensures)
 
 returns-4 : tie.Need-returns-4
-returns-4 c =
-    prints-same (ap judgeLine (c .before .before .before .answer4 .given .1)) (c .refusal-line .ensures)
+returns-4 c = prints-same (ap judgeLine (c .before .before .before .answer4 .given .1)) (c .refusal-line .ensures)
 
 pub judge-line-spec : {M : Type 1} → statement M
 judge-line-spec =
@@ -56,7 +56,8 @@ judge-line-spec =
     enum-known-answer-2
     wrong-requires
     enum-known-answer-3
-    unfinished-requires
+    slice-aggregate-numbered
+    numbered-requires
     enum-known-answer-4
     refusal-line-requires
     returns

@@ -1,7 +1,7 @@
--- `report::lines::order_line` meets its contract: each order's own line.
+-- `report::lines::order_line` meets its contract: each case's own line.
 -- Assumes nothing.
 use mathlib.Core.Path.{ap}
-use Rattle.report.specs.Lines.{orderLine}
+use Rattle.report.specs.Lines.{orderLine, commandLine, homeLine, strangerLine}
 use Rattle.report.proofs.Putting.{prints-same}
 use borrow.Author.Needs.{needs}
 use Rattle.report.proofs.lines.order_line.Statement.{statement}
@@ -10,40 +10,67 @@ use Rattle.report.proofs.lines.order_line.Tie as tie
 enum-known-order : tie.Need-enum-known-order
 enum-known-order c = search needs
 
-command-requires : tie.Need-command-requires
-command-requires c κs = search needs
+slice-aggregate-numbered : tie.Need-slice-aggregate-numbered
+slice-aggregate-numbered c = search needs
+
+cast-numbered : tie.Need-cast-numbered
+cast-numbered c = search needs
+
+numbered-requires : tie.Need-numbered-requires
+numbered-requires c κs = search needs
 
 enum-known-order-2 : tie.Need-enum-known-order-2
 enum-known-order-2 c = search needs
 
-home-requires : tie.Need-home-requires
-home-requires c κs = search needs
+slice-aggregate-numbered-2 : tie.Need-slice-aggregate-numbered-2
+slice-aggregate-numbered-2 c = search needs
+
+cast-numbered-2 : tie.Need-cast-numbered-2
+cast-numbered-2 c = search needs
+
+numbered-requires-2 : tie.Need-numbered-requires-2
+numbered-requires-2 c κs = search needs
 
 enum-known-order-3 : tie.Need-enum-known-order-3
 enum-known-order-3 c = search needs
 
-stranger-requires : tie.Need-stranger-requires
-stranger-requires c κs = search needs
+slice-aggregate-numbered-3 : tie.Need-slice-aggregate-numbered-3
+slice-aggregate-numbered-3 c = search needs
+
+cast-numbered-3 : tie.Need-cast-numbered-3
+cast-numbered-3 c = search needs
+
+numbered-requires-3 : tie.Need-numbered-requires-3
+numbered-requires-3 c κs = search needs
 
 returns : tie.Need-returns
-returns c = prints-same (ap orderLine (c .before .before .before .order .given .1)) (c .command .ensures)
+unfolding commandLine
+returns c = prints-same (ap orderLine (c .before .before .before .before .order .given .1)) (c .numbered .ensures)
 
 returns-2 : tie.Need-returns-2
-returns-2 c = prints-same (ap orderLine (c .before .before .before .order2 .given .1)) (c .home .ensures)
+unfolding homeLine
+returns-2 c = prints-same (ap orderLine (c .before .before .before .before .order2 .given .1)) (c .numbered2 .ensures)
 
 returns-3 : tie.Need-returns-3
-returns-3 c = prints-same (ap orderLine (c .before .before .before .order3 .given .1)) (c .stranger .ensures)
+unfolding strangerLine
+returns-3 c = prints-same (ap orderLine (c .before .before .before .before .order3 .given .1)) (c .numbered3 .ensures)
 
 pub order-line-spec : {M : Type 1} → statement M
 order-line-spec =
     tie.close
     (tie.spec
     enum-known-order
-    command-requires
+    slice-aggregate-numbered
+    cast-numbered
+    numbered-requires
     enum-known-order-2
-    home-requires
+    slice-aggregate-numbered-2
+    cast-numbered-2
+    numbered-requires-2
     enum-known-order-3
-    stranger-requires
+    slice-aggregate-numbered-3
+    cast-numbered-3
+    numbered-requires-3
     returns
     returns-2
     returns-3)
