@@ -139,13 +139,13 @@ module _ (M : Mealy) (w ys : List ℕ) where
   phase-driven-by (Home n) e = let z : _≡_ {A = ℕ} 0 1 = cc in absurd (omega arith)
   phase-driven-by (Stranger q) e = let z : _≡_ {A = ℕ} 0 1 = cc in absurd (omega arith)
 
-  -- driving: the word is answered, and a command is orderOn
+  -- driving: the word is answered, and a command is ordered
   pub phase-driven : {t : ℕ} → phaseOf M w ys ≡ Driving t
       → (length w ≤ length ys) × ((c : ℕ) × (orderOf M w ys ≡ Command c))
   unfolding phaseOf
   phase-driven e = phase-driven-by (orderOf M w ys) e
 
-  -- an end: that is orderOn
+  -- an end: that is ordered
   phase-end-by : (o : Order) {n : ℕ} → phaseFor M w ys o ≡ HomePhase n → o ≡ Home n
   unfolding phaseFor
   phase-end-by (Command c) {n} e = go (ltb (length ys) (length w)) e

@@ -7,7 +7,8 @@ use mathlib.Core.Bool.{true, false, true≢false}
 use mathlib.Core.Option.{some}
 use mathlib.Core.List.{List, [], _∷_, _++_}
 use native.Mathlib.Omega.{arith}
-use lib.ListN.{length, getD}
+use lib.ListN.{length, getD, take}
+use lib.Seq.{take-at}
 use Rattle.sheet.specs.declared.check.Check.{Check}
 use Rattle.sheet.specs.declared.check.Check.the-variants.{Clear, Refused}
 use Rattle.sheet.specs.Check.{firstCause, refusedOr}
@@ -23,9 +24,9 @@ use Rattle.desk.specs.declared.desk.Phase.the-variants.{Reading, Driving
 use Rattle.desk.specs.declared.starting.First.the-variants.{Command as FirstCommand, Refused as RefusedFirst}
 use Rattle.desk.specs.declared.starting.Started.{Started}
 use Rattle.desk.specs.declared.stepping.Stepped.{Stepped}
-use Rattle.desk.specs.Desk.{Strange, Ordered, word-next, transfer-next, home, strange, isEnd}
-use Rattle.desk.specs.Desk.Laws.{order-reading, along-phase}
-use Rattle.desk.specs.Desk.Agreement.{order-ordered, order-along}
+use Rattle.desk.specs.Desk.{Course, Strange, Ordered, word-next, transfer-next, home, strange, course, isEnd}
+use Rattle.desk.specs.Desk.Laws.{order-reading, along-length, along-phase}
+use Rattle.desk.specs.Desk.Agreement.{course-course, order-ordered, order-along}
 use Rattle.desk.specs.Desk.Ends.{order-ends, order-repeats, phase-reading, phase-home, phase-stranger}
 use Rattle.desk.specs.Service.{orderOn, Reached, starting, Starts, endOf, Steps}
 
@@ -102,20 +103,28 @@ module _ (s : List ℕ) where
     pub dialogue-reads : length ys < length (content 2 s) → d .phase ≡ Reading (length ys)
     dialogue-reads l = dialogue-reached g .phase ∙ phase-reading (machineIn s) (content 2 s) ys l
 
-    -- and where it then sends a command, that it drives, with the state reached: that to which the commands sent so far
-    -- lead from the state in which the unit began
+    -- and where it then sends a command, that it drives, with the state reached: that to which the commands sent so
+    -- far, the first of the course of the state in which the unit began, lead from that state
     pub dialogue-drives : length (content 2 s) ≤ length ys → {c : ℕ} → o ≡ Command c
-        → (b : ℕ) × (v : List ℕ) × (ys ≡ answers (machineIn s) b v) × (d .phase ≡ Driving (run (machineIn s) b v))
+        → (b : ℕ) × (xs : List ℕ) × Course (machineIn s) (content 2 s) b xs
+        × (ys ≡ answers (machineIn s) b (take (length ys) xs))
+        × (d .phase ≡ Driving (run (machineIn s) b (take (length ys) xs)))
     dialogue-drives l {c} e =
+        let M = machineIn s in
+        let w = content 2 s in
         let word = clear-distinguishes s clear in
         let a =
-        order-along (machineIn s) (content 2 s) (clear-proper s clear) word (clear-strongly s clear) ys l
-        (sym (dialogue-order g) ∙ e) in (
+        order-along M w (clear-proper s clear) word (clear-strongly s clear) ys l (sym (dialogue-order g) ∙ e) in
+        let on = a .3 in
+        let sent : take (length ys) (course M w (a .0)) ≡ a .1 =
+        ap (take (length ys)) (on .splits) ∙ take-at (a .1) (c ∷ a .2) (length ys) (sym (along-length M w on)) in (
           a .0,
-          a .1,
-          a .3 .answered,
+          course M w (a .0),
+          course-course M w (clear-proper s clear) word (clear-strongly s clear) (a .0) (on .state),
+          on .answered ∙ ap (answers M (a .0)) (sym sent),
           dialogue-reached g .phase
-              ∙ along-phase (machineIn s) (content 2 s) (a .3) c (a .2) refl (word .separates),
+              ∙ along-phase M w on c (a .2) refl (word .separates)
+              ∙ ap (λ (v : List ℕ). Driving (run M (a .0) v)) (sym sent),
         )
 
     -- an end is the order to any answers after it

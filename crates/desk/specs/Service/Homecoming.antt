@@ -33,7 +33,7 @@ use Rattle.desk.specs.Service.{orderOn, Starts, Steps}
 use Rattle.desk.specs.Service.Dialogue.{Dialogue, begun, continued, dialogue-reached, dialogue-order}
 
 -- ---- what is said
--- the dialogue with a unit: start, then each command that is orderOn goes to the unit, and its answer to step. The list
+-- the dialogue with a unit: start, then each command that is ordered goes to the unit, and its answer to step. The list
 -- is that of the commands sent
 pub data UnitDialogue (s : List ℕ) (U : Unit (machineIn s .n) (machineIn s .k)) : List ℕ → Desk → Order → Type 0 where
   started : {c : ℕ} (r : Started) → Starts s r → r .first ≡ FirstCommand c → UnitDialogue s U [] (r .desk) (Command c)
@@ -258,7 +258,7 @@ module _ (s : List ℕ) (U : Unit (machineIn s .n) (machineIn s .k)) (r : Isomor
   ends-home g = ends-within (length (content 2 s) + machineIn s .n) (omega arith) g (brought-home s U r g)
 
 -- ---- there are such units: the machine itself, begun in any of its states
-pub begunIn : (M : Mealy) → Proper M → (b : ℕ) → b < M .n → Unit (M .n) (M .k)
+abbrev pub begunIn : (M : Mealy) → Proper M → (b : ℕ) → b < M .n → Unit (M .n) (M .k)
 begunIn M h b l = record {
   m = M .n;
   few = omega arith;
@@ -270,7 +270,6 @@ begunIn M h b l = record {
 }
 
 pub begun-alike : (M : Mealy) (h : Proper M) (b : ℕ) (l : b < M .n) → Isomorphism M (begunIn M h b l)
-unfolding begunIn
 begun-alike M h b l = record {
   assigned = λ s. s;
   into = λ s k. k;
