@@ -35,7 +35,7 @@ fn judge(random: &mut Random) -> Vec<Word> {
 }
 
 impl Comparer {
-    /// Gives the sheet to the four services that take one.
+    /// Gives the sheet to the four services that take one on standard input.
     pub fn services(&mut self, case: &Case, directory: &Path) -> Result<(), Difference> {
         let mut random = choices(case);
         let lines = [

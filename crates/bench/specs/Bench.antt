@@ -39,7 +39,7 @@ sheetFrom Build = Standard
 sheetFrom (Read kind) = Standard
 sheetFrom Desk = File
 
--- and of a service that takes no sheet from nowhere: it writes the same whatever the sheet (unread, in Bench.Laws)
+-- a service that takes no sheet has none: it writes the same whatever it is (unread, in Bench.Laws)
 abbrev pub sourceOf : Service → Source
 sourceOf (Wrong mistake) = Nothing
 sourceOf (OnSheet service) = sheetFrom service

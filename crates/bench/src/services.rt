@@ -83,7 +83,7 @@ fn perform(service: Service, sheet: &[u8], out: &mut [u8; OUTPUT]) -> Written
     }
 }
 
-// What the bench writes, by its words and the sheet on its input.
+// What the bench writes, by its words and its sheet; of the desk, before the first answer.
 pub fn bench(
     count: usize,
     first: &[u8],

@@ -4,7 +4,7 @@
 use Prim.Native.Nat.{ℕ, zero, suc, _+_, _≤_, _<_}
 use mathlib.Core.Path.{_≡_, refl, sym, ap, ap₂, _∙_}
 use mathlib.Core.Bool.{Bool, true, false}
-use mathlib.Core.List.{List, [], _∷_, _++_}
+use mathlib.Core.List.{List, [], _∷_, _++_, append-assoc, append-nil}
 use native.Mathlib.Omega.{arith}
 use lib.Dec.{ltb}
 use lib.ListN.{length, getD, take, drop, length-append, List·getD-append}
@@ -227,11 +227,13 @@ brought-home s U r g =
     let clear = dialogue-reached s (unit-dialogue s U g) .clear in
     brought s U r clear (unit-dialogue s U g) (on-way s U r clear g)
 
--- ---- the end of such a dialogue: at home, after these commands, at most L + n - 1, with the unit in the state
--- assigned to the start
+-- ---- the end of such a dialogue, which stands at the commands xs: these and further ones, at most L + n - 1 in all,
+-- after which it is at home and the unit in the state assigned to the start
 pub record EndsHome (s : List ℕ) (U : Unit (machineIn s .n) (machineIn s .k)) (r : Isomorphism (machineIn s) U)
-    : Type 0 where
+    (xs : List ℕ) : Type 0 where
   pub commands : List ℕ
+  pub further : List ℕ
+  pub extends : commands ≡ xs ++ further
   pub desk : Desk
   pub dialogue : UnitDialogue s U commands desk (Home (length commands))
   pub few : length commands + 1 ≤ length (content 2 s) + machineIn s .n
@@ -241,20 +243,44 @@ pub record EndsHome (s : List ℕ) (U : Unit (machineIn s .n) (machineIn s .k)) 
 module _ (s : List ℕ) (U : Unit (machineIn s .n) (machineIn s .k)) (r : Isomorphism (machineIn s) U)
     (returns : (xs : List ℕ) (d : Desk) (c : ℕ) → UnitDialogue s U xs d (Command c)
     → (t : Stepped) × Steps d (U .answer (presentState (machineIn s .n) (machineIn s .k) U xs) c) t) where
+  -- it is there
+  ends-here : {xs : List ℕ} {d : Desk} {n : ℕ} → UnitDialogue s U xs d (Home n) → n ≡ length xs
+      → length xs + 1 ≤ length (content 2 s) + machineIn s .n
+      → presentState (machineIn s .n) (machineIn s .k) U xs ≡ r .assigned (machineIn s .start) → EndsHome s U r xs
+  ends-here {xs} {d} g e k q = record {
+    commands = xs;
+    further = [];
+    extends = sym (append-nil xs);
+    desk = d;
+    dialogue = rw (← e) g;
+    few = k;
+    stands = q;
+  }
+
+  -- or comes there after a further command
+  ends-later : {xs : List ℕ} (c : ℕ) → EndsHome s U r (xs ++ (c ∷ [])) → EndsHome s U r xs
+  ends-later {xs} c e = record {
+    commands = e .commands;
+    further = c ∷ e .further;
+    extends = e .extends ∙ append-assoc xs (c ∷ []) (e .further);
+    desk = e .desk;
+    dialogue = e .dialogue;
+    few = e .few;
+    stands = e .stands;
+  }
+
   ends-within : (left : ℕ) {xs : List ℕ} {d : Desk} {o : Order}
       → length (content 2 s) + machineIn s .n ≤ length xs + 1 + left → UnitDialogue s U xs d o → Brought s U r xs o
-      → EndsHome s U r
-  ends-within zero {xs} {d} l g (under-way k) = let z : ⊥ = omega arith in absurd z
-  ends-within zero {xs} {d} l g (at-home {n} e k q) =
-      record { commands = xs; desk = d; dialogue = rw (← e) g; few = k; stands = q }
+      → EndsHome s U r xs
+  ends-within zero l g (under-way k) = let z : ⊥ = omega arith in absurd z
+  ends-within zero l g (at-home e k q) = ends-here g e k q
   ends-within (suc left) {xs} {d} l g (under-way {c} k) =
       let t = returns xs d c g in
       let h = sent (t .0) g (t .1) in
-      ends-within left (omega (arith, length-append xs (c ∷ []))) h (brought-home s U r h)
-  ends-within (suc left) {xs} {d} l g (at-home {n} e k q) =
-      record { commands = xs; desk = d; dialogue = rw (← e) g; few = k; stands = q }
+      ends-later c (ends-within left (omega (arith, length-append xs (c ∷ []))) h (brought-home s U r h))
+  ends-within (suc left) l g (at-home e k q) = ends-here g e k q
 
-  pub ends-home : {xs : List ℕ} {d : Desk} {o : Order} → UnitDialogue s U xs d o → EndsHome s U r
+  pub ends-home : {xs : List ℕ} {d : Desk} {o : Order} → UnitDialogue s U xs d o → EndsHome s U r xs
   ends-home g = ends-within (length (content 2 s) + machineIn s .n) (omega arith) g (brought-home s U r g)
 
 -- ---- there are such units: the machine itself, begun in any of its states
