@@ -1,6 +1,7 @@
 // What is written, to both streams.
 ghost use Prim.Native.Nat.{_≤_};
-ghost use lib.ListN.{length};
+ghost use lib.ListN.{length, take};
+ghost use Rattle.streams.specs.Output.{WrittenAll};
 use streams::write_error;
 use streams::write_output;
 
@@ -10,6 +11,7 @@ use streams::write_output;
 // answer is not used.
 pub fn write_both(bytes: &[u8], out: usize) -> bool
     requires { ⌜ out ≤ length (now bytes) ⌝ }
+    ensures { λ r. ⌜ WrittenAll (take out (now (bytes .entry))) r ⌝ }
 {
     let wrote = write_output(&bytes[..out]);
     if wrote {

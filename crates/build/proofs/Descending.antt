@@ -14,7 +14,7 @@ use Rattle.machine.specs.Machine.{Mealy, tabled}
 use Rattle.machine.specs.Machine.Laws.{tabled-states, tabled-commands, tabled-cells}
 use Rattle.build.specs.Transfer.{firstPath, guard, transfer}
 use Rattle.build.specs.Transfer.Paths.{Step, some-none, guard-true, guard-false, path-zero, path-step}
-use Rattle.build.specs.Transfer.Paths.{path-inside, path-length}
+use Rattle.build.specs.Transfer.Paths.{path-state, path-length}
 use Rattle.build.specs.Transfer.Laws.{path-transfer, none-transfer}
 use Rattle.build.specs.Distances.{unreached, FirstStep, Distances, Descent, there, down}
 use Rattle.build.proofs.Searching.{Nearest, nearest, nearest-known, unreached-none, exact}
@@ -108,7 +108,7 @@ module _ (M : Mealy) (b d : ℕ) (few : M .n ≤ 255) (small : d < unreached) (n
         let p = descent-path h near in
         let e = path-length M b (getD distance s 0) s p in
         path-transfer M s b (record {
-          few = omega (arith, near .low, path-inside M b (getD distance s 0) s p);
+          few = omega (arith, near .low, path-state M b (getD distance s 0) s p);
           found = rw e p;
           passed = rw e (near .least);
         })

@@ -14,7 +14,7 @@ use Rattle.machine.specs.Machine.{Mealy, tabled}
 use Rattle.machine.specs.Machine.Laws.{tabled-states, tabled-commands, tabled-cells}
 use Rattle.machine.specs.Numbers.{equal-or-not, less-or-not}
 use Rattle.build.specs.Transfer.{firstPath}
-use Rattle.build.specs.Transfer.Paths.{Seen, nothing, string, seen, path-zero, path-here, path-inside}
+use Rattle.build.specs.Transfer.Paths.{Seen, nothing, string, seen, path-zero, path-here, path-state}
 use Rattle.build.specs.Transfer.Paths.{path-outside, some-path, none-path}
 use Rattle.build.specs.Distances.{unreached, Widened, Distance, Distances}
 use Rattle.build.proofs.Searching.{nearest, unreached-none, exact}
@@ -117,7 +117,7 @@ module _ (M : Mealy) (b d : ℕ) (few : M .n ≤ 255) (small : d + 1 < unreached
 
   -- what is no state stays unreached
   outside-distance : (s v : ℕ) → M .n ≤ s → Distance M b d s v → Distance M b (d + 1) s v
-  outside-distance s v l (Distance.near t k p q) = let y = path-inside M b v s p in let z : ⊥ = omega arith in absurd z
+  outside-distance s v l (Distance.near t k p q) = let y = path-state M b v s p in let z : ⊥ = omega arith in absurd z
   outside-distance s v l (Distance.beyond z h) = Distance.beyond z (λ m _. path-outside M b m s l)
 
   -- so all have

@@ -9,7 +9,7 @@ use lib.ListN.{getD}
 use borrow.Author.Count.{below-more}
 use Rattle.machine.specs.Machine.{Mealy}
 use Rattle.build.specs.Transfer.{firstPath}
-use Rattle.build.specs.Transfer.Paths.{some-none, path-inside, some-path}
+use Rattle.build.specs.Transfer.Paths.{some-none, path-state, some-path}
 use Rattle.build.specs.Distances.{unreached, FirstStep, Widened, Distance, Distances}
 
 -- ---- the first step
@@ -108,7 +108,7 @@ module _ (M : Mealy) (b d : ℕ) where
     pub exact : (m s c : ℕ) {u : List ℕ} → m ≤ d → s < M .n → c < M .k → ((i : ℕ) → i ≤ m → firstPath M b i s ≡ none)
         → firstPath M b m (M .next s c) ≡ some u → getD distance (M .next s c) 0 ≡ m
     exact m s c {u} ml sl cl none-here e =
-        let inside = path-inside M b m (M .next s c) e in
+        let inside = path-state M b m (M .next s c) e in
         let r = path-nearest (table .at (M .next s c) (omega arith)) e ml in
         let longer : getD distance (M .next s c) 0 < m → ⊥ = λ y.
         some-none (some-path M b (getD distance (M .next s c) 0) s c sl cl (r .1 .found) .1)

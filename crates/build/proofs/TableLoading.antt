@@ -5,14 +5,12 @@ use mathlib.Core.Path.{_≡_, sym, ap₂, _∙_}
 use mathlib.Core.List.{List}
 use Rattle.sheet.specs.declared.check.Check.{Check}
 use Rattle.sheet.specs.declared.check.Check.the-variants.{Clear, Refused}
-use Rattle.sheet.specs.Check.{firstCause}
 use Rattle.sheet.specs.Check.Laws.{clear-refused, else-clear, else-refused}
 use Rattle.sheet.specs.Reader.{content}
 use Rattle.machine.specs.declared.loading.Loaded.{Loaded}
 use Rattle.machine.specs.Machine.{meaning, Proper}
-use Rattle.machine.specs.Causes.{machineIn}
 use Rattle.machine.specs.Loading.{LoadedFrom}
-use Rattle.build.specs.Building.{buildNeeds, cause8, connectedCauses}
+use Rattle.build.specs.Building.{buildNeeds, cause8}
 use Rattle.build.specs.Building.Connection.{connected-causes-are}
 use Rattle.build.specs.Loading.{ConnectedFrom}
 

@@ -8,7 +8,7 @@ use native.Mathlib.Omega.{arith}
 use native.Mathlib.Nat.{zero-add}
 use lib.Dec.{leb}
 use lib.ListN.{length, getD, take}
-use lib.Seq.{paste, take-paste, take-length, getD-take}
+use lib.Seq.{take-paste, take-length, getD-take}
 use borrow.Author.Tests.{leb-true, leb-false}
 use Rattle.sheet.specs.declared.check.Check.the-variants.{Clear, Refused}
 use Rattle.sheet.specs.Check.{firstCause}
@@ -18,7 +18,6 @@ use Rattle.sheet.specs.Values.Laws.{returns-specified}
 use Rattle.sheet.specs.Writing.{putAt, putEnd}
 use Rattle.sheet.specs.Writing.Laws.{put-fits, end-fits, end-not}
 use Rattle.machine.specs.Limits.{mostWord}
-use Rattle.machine.specs.Machine.{meaning}
 use Rattle.machine.specs.Causes.{machineIn}
 use Rattle.machine.specs.declared.loading.Loaded.{Loaded}
 use Rattle.build.specs.Building.{connectedCauses}
@@ -28,7 +27,6 @@ use Rattle.desk.specs.declared.desk.Desk.{Desk}
 use Rattle.desk.specs.declared.desk.Order.the-variants.{Command}
 use Rattle.desk.specs.declared.desk.Phase.the-variants.{Reading}
 use Rattle.desk.specs.declared.starting.First.the-variants.{Command as FirstCommand, Refused as RefusedFirst}
-use Rattle.desk.specs.declared.starting.Started.{Started}
 use Rattle.desk.specs.Desk.Laws.{order-reading}
 use Rattle.desk.specs.Desk.Ends.{phase-reading}
 use Rattle.desk.specs.Service.{orderOn, Reached, firstValues, Starts}

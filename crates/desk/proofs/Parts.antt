@@ -2,9 +2,9 @@
 -- Assumes nothing.
 use Prim.Native.Nat.{ℕ, zero, suc, _+_, _*_, _≤_, _<_}
 use mathlib.Core.Path.{_≡_, refl, sym, ap, subst, subst₂, _∙_}
-use mathlib.Core.Bool.{true, false, true≢false}
+use mathlib.Core.Bool.{true, false}
 use mathlib.Core.List.{List, [], _∷_, _++_}
-use mathlib.Core.Option.{Option, none, some, mem-unique}
+use mathlib.Core.Option.{some, mem-unique}
 use native.Mathlib.Omega.{arith}
 use native.Mathlib.Numerals.{add-one}
 use lib.ListN.{length, getD, set, take}
@@ -23,10 +23,9 @@ use Rattle.desk.specs.declared.desk.Phase.the-variants.{Reading, Driving
 use Rattle.desk.specs.declared.desk.Phase.the-variants.{Stranger as StrangerPhase}
 use Rattle.desk.specs.declared.identification.Followed.{Followed}
 use Rattle.desk.specs.declared.stepping.Stepped.{Stepped}
-use Rattle.desk.specs.Desk.{firstState}
 use Rattle.desk.specs.Desk.Laws.{state-none}
 use Rattle.desk.specs.Identification.{Identifies}
-use Rattle.desk.specs.Stepping.{deskWith, Keeps, AtHome, AtStranger, Sends, Arrives, Drives, wordOf, Finds, Hears}
+use Rattle.desk.specs.Stepping.{deskWith, Keeps, AtHome, AtStranger, Arrives, Drives, wordOf, Finds, Hears}
 
 -- ---- a desk with new parts
 module _ (d : Desk) {heard : List ℕ} {count sent : ℕ} {phase : Phase} {x : Desk}

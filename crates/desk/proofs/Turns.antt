@@ -14,12 +14,11 @@ use Rattle.sheet.specs.declared.check.Check.the-variants.{Clear}
 use Rattle.sheet.specs.Check.{firstCause}
 use Rattle.sheet.specs.Reader.{content}
 use Rattle.sheet.specs.Values.Laws.{returns-specified}
-use Rattle.machine.specs.Machine.{Mealy, run, answers, meaning, Proper, Distinguishes}
+use Rattle.machine.specs.Machine.{Mealy, run, meaning, Distinguishes}
 use Rattle.machine.specs.Causes.{machineIn}
 use Rattle.build.specs.Transfer.{transfer}
 use Rattle.build.specs.Transfer.Laws.{transfer-none-left}
-use Rattle.build.specs.Building.{connectedCauses, StronglyConnected}
-use Rattle.build.specs.Building.Connection.{clear-proper, clear-distinguishes, clear-strongly}
+use Rattle.build.specs.Building.{connectedCauses}
 use Rattle.desk.specs.declared.desk.Desk.{Desk}
 use Rattle.desk.specs.declared.desk.Order.{Order}
 use Rattle.desk.specs.declared.desk.Order.the-variants.{Command, Home, Stranger}
@@ -33,11 +32,11 @@ use Rattle.desk.specs.Desk.Laws.{order-none}
 use Rattle.desk.specs.Desk.Laws.{course-short, Along, along-word, along-length, along-read, along-home}
 use Rattle.desk.specs.Desk.Laws.{along-command}
 use Rattle.desk.specs.Desk.Laws.{along-differs, along-next, along-reached, along-phase}
-use Rattle.desk.specs.Desk.Agreement.{course-transfer, order-along}
+use Rattle.desk.specs.Desk.Agreement.{Suited, clear-suited, course-transfer, order-along}
 use Rattle.desk.specs.Desk.Ends.{order-repeats, end-read, phase-reading, phase-home, phase-stranger, phase-read}
 use Rattle.desk.specs.Desk.Ends.{phase-driven, phase-at-home, phase-at-stranger}
 use Rattle.desk.specs.Service.{orderOn, Reached, endOf, orderValues, Steps}
-use Rattle.desk.specs.Stepping.{Keeps, AtHome, AtStranger, Sends, Arrives, Drives, wordOf, Reads, Finds, Hears}
+use Rattle.desk.specs.Stepping.{Keeps, AtHome, AtStranger, Arrives, Drives, wordOf, Reads, Finds, Hears}
 
 -- an order is the specified one, and the answers lead to the desk
 record Correct (s ys : List ℕ) (r : Stepped) : Type 0 where
@@ -53,14 +52,11 @@ module _ (s : List ℕ) (clear : firstCause (connectedCauses s) ≡ Clear) (d : 
   abbrev w : List ℕ
   w = content 2 s
 
-  proper : Proper M
-  proper = clear-proper s clear
+  suited : Suited M w
+  suited = clear-suited s clear
 
-  word : Distinguishes M w
-  word = clear-distinguishes s clear
-
-  connected : StronglyConnected M
-  connected = clear-strongly s clear
+  abbrev word : Distinguishes M w
+  word = suited .word
 
   -- the new desk, by its phase
   reached-by : (ys : List ℕ) (e : Desk) → Keeps d e → e .phase ≡ phaseOf M w ys
@@ -171,7 +167,7 @@ module _ (s : List ℕ) (clear : firstCause (connectedCauses s) ≡ Clear) (d : 
           (order-none M w zs (omega (arith, long)) (began ∙ e) ∙ ap Stranger place) (h .missing (theirs ∙ e))
       go (state b e) =
           let f = first-answers M w zs (M .n) e in
-          let t = course-transfer M w proper word connected b (f .0) in
+          let t = course-transfer M w suited b (f .0) in
           let a : Along M w b w (t .0) zs =
           subst (λ (x : List ℕ). Along M w b w (t .0) x) (f .1) (along-word M w b (f .0) (t .1)) in
           arrived (t .0) a (ap₂ (λ (N : Mealy) (x : List ℕ). run N b x) me we) (l ∙ sym long) (h .found b (theirs ∙ e))
@@ -199,7 +195,7 @@ module _ (s : List ℕ) (clear : firstCause (connectedCauses s) ≡ Clear) (d : 
   drives-right ys y at g pe {r} h =
       let p = phase-driven M w ys (sym (g .phase) ∙ pe) in
       let c = p .1 .0 in
-      let a = order-along M w proper word connected ys (p .0) (p .1 .1) in
+      let a = order-along M w suited ys (p .0) (p .1 .1) in
       let on : Along M w (a .0) (a .1) (c ∷ a .2) ys = a .3 in
       let same-phase : Driving at ≡ Driving (run M (a .0) (a .1)) =
       sym pe ∙ g .phase ∙ along-phase M w on c (a .2) refl (word .separates) in
@@ -229,9 +225,9 @@ module _ (s : List ℕ) (clear : firstCause (connectedCauses s) ≡ Clear) (d : 
                 along-length M w on,
                 ap length (on .splits),
                 length-append v (c ∷ u),
-                course-short M w b (proper .some-states),
+                course-short M w b (suited .proper .some-states),
                 word .commands .few,
-                proper .few-states,
+                suited .proper .few-states,
               )
 
           tested : (t : Bool) → eqb (M .answer (run M b v) c) y ≡ t → Correct s (ys ++ (y ∷ [])) r

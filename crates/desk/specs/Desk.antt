@@ -1,6 +1,6 @@
 -- The desk (§13): what it orders, of a machine, a word and the list of all answers so far. `Ordered` says it and
 -- `orderOf` computes it; Desk.Agreement shows that both agree, by the laws of Desk.Laws. Desk.Ends has those of ends.
-use Prim.Native.Nat.{ℕ, zero, suc, _-_, _+_, _≤_, _<_}
+use Prim.Native.Nat.{ℕ, zero, suc, _-_, _≤_, _<_}
 use mathlib.Core.Path.{_≡_}
 use mathlib.Core.Bool.{Bool, true, false, cond}
 use mathlib.Core.List.{List, [], _++_}

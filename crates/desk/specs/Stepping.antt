@@ -3,9 +3,9 @@ use Prim.Native.Nat.{ℕ, _+_, _≤_, _<_}
 use mathlib.Core.Path.{_≡_}
 use mathlib.Core.List.{List, [], _∷_, _++_}
 use mathlib.Core.Option.{none, some}
-use lib.ListN.{length, getD, take}
+use lib.ListN.{getD, take}
 use Rattle.machine.specs.Limits.{mostWord}
-use Rattle.machine.specs.Machine.{Mealy, run, meaning}
+use Rattle.machine.specs.Machine.{run, meaning}
 use Rattle.build.specs.Transfer.{transfer}
 use Rattle.desk.specs.declared.desk.Desk.{Desk}
 use Rattle.desk.specs.declared.desk.Order.the-variants.{Command, Home, Stranger}

@@ -1,6 +1,5 @@
 // The identification of the state in which a unit began, by its answers to the word.
 ghost use mathlib.Core.Path.{_≡_};
-ghost use mathlib.Core.List.{List};
 ghost use Prim.Native.Nat.{ℕ};
 ghost use lib.ListN.{length};
 ghost use Rattle.machine.specs.Machine.{tabled, meaning};

@@ -3,7 +3,8 @@
 use Prim.Native.Nat.{ℕ, _≤_, _<_}
 use mathlib.Core.Path.{_≡_}
 use mathlib.Core.List.{List}
-use Rattle.machine.specs.Machine.{Mealy, run, answers}
+use native.Mathlib.Nat.{le-refl}
+use Rattle.machine.specs.Machine.{Mealy, run, answers, Proper}
 pub mod Laws
 
 -- a unit for a machine of n states and k commands (§9.1), in the literature an implementation under test: m states, at
@@ -30,6 +31,18 @@ module _ (n k : ℕ) (U : Unit n k) where
   -- the state in which the last command leaves it (§9.1)
   abbrev pub presentState : List ℕ → ℕ
   presentState xs = run tableOf (U .u) xs
+
+-- the machine itself as a unit, begun in any of its states
+abbrev pub begunIn : (M : Mealy) → Proper M → (b : ℕ) → b < M .n → Unit (M .n) (M .k)
+begunIn M h b l = record {
+  m = M .n;
+  few = le-refl (M .n);
+  u = b;
+  u-low = l;
+  next = M .next;
+  answer = M .answer;
+  stays = h .stays;
+}
 
 -- an isomorphism of the machine's table and the unit's (§9.2): it assigns a state of the unit to each state of the
 -- machine. Of u and of a run it says nothing

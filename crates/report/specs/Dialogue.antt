@@ -1,11 +1,10 @@
 -- The dialogue of `bench desk` (§8.2), turn by turn: what a line is, what is written, and whether the dialogue goes on.
 -- The laws of its beginning stand in Dialogue.Laws.
-use Prim.Native.Nat.{ℕ, _-_, _≤_}
+use Prim.Native.Nat.{ℕ, _-_}
 use mathlib.Core.Path.{_≡_}
 use mathlib.Core.Bool.{Bool, true, false, cond, _&&_}
 use mathlib.Core.List.{List, [], _++_}
 use mathlib.Core.Option.{Option, none, some}
-use Prim.Native.String.{String}
 use lib.Dec.{leb, ltb}
 use lib.ListN.{length}
 use Rattle.desk.specs.declared.desk.Desk.{Desk}

@@ -19,6 +19,7 @@ use crate::numbers::number_in;
 use crate::output::OUTPUT;
 use crate::output::Written;
 use crate::pieces::put;
+use crate::pieces::put_between;
 use desk::Desk;
 use desk::First;
 use desk::Order;
@@ -75,9 +76,7 @@ fn put_stop(reason: &[u8], at: usize, out: &mut [u8; OUTPUT]) -> usize
     requires { ⌜ at ≤ 100 ⌝ }
     ensures { λ r. ⌜ Puts (now (out .entry)) at (stopLine (now (reason .entry))) (now (out .exit)) r ⌝ }
 {
-    let a = put(b"bench: the dialogue stops: ", at, out);
-    let b = put(reason, a, out);
-    put(b"\n", b, out)
+    put_between(b"bench: the dialogue stops: ", reason, b"\n", at, out)
 }
 
 // What is told of a line that is no answer.

@@ -42,6 +42,18 @@ pub fn put_labelled(text: &[u8], n: u64, at: usize, out: &mut [u8]) -> usize
     put_decimal(n, next, out)
 }
 
+// A text between two others.
+pub fn put_between(before: &[u8], text: &[u8], after: &[u8], at: usize, out: &mut [u8]) -> usize
+    requires { ⌜ at + length (now before) + length (now text) + length (now after) ≤ length (now out) ⌝ }
+    ensures { λ r. ⌜
+        Puts (now (out .entry)) at ((now (before .entry) ++ now (text .entry)) ++ now (after .entry))
+        (now (out .exit)) r ⌝ }
+{
+    let a = put(before, at, out);
+    let b = put(text, a, out);
+    put(after, b, out)
+}
+
 // The phrase of a refusal number with a space before it, or nothing.
 pub fn put_phrase(number: u8, at: usize, out: &mut [u8]) -> usize
     requires { ⌜ at + (longestPhrase + 1) ≤ length (now out) ⌝ }

@@ -9,6 +9,7 @@ ghost use Rattle.report.specs.Services.{helped, mistaken};
 use crate::output::OUTPUT;
 use crate::output::Written;
 use crate::pieces::put;
+use crate::pieces::put_between;
 
 // What is wrong: a first word that names no service, an empty word, one that is too long, too many
 // or too few words, a word that is no kind.
@@ -26,9 +27,13 @@ fn told(text: &[u8], out: &mut [u8; OUTPUT]) -> usize
     requires { ⌜ length (now text) ≤ longestMistake ⌝ }
     ensures { λ r. ⌜ Prints (mistakeOf (now (text .entry))) (now (out .entry)) (now (out .exit)) r ⌝ }
 {
-    let a = put(b"bench: ", 0, out);
-    let b = put(text, a, out);
-    put(b"; bench help lists the services\n", b, out)
+    put_between(
+        b"bench: ",
+        text,
+        b"; bench help lists the services\n",
+        0,
+        out,
+    )
 }
 
 fn mistake_line(mistake: Mistake, out: &mut [u8; OUTPUT]) -> usize

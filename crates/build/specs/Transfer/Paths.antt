@@ -195,11 +195,6 @@ module _ (M : Mealy) (b : ℕ) where
   path-outside (suc m) a l =
       guard-false (firstOf (M .k) (λ c. Option·map (_∷_ c) (firstPath M b m (M .next a c)))) (le-ltb a (M .n) l)
 
-  -- a path starts at a state
-  pub path-inside : (m a : ℕ) {t : List ℕ} → firstPath M b m a ≡ some t → a < M .n
-  path-inside zero a e = path-zero a e .0
-  path-inside (suc m) a e = path-step m a e .inside
-
   -- a path has its length
   pub path-length : (m a : ℕ) {t : List ℕ} → firstPath M b m a ≡ some t → length t ≡ m
   path-length zero a e = ap length (path-zero a e .2)

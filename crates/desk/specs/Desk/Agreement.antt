@@ -1,5 +1,5 @@
--- What the desk orders as the specification says it and as it is computed agree, for a machine within its limits that
--- is strongly connected and a word that separates.
+-- What the desk orders as the specification says it and as it is computed agree, for a machine and a word that starting
+-- does not refuse.
 use Prim.Native.Nat.{ℕ, suc, _+_, _-_, _≤_, _<_}
 use mathlib.Core.Path.{_≡_, refl, sym, ap, ap₂, _∙_}
 use mathlib.Core.Bool.{Bool, true, false}
@@ -10,19 +10,23 @@ use lib.Dec.{ltb}
 use lib.ListN.{length, getD, take, drop, length-append, take-append-drop, List·getD-append}
 use lib.Seq.{ext-getD, getD-take, length-take-le, take-append-add, drop-append-add, drop-cons}
 use borrow.Author.Tests.{ltb-true, ltb-false}
-use Rattle.machine.specs.Limits.{mostWord}
+use Rattle.sheet.specs.declared.check.Check.the-variants.{Clear}
+use Rattle.sheet.specs.Check.{firstCause}
+use Rattle.sheet.specs.Reader.{content}
 use Rattle.machine.specs.Machine.{Mealy, run, answers, Proper, Distinguishes}
 use Rattle.machine.specs.Machine.Laws.{run-append, run-stays, answers-append, answers-length, answers-take}
+use Rattle.machine.specs.Causes.{machineIn}
 use Rattle.machine.specs.CommonPrefix.{agreed, Agreed, agreed-holds, agreed-is}
 use Rattle.build.specs.Transfer.{transfer}
 use Rattle.build.specs.Transfer.Laws.{transfer-is, is-transfer, leads-some, transfer-drop}
-use Rattle.build.specs.Building.{StronglyConnected}
+use Rattle.build.specs.Building.{connectedCauses, StronglyConnected}
+use Rattle.build.specs.Building.Connection.{clear-proper, clear-distinguishes, clear-strongly}
 use Rattle.desk.specs.declared.desk.Order.{Order}
 use Rattle.desk.specs.declared.desk.Order.the-variants.{Command, Home, Stranger}
-use Rattle.desk.specs.Desk.{Course, RightFrom, Strange, Ordered, word-next, transfer-next, home, strange}
+use Rattle.desk.specs.Desk.{Course, RightFrom, Ordered, word-next, transfer-next, home, strange}
 use Rattle.desk.specs.Desk.{no-state, differing}
-use Rattle.desk.specs.Desk.{firstState, beganIn, course, orderAt, orderOf}
-use Rattle.desk.specs.Desk.Laws.{SeenState, nothing, state, seen, state-none, first-answers, first-none}
+use Rattle.desk.specs.Desk.{beganIn, course, orderAt, orderOf}
+use Rattle.desk.specs.Desk.Laws.{SeenState, nothing, state, seen, first-answers, first-none}
 use Rattle.desk.specs.Desk.Laws.{first-one}
 use Rattle.desk.specs.Desk.Laws.{began-is, order-reading, order-none, order-some, at-stranger, at-command}
 use Rattle.desk.specs.Desk.Laws.{at-home}
@@ -35,13 +39,33 @@ front-answers M s u v i l =
     ap (λ (x : List ℕ). getD x i 0) (answers-append M s u v)
     ∙ List·getD-append (answers M s u) (answers M (run M s u) v) 0 i (omega (arith, answers-length M s u))
 
-module _ (M : Mealy) (w : List ℕ) (proper : Proper M) (word : Distinguishes M w) (connected : StronglyConnected M) where
+-- a machine and a word that starting does not refuse: the machine is within its limits and strongly connected, the word
+-- within its own, and it separates
+pub record Suited (M : Mealy) (w : List ℕ) : Type 0 where
+  pub proper : Proper M
+  pub word : Distinguishes M w
+  pub connected : StronglyConnected M
+
+pub clear-suited : (s : List ℕ) → firstCause (connectedCauses s) ≡ Clear → Suited (machineIn s) (content 2 s)
+clear-suited s clear = record {
+  proper = clear-proper s clear;
+  word = clear-distinguishes s clear;
+  connected = clear-strongly s clear;
+}
+
+module _ (M : Mealy) (w : List ℕ) (suited : Suited M w) where
+  abbrev proper : Proper M
+  proper = suited .proper
+
+  abbrev word : Distinguishes M w
+  word = suited .word
+
   -- ---- courses
   -- there is a transfer from where the word takes a state
   pub course-transfer : (s : ℕ) → s < M .n → (t : List ℕ) × (transfer M (run M s w) (M .start) ≡ some t)
   course-transfer s l =
       let low = run-stays M proper s w l (word .commands .low) in
-      let u = connected (run M s w) (M .start) low (proper .starts) in
+      let u = suited .connected (run M s w) (M .start) low (proper .starts) in
       leads-some M proper (run M s w) (M .start) low (u .0) (u .1)
 
   pub course-course : (s : ℕ) → s < M .n → Course M w s (course M w s)

@@ -1,12 +1,12 @@
 -- The laws of ends: the desk has ended after L + n - 1 answers at the latest, whatever they are, and what comes after
 -- its end changes nothing; and what order and phase say of each other.
-use Prim.Native.Nat.{ℕ, _+_, _-_, _≤_, _<_}
+use Prim.Native.Nat.{ℕ, _+_, _≤_, _<_}
 use mathlib.Core.Path.{_≡_, refl, sym, ap, _∙_}
 use mathlib.Core.Bool.{Bool, true, false, true≢false, cond}
 use mathlib.Core.List.{List, _++_}
 use native.Mathlib.Omega.{arith}
 use lib.Dec.{ltb}
-use lib.ListN.{length, getD, length-append}
+use lib.ListN.{length, length-append}
 use borrow.Author.Tests.{lt-ltb, ltb-true, ltb-false}
 use Rattle.sheet.specs.Tests.{if-true}
 use Rattle.machine.specs.Machine.{Mealy, answers}

@@ -2,18 +2,17 @@
 -- of a unit whose answers are right so far.
 use Prim.Native.Nat.{ℕ, zero, suc, _+_, _-_, _≤_, _<_}
 use mathlib.Core.Path.{_≡_, refl, sym, ap, ap₂, _∙_}
-use mathlib.Core.Bool.{Bool, true, false, cond}
+use mathlib.Core.Bool.{Bool, true, false}
 use mathlib.Core.List.{List, [], _∷_, _++_, append-assoc, append-nil}
-use mathlib.Core.Option.{Option, none, some, Option·getD, Option·some-ne-none, mem-unique, orElse}
+use mathlib.Core.Option.{Option, none, some, Option·getD, Option·some-ne-none, orElse}
 use native.Mathlib.Omega.{arith}
 use native.Mathlib.Nat.{add-zero}
 use native.Mathlib.Numerals.{add-one}
-use lib.Dec.{ltb}
-use lib.ListN.{length, getD, take, drop, length-append}
+use lib.ListN.{length, getD, take, length-append}
 use lib.Seq.{take-append-seam, take-append-le, take-at, getD-append-seam}
 use borrow.Author.Tests.{lt-ltb, le-ltb}
 use Rattle.sheet.specs.Tests.{if-true, if-false}
-use Rattle.machine.specs.Machine.{Mealy, run, answers, Separates, Proper}
+use Rattle.machine.specs.Machine.{Mealy, run, answers, Separates}
 use Rattle.machine.specs.Machine.Laws.{run-none, run-cons, run-append, answers-none, answers-cons, answers-append}
 use Rattle.machine.specs.Machine.Laws.{answers-length, answers-take}
 use Rattle.machine.specs.Causes.{same}
@@ -21,11 +20,8 @@ use Rattle.machine.specs.Causes.Separation.{same-refl, same-equal}
 use Rattle.machine.specs.CommonPrefix.{agreed, agreed-front, agreed-then}
 use Rattle.build.specs.Transfer.{transfer}
 use Rattle.build.specs.Transfer.Laws.{transfer-below, transfer-rest}
-use Rattle.desk.specs.declared.desk.Order.{Order}
 use Rattle.desk.specs.declared.desk.Order.the-variants.{Command, Home, Stranger}
-use Rattle.desk.specs.declared.desk.Phase.{Phase}
-use Rattle.desk.specs.declared.desk.Phase.the-variants.{Reading, Driving, Home as HomePhase}
-use Rattle.desk.specs.declared.desk.Phase.the-variants.{Stranger as StrangerPhase}
+use Rattle.desk.specs.declared.desk.Phase.the-variants.{Driving}
 use Rattle.desk.specs.Desk.{stateIf, firstState, beganIn, course, orderAt, orderFrom, orderOf, stateAfter}
 use Rattle.desk.specs.Desk.{phaseFor}
 use Rattle.desk.specs.Desk.{phaseOf}

@@ -1,7 +1,7 @@
 -- Dialogues: what start and the steps after it give, each with the desk as last returned. By the two contracts alone,
 -- every order is the specified one; the desk ends after L + n - 1 answers at the latest, whatever they are; it repeats
 -- its end; its phase says whether it reads or drives; and stranger has one of two reasons (§13.2, §13.3).
-use Prim.Native.Nat.{ℕ, _+_, _-_, _≤_, _<_}
+use Prim.Native.Nat.{ℕ, _+_, _≤_, _<_}
 use mathlib.Core.Path.{_≡_, refl, sym, ap, subst, _∙_}
 use mathlib.Core.Bool.{true, false, true≢false}
 use mathlib.Core.Option.{some}
@@ -16,7 +16,7 @@ use Rattle.sheet.specs.Reader.{content}
 use Rattle.machine.specs.Machine.{run, answers}
 use Rattle.machine.specs.Causes.{machineIn}
 use Rattle.build.specs.Building.{connectedCauses}
-use Rattle.build.specs.Building.Connection.{clear-proper, clear-distinguishes, clear-strongly}
+use Rattle.build.specs.Building.Connection.{clear-distinguishes}
 use Rattle.desk.specs.declared.desk.Desk.{Desk}
 use Rattle.desk.specs.declared.desk.Order.{Order}
 use Rattle.desk.specs.declared.desk.Order.the-variants.{Command, Home, Stranger}
@@ -26,7 +26,7 @@ use Rattle.desk.specs.declared.starting.Started.{Started}
 use Rattle.desk.specs.declared.stepping.Stepped.{Stepped}
 use Rattle.desk.specs.Desk.{Course, Strange, Ordered, word-next, transfer-next, home, strange, course, isEnd}
 use Rattle.desk.specs.Desk.Laws.{order-reading, along-length, along-phase}
-use Rattle.desk.specs.Desk.Agreement.{course-course, order-ordered, order-along}
+use Rattle.desk.specs.Desk.Agreement.{Suited, clear-suited, course-course, order-ordered, order-along}
 use Rattle.desk.specs.Desk.Ends.{order-ends, order-repeats, phase-reading, phase-home, phase-stranger}
 use Rattle.desk.specs.Service.{orderOn, Reached, starting, Starts, endOf, Steps}
 
@@ -72,21 +72,20 @@ module _ (s : List ℕ) where
   dialogue-order (continued {ys} y r g h) = h .order s ys (dialogue-reached g) .is
 
   module _ {ys : List ℕ} {d : Desk} {o : Order} (g : Dialogue s ys d o) where
-    clear : firstCause (connectedCauses s) ≡ Clear
-    clear = dialogue-reached g .clear
+    suited : Suited (machineIn s) (content 2 s)
+    suited = clear-suited s (dialogue-reached g .clear)
 
     -- and as the specification says it
     pub dialogue-ordered : Ordered (machineIn s) (content 2 s) ys o
     dialogue-ordered =
         rw (dialogue-order g)
-        (order-ordered (machineIn s) (content 2 s) (clear-proper s clear) (clear-distinguishes s clear)
-        (clear-strongly s clear) ys)
+        (order-ordered (machineIn s) (content 2 s) suited ys)
 
     -- after L + n - 1 answers, whatever they are, the desk has ended
     pub dialogue-ends : length (content 2 s) + machineIn s .n ≤ length ys + 1 → isEnd o ≡ true
     dialogue-ends l =
         ap isEnd (dialogue-order g)
-        ∙ order-ends (machineIn s) (content 2 s) ys (clear-proper s clear .some-states) l
+        ∙ order-ends (machineIn s) (content 2 s) ys (suited .proper .some-states) l
 
     -- the desk has ended where its order is an end, and its end is that order
     pub dialogue-ended : isEnd o ≡ true → endOf (d .phase) ≡ some o
@@ -112,18 +111,17 @@ module _ (s : List ℕ) where
     dialogue-drives l {c} e =
         let M = machineIn s in
         let w = content 2 s in
-        let word = clear-distinguishes s clear in
         let a =
-        order-along M w (clear-proper s clear) word (clear-strongly s clear) ys l (sym (dialogue-order g) ∙ e) in
+        order-along M w suited ys l (sym (dialogue-order g) ∙ e) in
         let on = a .3 in
         let sent : take (length ys) (course M w (a .0)) ≡ a .1 =
         ap (take (length ys)) (on .splits) ∙ take-at (a .1) (c ∷ a .2) (length ys) (sym (along-length M w on)) in (
           a .0,
           course M w (a .0),
-          course-course M w (clear-proper s clear) word (clear-strongly s clear) (a .0) (on .state),
+          course-course M w suited (a .0) (on .state),
           on .answered ∙ ap (answers M (a .0)) (sym sent),
           dialogue-reached g .phase
-              ∙ along-phase M w on c (a .2) refl (word .separates)
+              ∙ along-phase M w on c (a .2) refl (suited .word .separates)
               ∙ ap (λ (v : List ℕ). Driving (run M (a .0) v)) (sym sent),
         )
 

@@ -8,27 +8,28 @@ use mathlib.Core.List.{List, [], _∷_, _++_, append-assoc, append-nil}
 use native.Mathlib.Omega.{arith}
 use lib.Dec.{ltb}
 use lib.ListN.{length, getD, take, drop, length-append, List·getD-append}
-use lib.Seq.{take-all, take-length, length-take-le, take-suc, drop-cons, drop-length, getD-append-seam}
+use lib.Seq.{take-all, take-length, length-take-le, take-suc, drop-cons, drop-length}
 use borrow.Author.Tests.{ltb-true, ltb-false}
 use Rattle.sheet.specs.declared.check.Check.the-variants.{Clear}
 use Rattle.sheet.specs.Check.{firstCause}
 use Rattle.sheet.specs.Reader.{content}
-use Rattle.machine.specs.Machine.{Mealy, run, answers, Proper, Distinguishes, Below}
-use Rattle.machine.specs.Machine.Laws.{run-append, answers-append, answers-length, low-append, low-take}
+use Rattle.machine.specs.Machine.{Mealy, run, answers, Proper, Below}
+use Rattle.machine.specs.Machine.Laws.{run-append, answers-none, answers-cons, answers-append, answers-length}
+use Rattle.machine.specs.Machine.Laws.{low-append}
+use Rattle.machine.specs.Machine.Laws.{low-take}
 use Rattle.machine.specs.Causes.{machineIn}
 use Rattle.machine.specs.Unit.{Unit, tableOf, ownAnswers, presentState, Isomorphism}
 use Rattle.machine.specs.Unit.Laws.{assigned-run, assigned-alike}
-use Rattle.build.specs.Building.{connectedCauses, StronglyConnected}
-use Rattle.build.specs.Building.Connection.{clear-proper, clear-distinguishes, clear-strongly}
+use Rattle.build.specs.Building.{connectedCauses}
 use Rattle.desk.specs.declared.desk.Desk.{Desk}
 use Rattle.desk.specs.declared.desk.Order.{Order}
-use Rattle.desk.specs.declared.desk.Order.the-variants.{Command, Home, Stranger}
+use Rattle.desk.specs.declared.desk.Order.the-variants.{Command, Home}
 use Rattle.desk.specs.declared.starting.First.the-variants.{Command as FirstCommand}
 use Rattle.desk.specs.declared.starting.Started.{Started}
 use Rattle.desk.specs.declared.stepping.Stepped.{Stepped}
 use Rattle.desk.specs.Desk.{Course, course, orderOf}
 use Rattle.desk.specs.Desk.Laws.{order-reading, course-short, along-command, along-home}
-use Rattle.desk.specs.Desk.Agreement.{course-course, course-along}
+use Rattle.desk.specs.Desk.Agreement.{Suited, clear-suited, course-course, course-along}
 use Rattle.desk.specs.Service.{orderOn, Starts, Steps}
 use Rattle.desk.specs.Service.Dialogue.{Dialogue, begun, continued, dialogue-reached, dialogue-order}
 
@@ -53,8 +54,7 @@ pub data Brought (s : List ℕ) (U : Unit (machineIn s .n) (machineIn s .k)) (r 
 
 -- ---- over the definition of the orders
 -- the orders to the answers of a state along its course: its commands, then home
-module _ (M : Mealy) (w : List ℕ) (proper : Proper M) (word : Distinguishes M w) (connected : StronglyConnected M)
-    (s : ℕ) (xs : List ℕ) (h : Course M w s xs) where
+module _ (M : Mealy) (w : List ℕ) (suited : Suited M w) (s : ℕ) (xs : List ℕ) (h : Course M w s xs) where
   answered : (i : ℕ) → i ≤ length xs → length (answers M s (take i xs)) ≡ i
   answered i l = answers-length M s (take i xs) ∙ length-take-le i xs l
 
@@ -71,15 +71,15 @@ module _ (M : Mealy) (w : List ℕ) (proper : Proper M) (word : Distinguishes M 
           (sym (ap (λ (x : List ℕ). getD x i 0) (h .commands) ∙ List·getD-append w (h .homeward) 0 i low))
       go false e =
           along-command M w
-          (course-along M w proper word connected s xs h i (ltb-false i (length w) e))
-          (getD xs i 0) (drop (suc i) xs) (drop-cons xs i 0 l) (word .separates)
+          (course-along M w suited s xs h i (ltb-false i (length w) e))
+          (getD xs i 0) (drop (suc i) xs) (drop-cons xs i 0 l) (suited .word .separates)
 
   pub course-home : orderOf M w (answers M s xs) ≡ Home (length xs)
   course-home =
       let long : length w ≤ length xs = omega (arith, ap length (h .commands), length-append w (h .homeward)) in
       let all = take-length xs in
       ap (λ (x : List ℕ). orderOf M w (answers M s x)) (sym all)
-      ∙ along-home M w (course-along M w proper word connected s xs h (length xs) long) (word .separates)
+      ∙ along-home M w (course-along M w suited s xs h (length xs) long) (suited .word .separates)
       (drop-length xs)
       ∙ ap (λ (x : List ℕ). Home (length x)) all
 
@@ -92,13 +92,15 @@ module _ (s : List ℕ) (U : Unit (machineIn s .n) (machineIn s .k)) where
   own = ownAnswers (machineIn s .n) (machineIn s .k) U
 
   own-more : (xs : List ℕ) (c : ℕ) → own (xs ++ (c ∷ [])) ≡ own xs ++ (U .answer (run unit (U .u) xs) c ∷ [])
-  unfolding answers
-  own-more xs c = answers-append unit (U .u) xs (c ∷ [])
+  own-more xs c =
+      answers-append unit (U .u) xs (c ∷ [])
+      ∙ ap (_++_ (own xs))
+      (answers-cons unit (run unit (U .u) xs) c []
+      ∙ ap (_∷_ (U .answer (run unit (U .u) xs) c)) (answers-none unit (U .next (run unit (U .u) xs) c)))
 
   -- it is one with the unit's own answers
   pub unit-dialogue : {xs : List ℕ} {d : Desk} {o : Order} → UnitDialogue s U xs d o → Dialogue s (own xs) d o
-  unfolding answers
-  unit-dialogue (started r h e) = begun r h e
+  unit-dialogue (started r h e) = rw (answers-none unit (U .u)) (begun r h e)
   unit-dialogue (sent {xs} {d} {c} r g h) =
       rw (own-more xs c) (continued (U .answer (run unit (U .u) xs) c) r (unit-dialogue g) h)
 
@@ -109,14 +111,11 @@ module _ (s : List ℕ) (U : Unit (machineIn s .n) (machineIn s .k)) where
     abbrev w : List ℕ
     w = content 2 s
 
-    proper : Proper M
-    proper = clear-proper s clear
+    suited : Suited M w
+    suited = clear-suited s clear
 
-    word : Distinguishes M w
-    word = clear-distinguishes s clear
-
-    connected : StronglyConnected M
-    connected = clear-strongly s clear
+    abbrev proper : Proper M
+    proper = suited .proper
 
     -- the state of the sheet in which the unit began
     first : (b : ℕ) × (b < M .n) × (iso .assigned b ≡ U .u)
@@ -128,7 +127,7 @@ module _ (s : List ℕ) (U : Unit (machineIn s .n) (machineIn s .k)) where
 
     way : Course M w (first .0) all
     unfolding all
-    way = course-course M w proper word connected (first .0) (first .1)
+    way = course-course M w suited (first .0) (first .1)
 
     all-short : length all + 1 ≤ length w + M .n
     unfolding all
@@ -137,7 +136,7 @@ module _ (s : List ℕ) (U : Unit (machineIn s .n) (machineIn s .k)) where
     all-low : Below (M .k) all
     all-low =
         rw (way .commands)
-        (low-append (M .k) w (way .homeward) (word .commands .low) (way .drives .leads .commands))
+        (low-append (M .k) w (way .homeward) (suited .word .commands .low) (way .drives .leads .commands))
 
     -- to commands of the sheet it gives the answers of that state
     own-are : (xs : List ℕ) → Below (M .k) xs → own xs ≡ answers M (first .0) xs
@@ -150,10 +149,10 @@ module _ (s : List ℕ) (U : Unit (machineIn s .n) (machineIn s .k)) where
 
     asks : (i : ℕ) → i < length all → orderOn s (own (take i all)) ≡ Command (getD all i 0)
     asks i l =
-        ap (orderOn s) (own-front i) ∙ course-asks M w proper word connected (first .0) all way i l
+        ap (orderOn s) (own-front i) ∙ course-asks M w suited (first .0) all way i l
 
     homes : orderOn s (own all) ≡ Home (length all)
-    homes = ap (orderOn s) (own-are all all-low) ∙ course-home M w proper word connected (first .0) all way
+    homes = ap (orderOn s) (own-are all all-low) ∙ course-home M w suited (first .0) all way
 
     -- there it is in the state assigned to the start
     stands : presentState (M .n) (M .k) U all ≡ iso .assigned (M .start)
@@ -282,25 +281,3 @@ module _ (s : List ℕ) (U : Unit (machineIn s .n) (machineIn s .k)) (r : Isomor
 
   pub ends-home : {xs : List ℕ} {d : Desk} {o : Order} → UnitDialogue s U xs d o → EndsHome s U r xs
   ends-home g = ends-within (length (content 2 s) + machineIn s .n) (omega arith) g (brought-home s U r g)
-
--- ---- there are such units: the machine itself, begun in any of its states
-abbrev pub begunIn : (M : Mealy) → Proper M → (b : ℕ) → b < M .n → Unit (M .n) (M .k)
-begunIn M h b l = record {
-  m = M .n;
-  few = omega arith;
-  u = b;
-  u-low = l;
-  next = M .next;
-  answer = M .answer;
-  stays = h .stays;
-}
-
-pub begun-alike : (M : Mealy) (h : Proper M) (b : ℕ) (l : b < M .n) → Isomorphism M (begunIn M h b l)
-begun-alike M h b l = record {
-  assigned = λ s. s;
-  into = λ s k. k;
-  one-to-one = λ s t k m e. e;
-  onto = λ x k. (x, k, refl);
-  answers-alike = λ s c k m. refl;
-  goes-alike = λ s c k m. refl;
-}

@@ -5,7 +5,6 @@ use mathlib.Core.Path.{_≡_, refl, sym, ap, ap₂, _∙_}
 use mathlib.Core.Bool.{true}
 use mathlib.Core.List.{List, [], _∷_}
 use native.Mathlib.Omega.{arith}
-use native.Mathlib.Nat.{le-refl}
 use borrow.Author.Tests.{ltb-false}
 use lib.Dec.{ltb}
 use lib.ListN.{length, drop}
@@ -19,7 +18,7 @@ use Rattle.machine.specs.Limits.{mostSequence}
 use Rattle.machine.specs.Machine.{Mealy, answers, stateAt, Separates, Proper, Below, Commands}
 use Rattle.machine.specs.Causes.{machineIn, loadCauses}
 use Rattle.machine.specs.Causes.Lists.{load-proper, word-distinguishes}
-use Rattle.machine.specs.Unit.{Unit, tableOf, ownAnswers, presentState}
+use Rattle.machine.specs.Unit.{Unit, tableOf, begunIn, ownAnswers, presentState}
 use Rattle.certify.specs.declared.answer.Answer.{Answer as Certification}
 use Rattle.certify.specs.declared.answer.Answer.the-variants.{Certified as CertifiedAnswer, Open}
 use Rattle.certify.specs.declared.answer.Answer.the-variants.{Refused as RefusedCertification}
@@ -248,19 +247,10 @@ pass-after room s U size end pass own ys below =
     (pass-identity room s (sym pass) U size end refl own)
     (judged-commands room s clear) ys below
 
--- the claim is not empty: the specified machine itself is a unit, and where judging passes the answers are its own
-pub itself : (M : Mealy) → Proper M → Unit (M .n) (M .k)
-itself M h = record {
-  m = M .n;
-  few = le-refl (M .n);
-  u = M .start;
-  u-low = h .starts;
-  next = M .next;
-  answer = M .answer;
-  stays = h .stays;
-}
-
+-- the claim is not empty: where judging passes, the answers are those of the specified machine itself, begun in its
+-- start
 pub pass-own : (room : ℕ) (s : List ℕ) {size end : ℕ} → judgement room s ≡ Pass size end → (h : Proper (machineIn s))
-    → content 4 s ≡ ownAnswers (machineIn s .n) (machineIn s .k) (itself (machineIn s) h) (content 3 s)
-unfolding itself
+    → content 4 s
+    ≡ ownAnswers (machineIn s .n) (machineIn s .k) (begunIn (machineIn s) h (machineIn s .start) (h .starts))
+    (content 3 s)
 pass-own room s e h = pass-passes room s e .complete

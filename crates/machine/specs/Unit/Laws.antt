@@ -1,14 +1,13 @@
 -- The laws of units: what is one to one into a unit's states is onto, and what an isomorphism says of the unit's runs
 -- and answers: in each of its states it goes and answers as the machine does in some state.
 use Prim.Native.Nat.{ℕ, suc, _<_}
-use mathlib.Core.Path.{_≡_, sym, ap, ap₂, _∙_}
+use mathlib.Core.Path.{_≡_, refl, sym, ap, ap₂, _∙_}
 use mathlib.Core.List.{List, [], _∷_}
 use native.Mathlib.Omega.{arith}
-use lib.ListN.{length}
 use Rattle.machine.specs.Machine.{Mealy, run, answers, Proper, Below}
 use Rattle.machine.specs.Machine.Laws.{run-none, run-cons, answers-none, answers-cons}
 use Rattle.machine.specs.Pigeonhole.{onto}
-use Rattle.machine.specs.Unit.{Unit, tableOf, Isomorphism}
+use Rattle.machine.specs.Unit.{Unit, tableOf, begunIn, Isomorphism}
 
 -- a unit has no more states than the machine: what assigns different ones to different states leaves none out
 pub assigns-all : (n k : ℕ) (U : Unit n k) (assigned : ℕ → ℕ) → ((s : ℕ) → s < n → assigned s < U .m)
@@ -56,3 +55,14 @@ module _ (M : Mealy) (proper : Proper M) (U : Unit (M .n) (M .k)) (r : Isomorphi
   each-alike x l =
       let o = r .onto x l in
       (o .0, o .1, λ ys b. ap (λ (y : ℕ). answers unit y ys) (sym (o .2)) ∙ assigned-alike ys (o .0) (o .1) b)
+
+-- there are units with an isomorphism: the machine itself, begun in any of its states
+pub begun-alike : (M : Mealy) (h : Proper M) (b : ℕ) (l : b < M .n) → Isomorphism M (begunIn M h b l)
+begun-alike M h b l = record {
+  assigned = λ s. s;
+  into = λ s k. k;
+  one-to-one = λ s t k m e. e;
+  onto = λ x k. (x, k, refl);
+  answers-alike = λ s c k m. refl;
+  goes-alike = λ s c k m. refl;
+}

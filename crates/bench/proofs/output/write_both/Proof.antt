@@ -1,4 +1,4 @@
--- `bench::output::write_both` keeps within the bytes that it is lent. Assumes nothing.
+-- `bench::output::write_both` meets its contract, and keeps within the bytes that it is lent. Assumes nothing.
 use mathlib.Core.Path.{sym}
 use lib.Seq.{length-take-le}
 use borrow.Author.Needs.{needs}

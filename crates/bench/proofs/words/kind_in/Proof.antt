@@ -1,8 +1,7 @@
 -- `bench::words::kind_in` meets its contract: the number that the word gives. Assumes nothing.
-use mathlib.Core.Path.{_≡_, sym, ap, _∙_}
+use mathlib.Core.Path.{sym, ap, _∙_}
 use mathlib.Core.Bool.{Bool, cond}
 use mathlib.Core.Option.{none, some}
-use Rattle.report.specs.Numbers.{numberOf}
 use Rattle.bench.specs.Words.{readOr, kindIn}
 use borrow.Author.Needs.{needs}
 use Rattle.bench.proofs.words.kind_in.Statement.{statement}

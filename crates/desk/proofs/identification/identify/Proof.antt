@@ -1,7 +1,7 @@
 -- `desk::identification::identify` meets its contract. The loop's invariant: no state before s answers so. Assumes
 -- nothing.
 use Prim.Native.Nat.{_-_, _≤_}
-use mathlib.Core.Path.{_≡_, refl, sym, _∙_}
+use mathlib.Core.Path.{_≡_, sym, _∙_}
 use mathlib.Core.Option.{none}
 use native.Mathlib.Omega.{arith}
 use denote.Ref.{now}

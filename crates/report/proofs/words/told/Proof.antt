@@ -1,40 +1,28 @@
--- `report::words::told` meets its contract: the pieces make the line.
--- Assumes nothing.
-use borrow.Author.Needs.{needs}
+-- `report::words::told` meets its contract. Assumes nothing.
 use Rattle.report.specs.Words.{mistakeOf}
-use Rattle.report.proofs.Putting.{puts-append, prints-line}
+use Rattle.report.proofs.Putting.{prints-line}
+use borrow.Author.Needs.{needs}
 use Rattle.report.proofs.words.told.Statement.{statement}
 use Rattle.report.proofs.words.told.Tie as tie
 
-slice-aggregate-put : tie.Need-slice-aggregate-put
-slice-aggregate-put c = search needs
+slice-aggregate-put-between : tie.Need-slice-aggregate-put-between
+slice-aggregate-put-between c = search needs
 
-put-requires : tie.Need-put-requires
-put-requires c κs = search needs
+slice-aggregate-put-between-2 : tie.Need-slice-aggregate-put-between-2
+slice-aggregate-put-between-2 c = search needs
 
-put-requires-2 : tie.Need-put-requires-2
-put-requires-2 c κs = search needs
-
-slice-aggregate-put-2 : tie.Need-slice-aggregate-put-2
-slice-aggregate-put-2 c = search needs
-
-put-requires-3 : tie.Need-put-requires-3
-put-requires-3 c κs = search needs
+put-between-requires : tie.Need-put-between-requires
+put-between-requires c κs = search needs
 
 returns : tie.Need-returns
 unfolding mistakeOf
-returns c =
-    prints-line _ (puts-append _ _ (puts-append _ _
-    (c .before .before .before .before .before .put .ensures) (c .before .before .before .put2 .ensures))
-    (c .put3 .ensures))
+returns c = prints-line _ (c .put-between .ensures)
 
 pub told-spec : {M : Type 1} → statement M
 told-spec =
     tie.close
     (tie.spec
-    slice-aggregate-put
-    put-requires
-    put-requires-2
-    slice-aggregate-put-2
-    put-requires-3
+    slice-aggregate-put-between
+    slice-aggregate-put-between-2
+    put-between-requires
     returns)
