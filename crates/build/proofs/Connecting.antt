@@ -10,15 +10,15 @@ use borrow.Author.Tests.{not-false}
 use lib.ListN.{length, getD, take}
 use lib.Seq.{length-take-le}
 use borrow.Author.Count.{below-more}
+use Rattle.facts.specs.FirstOf.{guard, guard-true, guard-false}
 use Rattle.sheet.specs.declared.check.Check.{Check}
 use Rattle.sheet.specs.declared.check.Check.the-variants.{Clear, Refused}
 use Rattle.sheet.specs.Check.{refusal_with_if_, first}
 use Rattle.sheet.specs.Check.Laws.{clear-absent, first-none, first-stops, first-goes-on, first-ends}
 use Rattle.machine.specs.Machine.{Mealy, run, Proper}
 use Rattle.build.specs.declared.transfers.MaybeTransfer.{MaybeTransfer}
-use Rattle.build.specs.Transfer.{guard, transfer, transferIn}
+use Rattle.build.specs.Transfer.{transfer, transferIn}
 use Rattle.build.specs.Transfer.Laws.{transfer-below}
-use Rattle.build.specs.Transfer.Paths.{guard-true, guard-false}
 use Rattle.build.specs.Sequence.{following, B}
 use Rattle.build.specs.Building.{noTransfer, cause8}
 use Rattle.build.specs.Building.Connection.{transferCause, cause8-is}

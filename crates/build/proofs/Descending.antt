@@ -10,11 +10,11 @@ use native.Mathlib.Numerals.{add-one}
 use native.Mathlib.Nat.{sub-zero}
 use lib.ListN.{length, getD, set, take, length-set}
 use lib.Seq.{take-suc-set}
+use Rattle.facts.specs.FirstOf.{some-none, guard, guard-true, guard-false}
 use Rattle.machine.specs.Machine.{Mealy, tabled}
 use Rattle.machine.specs.Machine.Laws.{tabled-states, tabled-commands, tabled-cells}
-use Rattle.build.specs.Transfer.{firstPath, guard, transfer}
-use Rattle.build.specs.Transfer.Paths.{Step, some-none, guard-true, guard-false, path-zero, path-step}
-use Rattle.build.specs.Transfer.Paths.{path-state, path-length}
+use Rattle.build.specs.Transfer.{firstPath, transfer}
+use Rattle.build.specs.Transfer.Paths.{Step, path-zero, path-step, path-state, path-length}
 use Rattle.build.specs.Transfer.Laws.{path-transfer, none-transfer}
 use Rattle.build.specs.Distances.{unreached, FirstStep, Distances, Descent, there, down}
 use Rattle.build.proofs.Searching.{Nearest, nearest, nearest-known, unreached-none, exact}

@@ -10,12 +10,12 @@ use native.Mathlib.Numerals.{add-one}
 use lib.ListN.{length, getD, set, replicate, length-set, length-replicate, getD-replicate}
 use lib.Seq.{getD-set-same, getD-set-other}
 use borrow.Author.Count.{below-more}
+use Rattle.facts.specs.FirstOf.{Seen, nothing, value, seen}
 use Rattle.machine.specs.Machine.{Mealy, tabled}
 use Rattle.machine.specs.Machine.Laws.{tabled-states, tabled-commands, tabled-cells}
 use Rattle.machine.specs.Numbers.{equal-or-not, less-or-not}
 use Rattle.build.specs.Transfer.{firstPath}
-use Rattle.build.specs.Transfer.Paths.{Seen, nothing, string, seen, path-zero, path-here, path-state}
-use Rattle.build.specs.Transfer.Paths.{path-outside, some-path, none-path}
+use Rattle.build.specs.Transfer.Paths.{path-zero, path-here, path-state, path-outside, some-path, none-path}
 use Rattle.build.specs.Distances.{unreached, Widened, Distance, Distances}
 use Rattle.build.proofs.Searching.{nearest, unreached-none, exact}
 
@@ -91,7 +91,7 @@ module _ (M : Mealy) (b d : ℕ) (few : M .n ≤ 255) (small : d + 1 < unreached
     where
       go : (c : ℕ) → c < M .k → Seen (firstPath M b d (M .next s c)) → firstPath M b d (M .next s c) ≡ none
       go c cl (nothing e) = e
-      go c cl (string t e) =
+      go c cl (value t e) =
           absurd (h c cl (ap (λ (x : ℕ). getD distance x 0) (sym (cells s c))
           ∙ exact M b d few table d s c (omega arith) sl cl lacks e))
 
@@ -151,7 +151,7 @@ module _ (M : Mealy) (b : ℕ) where
     where
       go : Seen (firstPath M b 0 s) → firstPath M b 0 s ≡ none
       go (nothing e) = e
-      go (string t e) = let p = path-zero M b s e in absurd (o (p .0) (p .1))
+      go (value t e) = let p = path-zero M b s e in absurd (o (p .0) (p .1))
 
   -- the state b is at distance 0 from itself, and the others are unreached
   first-state : b < M .n → M .n ≤ 255 → Distances M b 0 (set (replicate 256 unreached) b 0)

@@ -7,9 +7,10 @@ use mathlib.Core.Option.{none, some}
 use native.Mathlib.Omega.{arith}
 use lib.ListN.{getD}
 use borrow.Author.Count.{below-more}
+use Rattle.facts.specs.FirstOf.{some-none}
 use Rattle.machine.specs.Machine.{Mealy}
 use Rattle.build.specs.Transfer.{firstPath}
-use Rattle.build.specs.Transfer.Paths.{some-none, path-state, some-path}
+use Rattle.build.specs.Transfer.Paths.{path-state, some-path}
 use Rattle.build.specs.Distances.{unreached, FirstStep, Widened, Distance, Distances}
 
 -- ---- the first step

@@ -1,6 +1,6 @@
 -- How the search for the state in which a unit began runs along the word and over the states.
 -- Assumes nothing.
-use Prim.Native.Nat.{ℕ, _+_, _-_, _≤_, _<_}
+use Prim.Native.Nat.{ℕ, _+_, _≤_, _<_}
 use mathlib.Core.Path.{_≡_, sym, ap, ap₂, _∙_}
 use mathlib.Core.Bool.{true, false, true≢false}
 use mathlib.Core.List.{List, [], _∷_, _++_}
@@ -14,7 +14,7 @@ use Rattle.machine.specs.Machine.Laws.{run-none, run-cons, run-append, answers-
 use Rattle.machine.specs.Machine.Laws.{answers-take, answers-length}
 use Rattle.desk.specs.declared.identification.Followed.{Followed}
 use Rattle.desk.specs.Desk.{firstState}
-use Rattle.desk.specs.Desk.Laws.{first-nowhere, first-here, first-passed, first-stays}
+use Rattle.desk.specs.Desk.Laws.{first-nowhere, first-here, first-passed}
 use Rattle.desk.specs.Identification.{Follows, Identifies}
 
 -- ---- along the word: the first i answers are right, and state is where the first i commands lead
@@ -102,17 +102,9 @@ module _ (M : Mealy) (w ys : List ℕ) where
   module _ {s : ℕ} (h : firstState M w ys s ≡ none) {r : Followed} (f : Follows M w ys s r) where
     pub identifying-found : s < M .n → r .agrees ≡ true → Identifies M w ys r
     identifying-found l t = record {
-      found = λ _. (
-        s,
-        ap (firstState M w ys) (meets s (M .n) l)
-            ∙ first-stays M w ys (s + 1) (M .n - (s + 1)) (first-here M w ys s h (f .agrees t)),
-        f .ends t,
-      );
+      found = λ _. (s, first-here M w ys s (M .n) h (f .agrees t) l, f .ends t);
       missing = λ e. absurd (true≢false (sym t ∙ e));
     }
-      where
-        meets : (a b : ℕ) → a < b → b ≡ a + 1 + (b - (a + 1))
-        meets a b k = omega arith
 
     pub identifying-next : r .agrees ≡ false → firstState M w ys (s + 1) ≡ none
     identifying-next e = first-passed M w ys s h (f .differs e)

@@ -9,13 +9,14 @@ use native.Mathlib.Omega.{arith}
 use native.Mathlib.Numerals.{add-one}
 use lib.ListN.{length, getD, set, take}
 use lib.Seq.{getD-take, take-suc-set}
+use Rattle.facts.specs.FirstOf.{some-none, guard-some}
 use Rattle.machine.specs.Limits.{mostWord}
 use Rattle.machine.specs.Machine.{Mealy, run, meaning}
 use Rattle.machine.specs.Machine.Laws.{meaning-start, tabled-next, tabled-answer}
 use Rattle.build.specs.declared.transfers.MaybeTransfer.{MaybeTransfer}
 use Rattle.build.specs.Transfer.{transfer, transferIn}
 use Rattle.build.specs.Transfer.Laws.{transfer-path, transfer-here}
-use Rattle.build.specs.Transfer.Paths.{guard-some, path-state}
+use Rattle.build.specs.Transfer.Paths.{path-state}
 use Rattle.desk.specs.declared.desk.Desk.{Desk}
 use Rattle.desk.specs.declared.desk.Order.the-variants.{Command, Home, Stranger}
 use Rattle.desk.specs.declared.desk.Phase.{Phase}
@@ -23,7 +24,6 @@ use Rattle.desk.specs.declared.desk.Phase.the-variants.{Reading, Driving
 use Rattle.desk.specs.declared.desk.Phase.the-variants.{Stranger as StrangerPhase}
 use Rattle.desk.specs.declared.identification.Followed.{Followed}
 use Rattle.desk.specs.declared.stepping.Stepped.{Stepped}
-use Rattle.desk.specs.Desk.Laws.{state-none}
 use Rattle.desk.specs.Identification.{Identifies}
 use Rattle.desk.specs.Stepping.{deskWith, Keeps, AtHome, AtStranger, Arrives, Drives, wordOf, Finds, Hears}
 
@@ -118,7 +118,7 @@ module _ (d : Desk) (position : ℕ) (ys : List ℕ) {f : Followed} (h : Identif
     finds-state t {r} a =
         let g = h .found t in
         record {
-          missing = λ e. state-none (g .1) e;
+          missing = λ e. absurd (some-none (g .1) e);
           found = λ s e.
               let here : g .0 ≡ s = mem-unique (g .1) e in
               subst₂ (λ (x y : ℕ). Arrives d x y r)
@@ -126,7 +126,7 @@ module _ (d : Desk) (position : ℕ) (ys : List ℕ) {f : Followed} (h : Identif
         }
 
     pub finds-none : f .agrees ≡ false → {r : Stepped} → AtStranger d position r → Finds d position ys r
-    finds-none t a = record { missing = λ _. a; found = λ s e. state-none e (h .missing t) }
+    finds-none t a = record { missing = λ _. a; found = λ s e. absurd (some-none e (h .missing t)) }
 
 -- ---- a command of the word
 module _ (d : Desk) (position y : ℕ) where

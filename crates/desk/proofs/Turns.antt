@@ -10,6 +10,7 @@ use lib.Dec.{eqb, ltb}
 use lib.ListN.{length, getD, take, length-append}
 use lib.Seq.{take-all, getD-take}
 use borrow.Author.Tests.{eqb-true, eqb-false, ltb-true, ltb-false}
+use Rattle.facts.specs.FirstOf.{Seen, nothing, value, seen}
 use Rattle.sheet.specs.declared.check.Check.the-variants.{Clear}
 use Rattle.sheet.specs.Check.{firstCause}
 use Rattle.sheet.specs.Reader.{content}
@@ -27,7 +28,7 @@ use Rattle.desk.specs.declared.desk.Phase.the-variants.{Reading, Driving
 use Rattle.desk.specs.declared.desk.Phase.the-variants.{Stranger as StrangerPhase}
 use Rattle.desk.specs.declared.stepping.Stepped.{Stepped}
 use Rattle.desk.specs.Desk.{firstState, beganIn, orderOf, isEnd, phaseOf}
-use Rattle.desk.specs.Desk.Laws.{SeenState, nothing, state, seen, first-answers, began-is, order-reading}
+use Rattle.desk.specs.Desk.Laws.{first-answers, began-is, order-reading}
 use Rattle.desk.specs.Desk.Laws.{order-none}
 use Rattle.desk.specs.Desk.Laws.{course-short, Along, along-word, along-length, along-read, along-home}
 use Rattle.desk.specs.Desk.Laws.{along-command}
@@ -160,12 +161,12 @@ module _ (s : List ℕ) (clear : firstCause (connectedCauses s) ≡ Clear) (d : 
       theirs : firstState (meaning (d .machine)) (wordOf d) zs (meaning (d .machine) .n) ≡ firstState M w zs (M .n)
       theirs = ap₂ (λ (N : Mealy) (x : List ℕ). firstState N x zs (N .n)) me we
 
-      go : SeenState (firstState M w zs (M .n)) → Correct s zs r
+      go : Seen (firstState M w zs (M .n)) → Correct s zs r
       go (nothing e) =
           let place : length w - 1 ≡ p = omega arith in
           ended-stranger zs p (omega (arith, long))
           (order-none M w zs (omega (arith, long)) (began ∙ e) ∙ ap Stranger place) (h .missing (theirs ∙ e))
-      go (state b e) =
+      go (value b e) =
           let f = first-answers M w zs (M .n) e in
           let t = course-transfer M w suited b (f .0) in
           let a : Along M w b w (t .0) zs =

@@ -1,12 +1,13 @@
 -- The desk (§13): what it orders, of a machine, a word and the list of all answers so far. `Ordered` says it and
 -- `orderOf` computes it; Desk.Agreement shows that both agree, by the laws of Desk.Laws. Desk.Ends has those of ends.
-use Prim.Native.Nat.{ℕ, zero, suc, _-_, _≤_, _<_}
+use Prim.Native.Nat.{ℕ, _-_, _≤_, _<_}
 use mathlib.Core.Path.{_≡_}
 use mathlib.Core.Bool.{Bool, true, false, cond}
 use mathlib.Core.List.{List, [], _++_}
-use mathlib.Core.Option.{Option, none, some, Option·getD, orElse}
+use mathlib.Core.Option.{Option, none, some, Option·getD}
 use lib.Dec.{ltb}
 use lib.ListN.{length, getD, take}
+use Rattle.facts.specs.FirstOf.{guard, firstOf}
 use Rattle.machine.specs.Machine.{Mealy, run, answers}
 use Rattle.machine.specs.Causes.{same}
 use Rattle.machine.specs.CommonPrefix.{agreed}
@@ -56,15 +57,9 @@ pub data Ordered (M : Mealy) (w ys : List ℕ) : Order → Type 0 where
   strange : {p : ℕ} → Strange M w ys p → Ordered M w ys (Stranger p)
 
 -- ---- computed
--- a state, where a test holds; else none
-unfoldable pub stateIf : Bool → ℕ → Option ℕ
-stateIf true s = some s
-stateIf false s = none
-
 -- the least of the states below m that gives these answers to the word, if one does
 unfoldable pub firstState : Mealy → List ℕ → List ℕ → ℕ → Option ℕ
-firstState M w ys zero = none
-firstState M w ys (suc m) = orElse (firstState M w ys m) (stateIf (same (answers M m w) ys) m)
+firstState M w ys m = firstOf m (λ s. guard (same (answers M s w) ys) (some s))
 
 -- the state that gives the first of these answers to the word: the word separates, so there is at most one
 unfoldable pub beganIn : Mealy → List ℕ → List ℕ → Option ℕ

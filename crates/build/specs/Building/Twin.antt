@@ -8,6 +8,8 @@ use mathlib.Core.Option.{orElse}
 use borrow.Author.Tests.{le-ltb}
 use lib.Dec.{ltb}
 use lib.ListN.{length, drop}
+use Rattle.facts.specs.FirstOf.{guard, firstOf}
+use Rattle.facts.specs.FirstString.{firstString}
 use Rattle.sheet.specs.declared.check.Check.the-variants.{Clear}
 use Rattle.sheet.specs.Check.{refusal_with_if_, _else_, firstCause, first}
 use Rattle.sheet.specs.Check.Laws.{absent, else-end}
@@ -24,7 +26,7 @@ use Rattle.certify.specs.declared.answer.Answer.the-variants.{Certified}
 use Rattle.certify.specs.Certification.{cause9, outcome}
 use Rattle.certify.specs.Certification.Twin.{twin-built, single-built}
 use Rattle.build.specs.declared.service.Answer.the-variants.{Built, Refused}
-use Rattle.build.specs.Transfer.{guard, firstOf, firstPath, transfer}
+use Rattle.build.specs.Transfer.{firstPath, transfer}
 use Rattle.build.specs.Sequence.{following, T, nthState, firstBlocks, opening, approach, test, stateTests, tests}
 use Rattle.build.specs.Sequence.{sequence, lengthBound}
 use Rattle.build.specs.Building.{cause8, connectedCauses, buildCauses, building, bufferAfter}
@@ -45,8 +47,8 @@ singleSheet answer = 4 ∷ 0 ∷ 0 ∷ 0 ∷ 1 ∷ 0 ∷ 1 ∷ 1 ∷ 0 ∷ answe
 
 -- ---- the twin's sequence
 pub twin-sequence : sequence twin (0 ∷ []) ≡ 0 ∷ 0 ∷ 0 ∷ 0 ∷ 0 ∷ 0 ∷ 1 ∷ 0 ∷ 0 ∷ 0 ∷ 1 ∷ 0 ∷ []
-unfolding sequence tests stateTests test approach opening firstBlocks nthState T following transfer firstPath firstOf
-    orElse guard run twin machineOf
+unfolding sequence tests stateTests test approach opening firstBlocks nthState T following transfer firstPath
+    firstString firstOf orElse guard run twin machineOf
 twin-sequence = refl
 
 -- it is certified, with 13 recognised places
@@ -76,8 +78,8 @@ twin-clear : (room : ℕ) → 12 ≤ room → firstCause (buildCauses room twinS
 unfolding twinSheet refusal_with_if_ _else_ firstCause first recordAt offset end kindOf cause1 cause2 causeAt parseStep
     parseFrom parse parsed ofKind _or_ find sheetCauses when needed refusalOf recordOf part partBytes content machineOf
     run answers cause3 cause4 commandsCause cause6 machineIn machineCauses wordCauses loadCauses cause9 guard orElse
-    firstOf firstPath transfer following T nthState firstBlocks opening approach test stateTests tests sequence cause8
-    connectedCauses buildCauses
+    firstOf firstString firstPath transfer following T nthState firstBlocks opening approach test stateTests tests
+    sequence cause8 connectedCauses buildCauses
 twin-clear room l = nine-clear room 12 l
 
 pub twin-building : (room : ℕ) → 12 ≤ room → building room twinSheet ≡ Built 12
@@ -95,14 +97,14 @@ pub disconnected-building : (room : ℕ) → building room disconnectedSheet ≡
 unfolding building disconnectedSheet refusal_with_if_ _else_ firstCause first recordAt offset end kindOf cause1 cause2
     causeAt parseStep parseFrom parse parsed ofKind _or_ find sheetCauses when needed refusalOf recordOf part partBytes
     content machineOf run answers cause3 cause4 commandsCause cause6 machineIn machineCauses wordCauses loadCauses
-    cause9 guard orElse firstOf firstPath transfer following T nthState firstBlocks opening approach test stateTests
-    tests sequence cause8 connectedCauses buildCauses
+    cause9 guard orElse firstOf firstString firstPath transfer following T nthState firstBlocks opening approach test
+    stateTests tests sequence cause8 connectedCauses buildCauses
 disconnected-building room = refl
 
 -- ---- the sequence of one state and one command
 pub single-sequence : (answer : ℕ) → sequence (single answer) (0 ∷ []) ≡ 0 ∷ 0 ∷ 0 ∷ 0 ∷ []
-unfolding sequence tests stateTests test approach opening firstBlocks nthState T following transfer firstPath firstOf
-    orElse guard run single machineOf
+unfolding sequence tests stateTests test approach opening firstBlocks nthState T following transfer firstPath
+    firstString firstOf orElse guard run single machineOf
 single-sequence answer = refl
 
 pub single-certified : (answer : ℕ) → outcome (single answer) (0 ∷ []) (sequence (single answer) (0 ∷ [])) ≡ Certified 5
@@ -126,8 +128,8 @@ single-clear : (answer room : ℕ) → 4 ≤ room → firstCause (buildCauses ro
 unfolding singleSheet refusal_with_if_ _else_ firstCause first recordAt offset end kindOf cause1 cause2 causeAt
     parseStep parseFrom parse parsed ofKind _or_ find sheetCauses when needed refusalOf recordOf part partBytes content
     machineOf run answers cause3 cause4 commandsCause cause6 machineIn machineCauses wordCauses loadCauses cause9 guard
-    orElse firstOf firstPath transfer following T nthState firstBlocks opening approach test stateTests tests sequence
-    cause8 connectedCauses buildCauses
+    orElse firstOf firstString firstPath transfer following T nthState firstBlocks opening approach test stateTests
+    tests sequence cause8 connectedCauses buildCauses
 single-clear answer room l = nine-clear room 4 l
 
 pub single-building : (answer room : ℕ) → 4 ≤ room → building room (singleSheet answer) ≡ Built 4
@@ -148,8 +150,8 @@ single-longest answer = ap length (single-sequence answer)
 
 -- ---- the length of the house unit's sequence, and what the formula allows it (§10.1)
 pub house-length : length (sequence house houseWord) ≡ 203
-unfolding sequence tests stateTests test approach opening firstBlocks nthState T following transfer firstPath firstOf
-    orElse guard run house machineOf housePayload
+unfolding sequence tests stateTests test approach opening firstBlocks nthState T following transfer firstPath
+    firstString firstOf orElse guard run house machineOf housePayload
 house-length = refl
 
 pub house-bound : lengthBound house houseWord ≡ 361

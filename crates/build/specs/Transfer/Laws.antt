@@ -1,85 +1,23 @@
 -- The laws of transfers: what `transfer` computes is the transfer of §6.1, and it is there wherever a
 -- string of any length leads.
 use Prim.Native.Nat.{ℕ, zero, suc, _≤_, _<_}
-use mathlib.Core.Path.{_≡_, refl, sym, ap, ap₂, _∙_}
+use mathlib.Core.Path.{_≡_, refl, sym, ap, _∙_}
 use mathlib.Core.Bool.{Bool, true, false}
 use mathlib.Core.List.{List, [], _∷_, _++_}
 use mathlib.Core.Option.{none, some}
 use native.Mathlib.Omega.{arith}
-use lib.ListN.{length, getD, take, drop, length-append, length-take, length-drop, take-append-drop}
+use lib.ListN.{length, take, drop, length-append, length-take, length-drop, take-append-drop}
 use lib.Dec.{ltb}
 use borrow.Author.Tests.{ltb-true, ltb-false}
+use Rattle.facts.specs.ByteOrder.{neither-before}
+use Rattle.facts.specs.FirstOf.{some-none, Seen, nothing, value, seen, first-some, least-first, some-first}
+use Rattle.facts.specs.FirstOf.{none-first}
 use Rattle.machine.specs.Machine.{Mealy, run, Proper}
 use Rattle.machine.specs.Machine.Laws.{run-none, run-cons, run-append, run-stays, low-append, low-take, low-drop}
 use Rattle.machine.specs.Pigeonhole.{pigeonhole}
-use Rattle.build.specs.Transfer.{Leads, Before, IsTransfer, firstPath, transfer}
-use Rattle.build.specs.Transfer.Paths.{some-none, Seen, nothing, string, seen, first-some, least-first}
-use Rattle.build.specs.Transfer.Paths.{some-first, none-first, Step, path-step, path-length, path-leads}
-use Rattle.build.specs.Transfer.Paths.{path-state, path-here, path-zero, some-path, leads-path, leads-first}
-use Rattle.build.specs.Transfer.Paths.{leads-rest}
-
--- ---- byte order
--- a lower first command
-before-head : (c d : ℕ) (u v : List ℕ) → c < d → Before (c ∷ u) (d ∷ v)
-before-head c d u v l = record { place = 0; inside = omega arith; same = refl; lower = l }
-
--- the same first command, and an order behind it
-before-tail : (c d : ℕ) (u v : List ℕ) → c ≡ d → Before u v → Before (c ∷ u) (d ∷ v)
-before-tail c d u v e h = record {
-  place = suc (h .place);
-  inside = omega (arith, h .inside);
-  same = ap₂ _∷_ e (h .same);
-  lower = h .lower;
-}
-
--- one of the two
-data First-lower (c d : ℕ) (u v : List ℕ) : Type 0 where
-  head : c < d → First-lower c d u v
-  tail : c ≡ d → Before u v → First-lower c d u v
-
-before-cons : (c d : ℕ) (u v : List ℕ) → Before (c ∷ u) (d ∷ v) → First-lower c d u v
-before-cons c d u v h = go (h .place) (h .inside) (h .same) (h .lower)
-  where
-    go : (p : ℕ) → p < length (c ∷ u) → take p (c ∷ u) ≡ take p (d ∷ v) → getD (c ∷ u) p 0 < getD (d ∷ v) p 0
-        → First-lower c d u v
-    go zero i e l = head l
-    go (suc p) i e l = tail (cc) (record { place = p; inside = omega arith; same = cc; lower = l })
-
--- strings of one length of which neither comes before the other are the same
-pub neither-before : (u v : List ℕ) → length u ≡ length v → (Before u v → ⊥) → (Before v u → ⊥) → u ≡ v
-neither-before [] [] e p q = refl
-neither-before [] (d ∷ v) e p q = let z : ⊥ = omega arith in absurd z
-neither-before (c ∷ u) [] e p q = let z : ⊥ = omega arith in absurd z
-neither-before (c ∷ u) (d ∷ v) e p q =
-    let below : c < d → ⊥ = λ l. p (before-head c d u v l) in
-    let above : d < c → ⊥ = λ l. q (before-head d c v u l) in
-    let s : c ≡ d = omega arith in
-    ap₂ _∷_ s
-    (neither-before u v (omega arith) (λ h. p (before-tail c d u v s h)) (λ h. q (before-tail d c v u (sym s) h)))
-
--- no string of its length that leads to b comes before a path
-pub path-first : (M : Mealy) (b : ℕ) → Proper M → (m a : ℕ) {t : List ℕ} → firstPath M b m a ≡ some t → a < M .n
-    → (u : List ℕ) → Leads M a b u → length u ≡ m → Before u t → ⊥
-path-first M b p zero a {t} e l [] h k f = omega (arith, f .inside)
-path-first M b p zero a {t} e l (c ∷ u) h k f = omega arith
-path-first M b p (suc m) a {t} e l [] h k f = omega arith
-path-first M b p (suc m) a {t} e l (c ∷ u) h k f =
-    let s = path-step M b m a e in
-    let cl = leads-first M b a c u h in
-    let il = p .stays a c l cl in
-    let rest = leads-rest M b a c u h in
-    let um : length u ≡ m = omega arith in
-    go s il rest um (before-cons c (s .command) u (s .rest) (rw (s .string) at f))
-    (path-first M b p m (M .next a (s .command)) (s .found))
-  where
-    go : (s : Step M b m a t) → M .next a c < M .n → Leads M (M .next a c) b u → length u ≡ m
-        → First-lower c (s .command) u (s .rest)
-        → (M .next a (s .command) < M .n → (v : List ℕ) → Leads M (M .next a (s .command)) b v → length v ≡ m
-        → Before v (s .rest) → ⊥) → ⊥
-    go s il rest um (head x) again =
-        let r = leads-path M b p u (M .next a c) il rest in
-        some-none (r .1) (rw um (s .passed c x))
-    go s il rest um (tail x y) again = again (rw (← x) il) u (rw (← x) rest) um y
+use Rattle.build.specs.Transfer.{Leads, IsTransfer, firstPath, transfer}
+use Rattle.build.specs.Transfer.Paths.{path-zero, path-here, path-step, path-state, some-path, path-length}
+use Rattle.build.specs.Transfer.Paths.{path-leads, leads-path, path-first}
 
 -- ---- cutting a string that leads
 -- a string without what lies between two places of the same state leads to the same state
@@ -187,7 +125,7 @@ leads-none M a b h = go (seen (transfer M a b))
   where
     go : Seen (transfer M a b) → transfer M a b ≡ none
     go (nothing e) = e
-    go (string t e) = absurd (h t (path-leads M b (length t) a (transfer-path M a b e .found)))
+    go (value t e) = absurd (h t (path-leads M b (length t) a (transfer-path M a b e .found)))
 
 -- and a transfer is the one that is computed
 pub is-transfer : (M : Mealy) → Proper M → (a b : ℕ) {t : List ℕ} → IsTransfer M a b t → transfer M a b ≡ some t
@@ -223,7 +161,7 @@ transfer-rest M a b c {u} e =
     passed-by : (m : ℕ) → a < M .n → c < M .k → Seen (firstPath M b m (M .next a c)) → firstPath M b (suc m) a ≡ none
         → firstPath M b m (M .next a c) ≡ none
     passed-by m al cl (nothing q) p = q
-    passed-by m al cl (string t q) p = absurd (some-none (some-path M b m a c al cl q .1) p)
+    passed-by m al cl (value t q) p = absurd (some-none (some-path M b m a c al cl q .1) p)
 
     rest-of : a < M .n → Shortest M a b (c ∷ u) → (d : ℕ) (v : List ℕ) → d < M .k
         → firstPath M b (length u) (M .next a d) ≡ some v → (c ∷ u) ≡ (d ∷ v)

@@ -3,13 +3,14 @@
 use Prim.Native.Nat.{ℕ, suc, _+_, _-_, _≤_, _<_}
 use mathlib.Core.Path.{_≡_, refl, sym, ap, ap₂, _∙_}
 use mathlib.Core.Bool.{Bool, true, false}
-use mathlib.Core.List.{List, [], _∷_, _++_, append-assoc}
+use mathlib.Core.List.{List, _∷_, _++_, append-assoc}
 use mathlib.Core.Option.{none, some}
 use native.Mathlib.Omega.{arith}
 use lib.Dec.{ltb}
 use lib.ListN.{length, getD, take, drop, length-append, take-append-drop, List·getD-append}
 use lib.Seq.{ext-getD, getD-take, length-take-le, take-append-add, drop-append-add, drop-cons}
 use borrow.Author.Tests.{ltb-true, ltb-false}
+use Rattle.facts.specs.FirstOf.{Seen, nothing, value, seen}
 use Rattle.sheet.specs.declared.check.Check.the-variants.{Clear}
 use Rattle.sheet.specs.Check.{firstCause}
 use Rattle.sheet.specs.Reader.{content}
@@ -26,8 +27,7 @@ use Rattle.desk.specs.declared.desk.Order.the-variants.{Command, Home, S
 use Rattle.desk.specs.Desk.{Course, RightFrom, Ordered, word-next, transfer-next, home, strange}
 use Rattle.desk.specs.Desk.{no-state, differing}
 use Rattle.desk.specs.Desk.{beganIn, course, orderAt, orderOf}
-use Rattle.desk.specs.Desk.Laws.{SeenState, nothing, state, seen, first-answers, first-none}
-use Rattle.desk.specs.Desk.Laws.{first-one}
+use Rattle.desk.specs.Desk.Laws.{first-answers, first-none, first-one}
 use Rattle.desk.specs.Desk.Laws.{began-is, order-reading, order-none, order-some, at-stranger, at-command}
 use Rattle.desk.specs.Desk.Laws.{at-home}
 use Rattle.desk.specs.Desk.Laws.{course-is, Along}
@@ -167,11 +167,11 @@ module _ (M : Mealy) (w : List ℕ) (suited : Suited M w) where
   pub order-ordered : (ys : List ℕ) → Ordered M w ys (orderOf M w ys)
   order-ordered ys = go (ltb (length ys) (length w)) refl
     where
-      read : length w ≤ length ys → SeenState (beganIn M w ys) → Ordered M w ys (orderOf M w ys)
+      read : length w ≤ length ys → Seen (beganIn M w ys) → Ordered M w ys (orderOf M w ys)
       read l (nothing e) =
           rw (order-none M w ys l e)
           (strange (no-state l refl (first-none M w (take (length w) ys) (M .n) (sym (began-is M w ys) ∙ e))))
-      read l (state s e) =
+      read l (value s e) =
           let f = first-answers M w (take (length w) ys) (M .n) (sym (began-is M w ys) ∙ e) in
           let xs = course M w s in
           let right = agreed (answers M s xs) ys in
@@ -206,9 +206,9 @@ module _ (M : Mealy) (w : List ℕ) (suited : Suited M w) where
   ordered-order ys (strange (no-state l e h)) =
       ap Stranger e ∙ sym (order-none M w ys l (none-there (seen (beganIn M w ys))))
     where
-      none-there : SeenState (beganIn M w ys) → beganIn M w ys ≡ none
+      none-there : Seen (beganIn M w ys) → beganIn M w ys ≡ none
       none-there (nothing q) = q
-      none-there (state s q) =
+      none-there (value s q) =
           let f = first-answers M w (take (length w) ys) (M .n) (sym (began-is M w ys) ∙ q) in
           absurd (h s (f .0) (f .1))
   ordered-order ys (transfer-next s xs h l k r e) =

@@ -9,6 +9,7 @@ use lib.Dec.{ltb}
 use lib.ListN.{length, length-append}
 use borrow.Author.Tests.{lt-ltb, ltb-true, ltb-false}
 use Rattle.sheet.specs.Tests.{if-true}
+use Rattle.facts.specs.FirstOf.{Seen, nothing, value, seen}
 use Rattle.machine.specs.Machine.{Mealy, answers}
 use Rattle.machine.specs.Machine.Laws.{answers-length}
 use Rattle.machine.specs.CommonPrefix.{agreed, agreed-longer, agreed-differ}
@@ -17,7 +18,7 @@ use Rattle.desk.specs.declared.desk.Order.the-variants.{Command, Home, S
 use Rattle.desk.specs.declared.desk.Phase.the-variants.{Reading, Driving, Home as HomePhase}
 use Rattle.desk.specs.declared.desk.Phase.the-variants.{Stranger as StrangerPhase}
 use Rattle.desk.specs.Desk.{beganIn, course, orderAt, orderOf, isEnd, stateAfter, phaseFor, phaseOf}
-use Rattle.desk.specs.Desk.Laws.{SeenState, nothing, state, seen, began-more, order-reading, order-none}
+use Rattle.desk.specs.Desk.Laws.{began-more, order-reading, order-none}
 use Rattle.desk.specs.Desk.Laws.{order-some}
 use Rattle.desk.specs.Desk.Laws.{at-stranger, at-command, at-home, course-short}
 
@@ -48,9 +49,9 @@ module _ (M : Mealy) (w ys : List ℕ) where
           ap isEnd (at-stranger xs ys low (omega arith))
       at xs right k false e = ap isEnd (at-home xs ys (ltb-false right (length xs) e))
 
-      go : SeenState (beganIn M w ys) → isEnd (orderOf M w ys) ≡ true
+      go : Seen (beganIn M w ys) → isEnd (orderOf M w ys) ≡ true
       go (nothing e) = ap isEnd (order-none M w ys read e)
-      go (state s e) =
+      go (value s e) =
           let right = agreed (answers M s (course M w s)) ys in
           ap isEnd (order-some M w ys read e)
           ∙ at (course M w s) right (omega (arith, course-short M w s one)) (ltb right (length (course M w s))) refl
@@ -83,10 +84,10 @@ module _ (M : Mealy) (w ys : List ℕ) where
           ∙ at-home xs (ys ++ zs) all
           ∙ sym (at-home xs ys all)
 
-      go : SeenState (beganIn M w ys) → orderOf M w (ys ++ zs) ≡ orderOf M w ys
+      go : Seen (beganIn M w ys) → orderOf M w (ys ++ zs) ≡ orderOf M w ys
       go (nothing e) =
           order-none M w (ys ++ zs) later (began-more M w ys read zs ∙ e) ∙ sym (order-none M w ys read e)
-      go (state s e) =
+      go (value s e) =
           let xs = course M w s in
           let here = order-some M w ys read e in
           order-some M w (ys ++ zs) later (began-more M w ys read zs ∙ e)

@@ -1,16 +1,17 @@
 -- The laws of what the desk orders: the state in which a unit began, the order by it, and the order along the course
 -- of a unit whose answers are right so far.
-use Prim.Native.Nat.{ℕ, zero, suc, _+_, _-_, _≤_, _<_}
+use Prim.Native.Nat.{ℕ, _+_, _-_, _≤_, _<_}
 use mathlib.Core.Path.{_≡_, refl, sym, ap, ap₂, _∙_}
 use mathlib.Core.Bool.{Bool, true, false}
 use mathlib.Core.List.{List, [], _∷_, _++_, append-assoc, append-nil}
-use mathlib.Core.Option.{Option, none, some, Option·getD, Option·some-ne-none, orElse}
+use mathlib.Core.Option.{Option, none, some, Option·getD, mem-unique}
 use native.Mathlib.Omega.{arith}
-use native.Mathlib.Nat.{add-zero}
-use native.Mathlib.Numerals.{add-one}
 use lib.ListN.{length, getD, take, length-append}
 use lib.Seq.{take-append-seam, take-append-le, take-at, getD-append-seam}
 use borrow.Author.Tests.{lt-ltb, le-ltb}
+use borrow.Author.Count.{below-more}
+use Rattle.facts.specs.FirstOf.{some-none, Seen, nothing, value, seen, guard, guard-some, guard-true, guard-false}
+use Rattle.facts.specs.FirstOf.{firstOf, first-some, least-first, none-first, first-none as each-none}
 use Rattle.sheet.specs.Tests.{if-true, if-false}
 use Rattle.machine.specs.Machine.{Mealy, run, answers, Separates}
 use Rattle.machine.specs.Machine.Laws.{run-none, run-cons, run-append, answers-none, answers-cons, answers-append}
@@ -22,104 +23,59 @@ use Rattle.build.specs.Transfer.{transfer}
 use Rattle.build.specs.Transfer.Laws.{transfer-below, transfer-rest}
 use Rattle.desk.specs.declared.desk.Order.the-variants.{Command, Home, Stranger}
 use Rattle.desk.specs.declared.desk.Phase.the-variants.{Driving}
-use Rattle.desk.specs.Desk.{stateIf, firstState, beganIn, course, orderAt, orderFrom, orderOf, stateAfter}
-use Rattle.desk.specs.Desk.{phaseFor}
+use Rattle.desk.specs.Desk.{firstState, beganIn, course, orderAt, orderFrom, orderOf, stateAfter, phaseFor}
 use Rattle.desk.specs.Desk.{phaseOf}
 
 -- ---- the state in which a unit began
--- a state or none
-pub data SeenState (o : Option ℕ) : Type 0 where
-  nothing : o ≡ none → SeenState o
-  state : (s : ℕ) → o ≡ some s → SeenState o
-
-pub seen : (o : Option ℕ) → SeenState o
-seen none = nothing refl
-seen (some s) = state s refl
-
--- a state is not none
-pub state-none : {A : Type 0} {o : Option ℕ} {s : ℕ} → o ≡ some s → o ≡ none → A
-state-none {s = s} p q = absurd (Option·some-ne-none s (sym p ∙ q))
-
 module _ (M : Mealy) (w ys : List ℕ) where
+  -- one that answers so passes the test
+  right : (s : ℕ) → answers M s w ≡ ys → same (answers M s w) ys ≡ true
+  right s e = ap (same (answers M s w)) (sym e) ∙ same-refl (answers M s w)
+
   pub first-nowhere : firstState M w ys 0 ≡ none
-  unfolding firstState
+  unfolding firstState firstOf
   first-nowhere = refl
 
-  -- one state more: found before, or here, or still none
-  pub first-before : (m : ℕ) {s : ℕ} → firstState M w ys m ≡ some s → firstState M w ys (m + 1) ≡ some s
-  unfolding firstState orElse
-  first-before m e = ap (firstState M w ys) (add-one m) ∙ (rw e)
+  -- none before m answers so, and m does
+  pub first-here : (m n : ℕ) → firstState M w ys m ≡ none → answers M m w ≡ ys → m < n → firstState M w ys n ≡ some m
+  unfolding firstState
+  first-here m n e q l =
+      least-first n (λ s. guard (same (answers M s w) ys) (some s))
+      (record { m = m; low = l; found = guard-true (some m) (right m q); passed = each-none m _ e })
 
-  first-at : (m : ℕ) → firstState M w ys m ≡ none → firstState M w ys (m + 1) ≡ stateIf (same (answers M m w) ys) m
-  unfolding firstState orElse
-  first-at m e = ap (firstState M w ys) (add-one m) ∙ (rw e)
-
-  pub first-here : (m : ℕ) → firstState M w ys m ≡ none → answers M m w ≡ ys → firstState M w ys (m + 1) ≡ some m
-  unfolding stateIf
-  first-here m e q =
-      let t : same (answers M m w) ys ≡ true = ap (same (answers M m w)) (sym q) ∙ same-refl (answers M m w) in
-      first-at m e ∙ (rw t)
-
+  -- nor does m
   pub first-passed : (m : ℕ) → firstState M w ys m ≡ none → (answers M m w ≡ ys → ⊥) → firstState M w ys (m + 1) ≡ none
-  unfolding stateIf
-  first-passed m e d = first-at m e ∙ go (same (answers M m w) ys) refl
+  unfolding firstState
+  first-passed m e d =
+      none-first (m + 1) (λ s. guard (same (answers M s w) ys) (some s))
+      (λ i l. below-more (λ s. guard (same (answers M s w) ys) (some s) ≡ none) m (each-none m _ e)
+      (go (same (answers M m w) ys) refl) i l)
     where
-      go : (t : Bool) → same (answers M m w) ys ≡ t → stateIf t m ≡ none
+      go : (t : Bool) → same (answers M m w) ys ≡ t → guard t (some m) ≡ none
       go true q = absurd (d (same-equal (answers M m w) ys q))
-      go false q = refl
+      go false q = guard-false (some m) refl
 
   -- what is found is a state that answers so
   pub first-answers : (m : ℕ) {s : ℕ} → firstState M w ys m ≡ some s → (s < m) × (answers M s w ≡ ys)
-  unfolding firstState orElse stateIf
-  first-answers zero {s} e = state-none e refl
-  first-answers (suc m) {s} e = go (firstState M w ys m) refl (λ r p. first-answers m p) (same (answers M m w) ys)
-      refl e
-    where
-      go : (o : Option ℕ) → firstState M w ys m ≡ o
-          → ((r : ℕ) → firstState M w ys m ≡ some r → (r < m) × (answers M r w ≡ ys))
-          → (t : Bool) → same (answers M m w) ys ≡ t → orElse o (stateIf t m) ≡ some s
-          → (s < suc m) × (answers M s w ≡ ys)
-      go (some r) p h t q f =
-          let here : r ≡ s = cc in
-          let found = h r p in
-          let low : r < m = found .0 in
-          (omega arith, ap (λ (x : ℕ). answers M x w) (sym here) ∙ found .1)
-      go none p h true q f =
-          let here : m ≡ s = cc in
-          (omega arith, ap (λ (x : ℕ). answers M x w) (sym here) ∙ same-equal (answers M m w) ys q)
-      go none p h false q f = state-none f refl
+  unfolding firstState
+  first-answers m {s} e =
+      let l = first-some m (λ s. guard (same (answers M s w) ys) (some s)) e in
+      let g = guard-some (same (answers M (l .m) w) ys) (some (l .m)) (l .found) in
+      let here : s ≡ l .m = mem-unique (g .1) refl in
+      (omega (arith, l .low), ap (λ (x : ℕ). answers M x w) here ∙ same-equal (answers M (l .m) w) ys (g .0))
 
   -- where none is found no state answers so
   pub first-none : (m : ℕ) → firstState M w ys m ≡ none → (s : ℕ) → s < m → answers M s w ≡ ys → ⊥
-  first-none zero e s l q = omega arith
-  first-none (suc m) e s l q = go (seen (firstState M w ys m)) (first-none m)
-    where
-      again : firstState M w ys (m + 1) ≡ none
-      again = ap (firstState M w ys) (add-one m) ∙ e
-
-      go : SeenState (firstState M w ys m)
-          → (firstState M w ys m ≡ none → (r : ℕ) → r < m → answers M r w ≡ ys → ⊥) → ⊥
-      go (state r p) h = state-none (first-before m p) again
-      go (nothing p) h = last (λ k. h p s k q) (λ k. state-none (first-here m p (rw (← k) q)) again)
-        where
-          last : (s < m → ⊥) → (s ≡ m → ⊥) → ⊥
-          last a b = omega arith
-
-  -- once found it stays
-  pub first-stays : (m k : ℕ) {s : ℕ} → firstState M w ys m ≡ some s → firstState M w ys (m + k) ≡ some s
-  first-stays m zero e = ap (firstState M w ys) (add-zero m) ∙ e
-  first-stays m (suc k) e = ap (firstState M w ys) (add-suc m k) ∙ first-before (m + k) (first-stays m k e)
-    where
-      add-suc : (m k : ℕ) → m + suc k ≡ m + k + 1
-      add-suc m k = omega arith
+  unfolding firstState
+  first-none m e s l q = some-none (guard-true (some s) (right s q)) (each-none m _ e s l)
 
   -- the word separates: the one state that answers so is found
   pub first-one : Separates M w → (s : ℕ) → s < M .n → answers M s w ≡ ys → firstState M w ys (M .n) ≡ some s
   first-one h s l e = go (seen (firstState M w ys (M .n)))
     where
-      go : SeenState (firstState M w ys (M .n)) → firstState M w ys (M .n) ≡ some s
+      go : Seen (firstState M w ys (M .n)) → firstState M w ys (M .n) ≡ some s
       go (nothing p) = absurd (first-none (M .n) p s l e)
-      go (state r p) =
+      go (value r p) =
           let f = first-answers (M .n) p in
           p ∙ ap some (h r s (f .0) l (f .1 ∙ sym e))
 
