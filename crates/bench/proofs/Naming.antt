@@ -7,8 +7,7 @@ use mathlib.Core.List.{List, []}
 use native.Mathlib.Omega.{arith}
 use borrow.Author.Tests.{eq-eqb, ne-eqb, lt-ltb, le-ltb}
 use lib.ListN.{length, length-replicate}
-use Rattle.machine.specs.Causes.{same}
-use Rattle.machine.specs.Causes.Separation.{same-refl, same-equal}
+use Rattle.facts.specs.Lists.{same, same-refl, same-equal}
 use Rattle.report.specs.declared.words.Mistake.the-variants.{Unknown, Empty, Long, Many, Few}
 use Rattle.bench.specs.declared.words.Lookup.{Lookup}
 use Rattle.bench.specs.declared.words.Lookup.the-variants.{Found, Nothing}

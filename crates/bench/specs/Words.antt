@@ -6,9 +6,9 @@ use mathlib.Core.List.{List, [], _∷_}
 use mathlib.Core.Option.{Option, none, some}
 use lib.Dec.{eqb, ltb}
 use lib.ListN.{length, getD, replicate}
-use Rattle.machine.specs.Causes.{same}
+use Rattle.facts.specs.Lists.{same}
+use Rattle.facts.specs.Decimal.{bytes, numberIn}
 use Rattle.report.specs.declared.words.Mistake.the-variants.{Unknown, Empty, Long, Many, Few, Kind}
-use Rattle.report.specs.Text.{bytes, numberIn}
 use Rattle.bench.specs.declared.words.Lookup.{Lookup}
 use Rattle.bench.specs.declared.words.Lookup.the-variants.{Found, Nothing}
 use Rattle.bench.specs.declared.words.Service.{Service}

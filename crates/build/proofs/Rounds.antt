@@ -10,10 +10,10 @@ use native.Mathlib.Numerals.{add-one}
 use lib.ListN.{length, getD, set, replicate, length-set, length-replicate, getD-replicate}
 use lib.Seq.{getD-set-same, getD-set-other}
 use borrow.Author.Count.{below-more}
+use Rattle.facts.specs.Numbers.{equal-or-not, less-or-not}
 use Rattle.facts.specs.FirstOf.{Seen, nothing, value, seen}
 use Rattle.machine.specs.Machine.{Mealy, tabled}
 use Rattle.machine.specs.Machine.Laws.{tabled-states, tabled-commands, tabled-cells}
-use Rattle.machine.specs.Numbers.{equal-or-not, less-or-not}
 use Rattle.build.specs.Transfer.{firstPath}
 use Rattle.build.specs.Transfer.Paths.{path-zero, path-here, path-state, path-outside, some-path, none-path}
 use Rattle.build.specs.Distances.{unreached, Widened, Distance, Distances}

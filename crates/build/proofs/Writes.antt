@@ -6,7 +6,7 @@ use mathlib.Core.List.{List, [], _++_}
 use native.Mathlib.Omega.{arith}
 use lib.ListN.{length, length-append}
 use lib.Seq.{paste, paste-zero, length-paste}
-use Rattle.sheet.specs.Pasting.{paste-both}
+use Rattle.facts.specs.Pasting.{paste-both}
 use Rattle.build.specs.Writing.{Writes}
 
 -- nothing

@@ -6,10 +6,11 @@ use mathlib.Core.List.{List}
 use mathlib.Core.Option.{Option, some}
 use lib.Dec.{ltb, eqb}
 use lib.ListN.{length, take}
-use Rattle.facts.specs.ByteOrder.{Before}
+use Rattle.facts.specs.Lists.{Below}
 use Rattle.facts.specs.FirstOf.{guard, firstOf}
+use Rattle.facts.specs.ByteOrder.{Before}
 use Rattle.facts.specs.FirstString.{firstString}
-use Rattle.machine.specs.Machine.{Mealy, run, Below}
+use Rattle.machine.specs.Machine.{Mealy, run}
 use Rattle.build.specs.declared.transfers.MaybeTransfer.{MaybeTransfer}
 pub mod Laws
 pub mod Paths

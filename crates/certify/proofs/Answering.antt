@@ -6,6 +6,7 @@ use mathlib.Core.Bool.{true}
 use mathlib.Core.List.{List, _++_}
 use native.Mathlib.Omega.{arith}
 use lib.ListN.{length, getD, drop}
+use Rattle.facts.specs.Numbers.{digits-one}
 use Rattle.sheet.specs.declared.check.Check.{Check}
 use Rattle.sheet.specs.declared.check.Check.the-variants.{Clear, Refused}
 use Rattle.sheet.specs.Check.{firstCause}
@@ -15,7 +16,6 @@ use Rattle.machine.specs.declared.machine.Machine.{Machine}
 use Rattle.machine.specs.Machine.{Mealy, meaning, Proper, Commands}
 use Rattle.machine.specs.Machine.Laws.{meaning-states, meaning-commands, proper-entries}
 use Rattle.machine.specs.Causes.{machineIn}
-use Rattle.machine.specs.Numbers.{digits-one}
 use Rattle.certify.specs.declared.answer.Answer.{Answer}
 use Rattle.certify.specs.declared.answer.Answer.the-variants.{Refused as RefusedAnswer}
 use Rattle.certify.specs.Recognition.{OccursAt}

@@ -7,7 +7,7 @@ use mathlib.Core.Logic.{⊎-elim}
 use native.Mathlib.Omega.{arith}
 use borrow.Author.Count.{below-more}
 use lib.ListN.{length, getD, set, length-set, List·getD-eq-default}
-use Rattle.machine.specs.Numbers.{less-or-not}
+use Rattle.facts.specs.Numbers.{less-or-not}
 use Rattle.certify.specs.Marks.Laws.{marked-inside}
 use Rattle.certify.specs.Sweep.{Behind}
 use Rattle.certify.proofs.Marking.{set-cases}

@@ -8,7 +8,7 @@ use mathlib.Core.Logic.{⊎-elim}
 use native.Mathlib.Omega.{arith}
 use lib.ListN.{length, getD, take, drop, replicate, length-replicate}
 use lib.Seq.{getD-take, getD-drop}
-use Rattle.sheet.specs.Tests.{true-or-false}
+use Rattle.facts.specs.Tests.{true-or-false}
 use Rattle.machine.specs.Limits.{mostSequence}
 use Rattle.machine.specs.Machine.{Mealy, stateAt}
 use Rattle.machine.specs.Machine.Laws.{state-start, state-next}

@@ -8,9 +8,9 @@ use mathlib.Core.Logic.{_⊎_, inl, inr, ⊎-elim}
 use native.Mathlib.Omega.{arith}
 use lib.ListN.{length, getD, set, length-set}
 use lib.Seq.{getD-set-same}
+use Rattle.facts.specs.Numbers.{digits-one}
 use Rattle.machine.specs.Limits.{mostSequence, mostEntries}
 use Rattle.machine.specs.Machine.{Mealy, Commands}
-use Rattle.machine.specs.Numbers.{digits-one}
 use Rattle.certify.specs.Marks.{Bits}
 use Rattle.certify.specs.Folding.{From, Marking, Risen, Paired, tops, step}
 use Rattle.certify.specs.Sweep.{placeEntry, Witness, Knows, SweepRequires, Learnt}

@@ -8,8 +8,8 @@ use native.Mathlib.Omega.{arith}
 use native.Mathlib.Nat.{eq-or-lt-of-le}
 use lib.ListN.{length, getD, set, length-set}
 use lib.Seq.{getD-set-same, getD-set-other}
+use Rattle.facts.specs.Numbers.{equal-or-not}
 use Rattle.machine.specs.Machine.{Mealy}
-use Rattle.machine.specs.Numbers.{equal-or-not}
 use Rattle.certify.specs.Marks.{Bits}
 use Rattle.certify.specs.Folding.{From, Marking, Paired}
 use Rattle.certify.proofs.Paired.{paired-sym, paired-carries}

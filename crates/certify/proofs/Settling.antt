@@ -7,8 +7,8 @@ use mathlib.Core.List.{List}
 use mathlib.Core.Logic.{⊎-elim}
 use native.Mathlib.Omega.{arith}
 use lib.ListN.{length, getD, replicate, length-replicate}
-use Rattle.sheet.specs.Tests.{true-or-false}
-use Rattle.machine.specs.Numbers.{less-or-not}
+use Rattle.facts.specs.Tests.{true-or-false}
+use Rattle.facts.specs.Numbers.{less-or-not}
 use Rattle.machine.specs.Limits.{mostEntries}
 use Rattle.machine.specs.Machine.{Mealy, stateAt}
 use Rattle.certify.specs.Recognition.Laws.{closure-in, closure-more}

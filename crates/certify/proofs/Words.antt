@@ -12,7 +12,7 @@ use lib.Arith.{lt-of-le-ne}
 use lib.Dec.{ltb, eqb}
 use lib.ListN.{length, getD, set, take, drop, length-set, length-take, length-drop}
 use lib.Seq.{ext-getD, getD-take, getD-drop}
-use Rattle.machine.specs.Numbers.{equal-or-not, less-or-not}
+use Rattle.facts.specs.Numbers.{equal-or-not, less-or-not}
 use Rattle.certify.specs.Recognition.{OccursAt}
 use Rattle.certify.specs.Marks.{mark, marksBy, occursAt}
 use Rattle.certify.specs.Marks.Laws.{marks-by-length, marks-by-at}

@@ -7,8 +7,8 @@ use mathlib.Core.Bool.{Bool, true, false, _&&_, _||_}
 use mathlib.Core.List.{List, [], _∷_}
 use lib.Dec.{leb, eqb}
 use lib.ListN.{length, getD, take, drop}
+use Rattle.facts.specs.Lists.{same}
 use Rattle.machine.specs.Machine.{Mealy, stateAt}
-use Rattle.machine.specs.Causes.{same}
 pub mod Laws
 pub mod Agreement
 pub mod Twin

@@ -7,10 +7,10 @@ use mathlib.Core.List.{List, [], _++_}
 use mathlib.Core.Option.{Option, none, some, Option·getD}
 use lib.Dec.{ltb}
 use lib.ListN.{length, getD, take}
+use Rattle.facts.specs.Lists.{same}
+use Rattle.facts.specs.CommonPrefix.{agreed}
 use Rattle.facts.specs.FirstOf.{guard, firstOf}
 use Rattle.machine.specs.Machine.{Mealy, run, answers}
-use Rattle.machine.specs.Causes.{same}
-use Rattle.machine.specs.CommonPrefix.{agreed}
 use Rattle.build.specs.Transfer.{IsTransfer, transfer}
 use Rattle.desk.specs.declared.desk.Order.{Order}
 use Rattle.desk.specs.declared.desk.Order.the-variants.{Command, Home, Stranger}

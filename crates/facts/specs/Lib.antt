@@ -1,3 +1,10 @@
+pub mod Tests
+pub mod Numbers
+pub mod Lists
+pub mod Pasting
+pub mod Pigeonhole
+pub mod CommonPrefix
 pub mod FirstOf
 pub mod ByteOrder
 pub mod FirstString
+pub mod Decimal

@@ -8,9 +8,9 @@ use native.Mathlib.Omega.{arith}
 use lib.Dec.{eqb}
 use lib.ListN.{length, getD, drop, drop-of-length-le}
 use borrow.Author.Tests.{eq-eqb, ne-eqb}
+use Rattle.facts.specs.Lists.{same}
 use Rattle.machine.specs.Machine.{Mealy, answers}
 use Rattle.machine.specs.Machine.Laws.{answers-rest, answers-none}
-use Rattle.machine.specs.Causes.{same}
 
 module _ (M : Mealy) (w : List ℕ) (i j : ℕ) where
   -- from place p on, in states s and t, the runs compare as they do from the front

@@ -5,6 +5,7 @@ use mathlib.Core.Bool.{Bool, true, false, not, _&&_, _||_}
 use mathlib.Core.List.{List, [], _∷_, _++_}
 use lib.Dec.{leb, ltb, eqb}
 use lib.ListN.{length, getD, take}
+use Rattle.facts.specs.Lists.{same}
 use Rattle.sheet.specs.declared.check.Check.{Check}
 use Rattle.sheet.specs.declared.record.Record.{Record}
 use Rattle.sheet.specs.declared.reader.Needs.{Needs}
@@ -53,13 +54,6 @@ commandsCause number most k r w =
 -- cause 5, word (§4.2)
 abbrev pub cause5 : ℕ → Record → List ℕ → Check
 cause5 k r w = commandsCause 5 mostWord k r w
-
--- whether two lists are equal
-abbrev pub same : List ℕ → List ℕ → Bool
-same [] [] = true
-same [] (y ∷ ys) = false
-same (x ∷ xs) [] = false
-same (x ∷ xs) (y ∷ ys) = eqb x y && same xs ys
 
 -- whether states i and j answer a word alike, by a table's two columns; number of states and start play no part
 abbrev pub agrees : ℕ → List ℕ → List ℕ → List ℕ → ℕ → ℕ → Bool

@@ -3,7 +3,4 @@ pub mod Machine
 pub mod Causes
 pub mod Loading
 pub mod House
-pub mod Numbers
-pub mod CommonPrefix
-pub mod Pigeonhole
 pub mod Unit

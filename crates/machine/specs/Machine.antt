@@ -4,6 +4,7 @@ use Prim.Native.Nat.{ℕ, _+_, _*_, _≤_, _<_}
 use mathlib.Core.Path.{_≡_}
 use mathlib.Core.List.{List, [], _∷_}
 use lib.ListN.{length, getD, take}
+use Rattle.facts.specs.Lists.{Below}
 use Rattle.machine.specs.Limits.{mostStates, mostCommands, mostWord}
 use Rattle.machine.specs.declared.machine.Machine.{Machine}
 pub mod Laws
@@ -72,10 +73,6 @@ pub record Proper (M : Mealy) : Type 0 where
   pub few-commands : M .k ≤ mostCommands
   pub starts : M .start < M .n
   pub stays : (s c : ℕ) → s < M .n → c < M .k → M .next s c < M .n
-
--- every command of a list is below k
-abbrev pub Below : ℕ → List ℕ → Type 0
-Below k w = (i : ℕ) → i < length w → getD w i 0 < k
 
 -- a word or a sequence within its limits (§2.2): 1 to most commands, each below k
 pub record Commands (most k : ℕ) (w : List ℕ) : Type 0 where

@@ -9,7 +9,8 @@ use native.Mathlib.Omega.{arith}
 use borrow.Author.Tests.{lt-ltb, le-ltb, le-leb, lt-leb, leb-true}
 use lib.Dec.{leb}
 use lib.ListN.{length}
-use Rattle.sheet.specs.Tests.{both-true}
+use Rattle.facts.specs.Tests.{both-true}
+use Rattle.facts.specs.Decimal.{bytes, allDigits, valueFrom, numberIn}
 use Rattle.desk.specs.declared.desk.Desk.{Desk}
 use Rattle.desk.specs.declared.desk.Order.the-variants.{Home}
 use Rattle.desk.specs.declared.stepping.Stepped.{Stepped}
@@ -18,7 +19,6 @@ use Rattle.report.specs.declared.dialogue.Reply.{Reply}
 use Rattle.report.specs.declared.dialogue.Reply.the-variants.{Answer, Other, Long}
 use Rattle.report.specs.declared.dialogue.Turned.{Turned}
 use Rattle.report.specs.declared.numbers.MaybeNumber.{MaybeNumber}
-use Rattle.report.specs.Text.{bytes, allDigits, valueFrom, numberIn}
 use Rattle.report.specs.Numbers.{numberOf}
 use Rattle.report.specs.Output.Laws.{writes-same}
 use Rattle.report.specs.Dialogue.{mostLine, replyOf, reply, otherLine, stopLine, othersLine, turnOutput, turnOver}

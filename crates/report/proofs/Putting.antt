@@ -7,8 +7,8 @@ use native.Mathlib.Omega.{arith}
 use native.Mathlib.Nat.{zero-add}
 use lib.ListN.{length, take, drop, length-append}
 use lib.Seq.{paste, paste-zero, length-paste, take-length, length-take-le}
+use Rattle.facts.specs.Pasting.{paste-both}
 use Rattle.io.specs.Counts.{Counts}
-use Rattle.sheet.specs.Pasting.{paste-both}
 use Rattle.report.specs.Phrases.{longestPhrase, phrase}
 use Rattle.report.specs.Phrases.Laws.{phrase-is}
 use Rattle.report.specs.Pieces.{Puts}

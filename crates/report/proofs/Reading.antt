@@ -11,7 +11,7 @@ use borrow.Author.Tests.{le-leb, lt-leb}
 use lib.Dec.{leb}
 use lib.ListN.{length, getD, drop}
 use lib.Seq.{drop-cons, drop-length}
-use Rattle.report.specs.Text.{isDigit, allDigits, valueFrom, numberIn}
+use Rattle.facts.specs.Decimal.{isDigit, allDigits, valueFrom, numberIn}
 
 -- what more digits stand for, behind digits of this value
 unfoldable pub numberFrom : ℕ → ℕ → List ℕ → Option ℕ

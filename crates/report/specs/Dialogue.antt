@@ -7,6 +7,7 @@ use mathlib.Core.List.{List, [], _++_}
 use mathlib.Core.Option.{Option, none, some}
 use lib.Dec.{leb, ltb}
 use lib.ListN.{length}
+use Rattle.facts.specs.Decimal.{bytes, numberIn}
 use Rattle.desk.specs.declared.desk.Desk.{Desk}
 use Rattle.desk.specs.declared.starting.First.{First}
 use Rattle.desk.specs.declared.starting.First.the-variants.{Command as FirstCommand, Refused as RefusedFirst}
@@ -17,7 +18,6 @@ use Rattle.desk.specs.Service.{starting, Starts, Steps}
 use Rattle.report.specs.declared.dialogue.Reply.{Reply}
 use Rattle.report.specs.declared.dialogue.Reply.the-variants.{Answer, Other, Long}
 use Rattle.report.specs.declared.dialogue.Turned.{Turned}
-use Rattle.report.specs.Text.{bytes, numberIn}
 use Rattle.report.specs.Lines.{orderLine, firstLine}
 use Rattle.report.specs.Output.{Output, onOutput, onError, Writes}
 pub mod Laws

@@ -1,6 +1,6 @@
 pub mod Numbers
 pub mod Dialogue
-pub mod Text
+pub mod Digits
 pub mod Phrases
 pub mod Lines
 pub mod Words

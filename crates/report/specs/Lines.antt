@@ -2,6 +2,7 @@
 use Prim.Native.Nat.{ℕ}
 use Prim.Native.String.{String}
 use mathlib.Core.List.{List, [], _∷_, _++_}
+use Rattle.facts.specs.Decimal.{bytes, decimal}
 use Rattle.judge.specs.declared.answer.Answer.{Answer as Judgement}
 use Rattle.judge.specs.declared.answer.Answer.the-variants.{Pass, Wrong, Unfinished, Refused as RefusedJudgement}
 use Rattle.certify.specs.declared.answer.Answer.{Answer as Certification}
@@ -10,7 +11,6 @@ use Rattle.desk.specs.declared.desk.Order.{Order}
 use Rattle.desk.specs.declared.desk.Order.the-variants.{Command, Home, Stranger}
 use Rattle.desk.specs.declared.starting.First.{First}
 use Rattle.desk.specs.declared.starting.First.the-variants.{Command as FirstCommand, Refused as RefusedFirst}
-use Rattle.report.specs.Text.{bytes, decimal}
 use Rattle.report.specs.Phrases.{phrase}
 pub mod Examples
 pub mod Identity

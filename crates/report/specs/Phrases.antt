@@ -2,7 +2,7 @@
 use Prim.Native.Nat.{ℕ}
 use mathlib.Core.List.{List, [], _∷_}
 use lib.ListN.{getD}
-use Rattle.report.specs.Text.{bytes}
+use Rattle.facts.specs.Decimal.{bytes}
 pub mod Laws
 
 -- the phrases of the refusal numbers 1 to 11, in this order (§4.2)

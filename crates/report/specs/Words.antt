@@ -1,7 +1,7 @@
 -- What is printed about the arguments of the bench, here called words (§8.2): the list of services, and what is wrong.
 use Prim.Native.Nat.{ℕ}
 use mathlib.Core.List.{List, _++_}
-use Rattle.report.specs.Text.{bytes}
+use Rattle.facts.specs.Decimal.{bytes}
 use Rattle.report.specs.declared.words.Mistake.{Mistake}
 use Rattle.report.specs.declared.words.Mistake.the-variants.{Unknown, Empty, Long, Many, Few, Kind}
 

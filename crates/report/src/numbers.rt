@@ -1,7 +1,7 @@
 // Decimal numbers, read.
 ghost use mathlib.Core.Path.{_≡_};
 ghost use mathlib.Core.Option.{none};
-ghost use Rattle.report.specs.Text.{numberIn};
+ghost use Rattle.facts.specs.Decimal.{numberIn};
 ghost use Rattle.report.specs.Numbers.{numberOf};
 
 // A number, or that there is none; its value is then free.

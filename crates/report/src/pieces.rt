@@ -2,9 +2,10 @@
 ghost use Prim.Native.Nat.{_+_, _≤_};
 ghost use mathlib.Core.List.{_++_};
 ghost use lib.ListN.{length};
+ghost use Rattle.facts.specs.Decimal.{decimal};
 ghost use Rattle.sheet.specs.Format.{header};
 ghost use Rattle.sheet.specs.Writing.{recordBytes};
-ghost use Rattle.report.specs.Text.{mostDigits, decimal};
+ghost use Rattle.report.specs.Digits.{mostDigits};
 ghost use Rattle.report.specs.Phrases.{longestPhrase, phrase};
 ghost use Rattle.report.specs.Lines.{spaced};
 ghost use Rattle.report.specs.Pieces.{Puts};

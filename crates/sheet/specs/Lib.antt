@@ -1,7 +1,5 @@
-pub mod Tests
 pub mod Check
 pub mod Values
 pub mod Format
 pub mod Reader
-pub mod Pasting
 pub mod Writing

@@ -5,6 +5,7 @@ use Prim.Native.Nat.{ℕ, _≤_}
 use mathlib.Core.Path.{_≡_}
 use mathlib.Core.List.{List, [], _∷_, _++_}
 use lib.ListN.{length, drop}
+use Rattle.facts.specs.Decimal.{bytes}
 use Rattle.sheet.specs.Writing.{recordBytes}
 use Rattle.certify.specs.declared.answer.Answer.the-variants.{Certified, Open, Refused as RefusedCertification}
 use Rattle.certify.specs.Certification.{certification}
@@ -13,7 +14,6 @@ use Rattle.build.specs.Building.{building, bufferAfter}
 use Rattle.judge.specs.declared.answer.Answer.{Answer}
 use Rattle.judge.specs.declared.answer.Answer.the-variants.{Pass, Wrong, Unfinished, Refused as RefusedJudgement}
 use Rattle.judge.specs.Judging.{judgement}
-use Rattle.report.specs.Text.{bytes}
 use Rattle.report.specs.Lines.{judgeLine}
 pub mod Proofs
 

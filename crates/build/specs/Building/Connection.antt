@@ -7,6 +7,7 @@ use mathlib.Core.List.{List, [], _∷_, _++_}
 use mathlib.Core.Option.{Option, none, some, Option·getD}
 use native.Mathlib.Omega.{arith}
 use lib.ListN.{length, length-append}
+use Rattle.facts.specs.Lists.{low-append}
 use Rattle.sheet.specs.declared.check.Check.{Check}
 use Rattle.sheet.specs.declared.check.Check.the-variants.{Clear, Refused}
 use Rattle.sheet.specs.Check.{refusal_with_if_, _else_, firstCause, first}
@@ -16,7 +17,7 @@ use Rattle.sheet.specs.Check.Laws.{first-present, present-test}
 use Rattle.sheet.specs.Reader.{content}
 use Rattle.machine.specs.Limits.{mostWord}
 use Rattle.machine.specs.Machine.{Mealy, run, Proper, Commands, Distinguishes}
-use Rattle.machine.specs.Machine.Laws.{run-append, run-stays, low-append}
+use Rattle.machine.specs.Machine.Laws.{run-append, run-stays}
 use Rattle.machine.specs.Causes.{machineIn, loadCauses}
 use Rattle.machine.specs.Causes.Lists.{load-proper, word-distinguishes}
 use Rattle.build.specs.Transfer.{Leads, IsTransfer}

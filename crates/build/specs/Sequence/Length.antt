@@ -10,9 +10,10 @@ use native.Mathlib.Nat.{mul-le-mul, mul-le-mul-right, suc-mul, zero-mul, mul-ass
 use borrow.Author.Tests.{eqb-true, eqb-false}
 use lib.Dec.{eqb}
 use lib.ListN.{length, getD, length-append}
+use Rattle.facts.specs.Lists.{low-append}
 use Rattle.machine.specs.Limits.{mostStates, mostEntries, mostWord, mostSequence}
 use Rattle.machine.specs.Machine.{Mealy, run, Proper}
-use Rattle.machine.specs.Machine.Laws.{run-none, run-append, low-append, proper-entries}
+use Rattle.machine.specs.Machine.Laws.{run-none, run-append, proper-entries}
 use Rattle.build.specs.Sequence.{following, T, nthState, firstBlocks, opening, approach, test, stateTests, tests}
 use Rattle.build.specs.Sequence.{sequence, blockBound, mostBlock, lengthBound}
 use Rattle.build.specs.Sequence.Cycle.{following-below, gap, gap-below, gap-step, nthState-below}

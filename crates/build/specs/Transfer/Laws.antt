@@ -9,12 +9,12 @@ use native.Mathlib.Omega.{arith}
 use lib.ListN.{length, take, drop, length-append, length-take, length-drop, take-append-drop}
 use lib.Dec.{ltb}
 use borrow.Author.Tests.{ltb-true, ltb-false}
+use Rattle.facts.specs.Lists.{low-append, low-take, low-drop}
+use Rattle.facts.specs.Pigeonhole.{pigeonhole}
+use Rattle.facts.specs.FirstOf.{some-none, Seen, nothing, value, seen, first-some, least-first, some-first, none-first}
 use Rattle.facts.specs.ByteOrder.{neither-before}
-use Rattle.facts.specs.FirstOf.{some-none, Seen, nothing, value, seen, first-some, least-first, some-first}
-use Rattle.facts.specs.FirstOf.{none-first}
 use Rattle.machine.specs.Machine.{Mealy, run, Proper}
-use Rattle.machine.specs.Machine.Laws.{run-none, run-cons, run-append, run-stays, low-append, low-take, low-drop}
-use Rattle.machine.specs.Pigeonhole.{pigeonhole}
+use Rattle.machine.specs.Machine.Laws.{run-none, run-cons, run-append, run-stays}
 use Rattle.build.specs.Transfer.{Leads, IsTransfer, firstPath, transfer}
 use Rattle.build.specs.Transfer.Paths.{path-zero, path-here, path-step, path-state, some-path, path-length}
 use Rattle.build.specs.Transfer.Paths.{path-leads, leads-path, path-first}

@@ -9,11 +9,11 @@ use native.Mathlib.Omega.{arith}
 use lib.Dec.{ltb, eqb}
 use lib.ListN.{length, getD}
 use borrow.Author.Tests.{ltb-true, eqb-true, lt-ltb, le-ltb, eq-eqb}
-use Rattle.facts.specs.ByteOrder.{Before}
+use Rattle.facts.specs.Tests.{both-true}
 use Rattle.facts.specs.FirstOf.{Some}
+use Rattle.facts.specs.ByteOrder.{Before}
 use Rattle.facts.specs.FirstString.{Accepted, string-zero, string-here, string-step, some-string, none-string}
 use Rattle.facts.specs.FirstString.{string-outside, string-length, string-accepted, accepted-some, string-first}
-use Rattle.sheet.specs.Tests.{both-true}
 use Rattle.machine.specs.Machine.{Mealy, Proper}
 use Rattle.machine.specs.Machine.Laws.{run-none, run-cons}
 use Rattle.build.specs.Transfer.{Leads, firstPath}

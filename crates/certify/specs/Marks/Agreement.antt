@@ -10,10 +10,9 @@ use lib.Dec.{leb, eqb}
 use lib.ListN.{length, getD, take, drop, length-take, length-drop}
 use lib.Seq.{ext-getD}
 use borrow.Author.Tests.{le-leb, leb-true, eq-eqb, eqb-true, eqb-false}
-use Rattle.sheet.specs.Tests.{both-true, either-true, or-left, or-right, true-or-false}
+use Rattle.facts.specs.Tests.{both-true, either-true, or-left, or-right, true-or-false}
+use Rattle.facts.specs.Lists.{same, same-refl, same-equal}
 use Rattle.machine.specs.Machine.{Mealy, stateAt}
-use Rattle.machine.specs.Causes.{same}
-use Rattle.machine.specs.Causes.Separation.{same-refl, same-equal}
 use Rattle.certify.specs.Recognition.{OccursAt, Closure, rule1, rule2, Recognised}
 use Rattle.certify.specs.Recognition.Laws.{closure-recognised, recognised-closure, recognised-inside}
 use Rattle.certify.specs.Marks.{marksBy, Bits, marked, count, occursAt, byRule2, grown, settled, closure, marks}

@@ -11,7 +11,7 @@ use lib.ListN.{length, getD, take}
 use native.Mathlib.Numerals.{add-one}
 use lib.Seq.{take-suc}
 use borrow.Author.Tests.{eq-eqb, eqb-true}
-use Rattle.sheet.specs.Tests.{either-true, or-left, or-right}
+use Rattle.facts.specs.Tests.{either-true, or-left, or-right}
 use Rattle.certify.specs.Marks.{any, tabulate, mark, marksBy, Bits, marked, count}
 
 -- ---- any

@@ -10,6 +10,7 @@ use lib.Dec.{ltb}
 use lib.ListN.{length, getD, take, drop, length-append, take-append-drop, List·getD-append}
 use lib.Seq.{ext-getD, getD-take, length-take-le, take-append-add, drop-append-add, drop-cons}
 use borrow.Author.Tests.{ltb-true, ltb-false}
+use Rattle.facts.specs.CommonPrefix.{agreed, Agreed, agreed-holds, agreed-is}
 use Rattle.facts.specs.FirstOf.{Seen, nothing, value, seen}
 use Rattle.sheet.specs.declared.check.Check.the-variants.{Clear}
 use Rattle.sheet.specs.Check.{firstCause}
@@ -17,7 +18,6 @@ use Rattle.sheet.specs.Reader.{content}
 use Rattle.machine.specs.Machine.{Mealy, run, answers, Proper, Distinguishes}
 use Rattle.machine.specs.Machine.Laws.{run-append, run-stays, answers-append, answers-length, answers-take}
 use Rattle.machine.specs.Causes.{machineIn}
-use Rattle.machine.specs.CommonPrefix.{agreed, Agreed, agreed-holds, agreed-is}
 use Rattle.build.specs.Transfer.{transfer}
 use Rattle.build.specs.Transfer.Laws.{transfer-is, is-transfer, leads-some, transfer-drop}
 use Rattle.build.specs.Building.{connectedCauses, StronglyConnected}

@@ -8,11 +8,11 @@ use native.Mathlib.Omega.{arith}
 use lib.Dec.{ltb}
 use lib.ListN.{length, length-append}
 use borrow.Author.Tests.{lt-ltb, ltb-true, ltb-false}
-use Rattle.sheet.specs.Tests.{if-true}
+use Rattle.facts.specs.Tests.{if-true}
+use Rattle.facts.specs.CommonPrefix.{agreed, agreed-longer, agreed-differ}
 use Rattle.facts.specs.FirstOf.{Seen, nothing, value, seen}
 use Rattle.machine.specs.Machine.{Mealy, answers}
 use Rattle.machine.specs.Machine.Laws.{answers-length}
-use Rattle.machine.specs.CommonPrefix.{agreed, agreed-longer, agreed-differ}
 use Rattle.desk.specs.declared.desk.Order.{Order}
 use Rattle.desk.specs.declared.desk.Order.the-variants.{Command, Home, Stranger}
 use Rattle.desk.specs.declared.desk.Phase.the-variants.{Reading, Driving, Home as HomePhase}

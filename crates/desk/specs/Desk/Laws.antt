@@ -10,15 +10,14 @@ use lib.ListN.{length, getD, take, length-append}
 use lib.Seq.{take-append-seam, take-append-le, take-at, getD-append-seam}
 use borrow.Author.Tests.{lt-ltb, le-ltb}
 use borrow.Author.Count.{below-more}
+use Rattle.facts.specs.Tests.{if-true, if-false}
+use Rattle.facts.specs.Lists.{same, same-refl, same-equal}
+use Rattle.facts.specs.CommonPrefix.{agreed, agreed-front, agreed-then}
 use Rattle.facts.specs.FirstOf.{some-none, Seen, nothing, value, seen, guard, guard-some, guard-true, guard-false}
 use Rattle.facts.specs.FirstOf.{firstOf, first-some, least-first, none-first, first-none as each-none}
-use Rattle.sheet.specs.Tests.{if-true, if-false}
 use Rattle.machine.specs.Machine.{Mealy, run, answers, Separates}
 use Rattle.machine.specs.Machine.Laws.{run-none, run-cons, run-append, answers-none, answers-cons, answers-append}
 use Rattle.machine.specs.Machine.Laws.{answers-length, answers-take}
-use Rattle.machine.specs.Causes.{same}
-use Rattle.machine.specs.Causes.Separation.{same-refl, same-equal}
-use Rattle.machine.specs.CommonPrefix.{agreed, agreed-front, agreed-then}
 use Rattle.build.specs.Transfer.{transfer}
 use Rattle.build.specs.Transfer.Laws.{transfer-below, transfer-rest}
 use Rattle.desk.specs.declared.desk.Order.the-variants.{Command, Home, Stranger}

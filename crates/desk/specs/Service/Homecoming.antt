@@ -10,13 +10,12 @@ use lib.Dec.{ltb}
 use lib.ListN.{length, getD, take, drop, length-append, List·getD-append}
 use lib.Seq.{take-all, take-length, length-take-le, take-suc, drop-cons, drop-length}
 use borrow.Author.Tests.{ltb-true, ltb-false}
+use Rattle.facts.specs.Lists.{Below, low-append, low-take}
 use Rattle.sheet.specs.declared.check.Check.the-variants.{Clear}
 use Rattle.sheet.specs.Check.{firstCause}
 use Rattle.sheet.specs.Reader.{content}
-use Rattle.machine.specs.Machine.{Mealy, run, answers, Proper, Below}
+use Rattle.machine.specs.Machine.{Mealy, run, answers, Proper}
 use Rattle.machine.specs.Machine.Laws.{run-append, answers-none, answers-cons, answers-append, answers-length}
-use Rattle.machine.specs.Machine.Laws.{low-append}
-use Rattle.machine.specs.Machine.Laws.{low-take}
 use Rattle.machine.specs.Causes.{machineIn}
 use Rattle.machine.specs.Unit.{Unit, tableOf, ownAnswers, presentState, Isomorphism}
 use Rattle.machine.specs.Unit.Laws.{assigned-run, assigned-alike}

@@ -8,6 +8,7 @@ use native.Mathlib.Omega.{arith}
 use borrow.Author.Tests.{ltb-false}
 use lib.Dec.{ltb}
 use lib.ListN.{length, drop}
+use Rattle.facts.specs.Lists.{Below}
 use Rattle.sheet.specs.declared.check.Check.{Check}
 use Rattle.sheet.specs.declared.check.Check.the-variants.{Clear, Refused}
 use Rattle.sheet.specs.declared.record.Record.{Record}
@@ -15,7 +16,7 @@ use Rattle.sheet.specs.Check.{refusal_with_if_, _else_, firstCause, refusedOr, 
 use Rattle.sheet.specs.Check.Laws.{clear-refused, clear-absent, both-clear, cause-one, cause-append}
 use Rattle.sheet.specs.Reader.{recordOf, content}
 use Rattle.machine.specs.Limits.{mostSequence}
-use Rattle.machine.specs.Machine.{Mealy, answers, stateAt, Separates, Proper, Below, Commands}
+use Rattle.machine.specs.Machine.{Mealy, answers, stateAt, Separates, Proper, Commands}
 use Rattle.machine.specs.Causes.{machineIn, loadCauses}
 use Rattle.machine.specs.Causes.Lists.{load-proper, word-distinguishes}
 use Rattle.machine.specs.Unit.{Unit, tableOf, begunIn, ownAnswers, presentState}

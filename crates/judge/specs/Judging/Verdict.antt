@@ -8,10 +8,10 @@ use lib.Dec.{ltb}
 use lib.ListN.{length, getD}
 use lib.Seq.{ext-getD}
 use borrow.Author.Tests.{ltb-true, ltb-false, lt-ltb, le-ltb}
-use Rattle.sheet.specs.Tests.{if-true, if-false}
+use Rattle.facts.specs.Tests.{if-true, if-false}
+use Rattle.facts.specs.CommonPrefix.{agreed, Agreed, agreed-holds, agreed-is}
 use Rattle.machine.specs.Machine.{Mealy, answers, stateAt}
 use Rattle.machine.specs.Machine.Laws.{answers-length}
-use Rattle.machine.specs.CommonPrefix.{agreed, Agreed, agreed-holds, agreed-is}
 use Rattle.judge.specs.declared.answer.Answer.{Answer}
 use Rattle.judge.specs.declared.answer.Answer.the-variants.{Pass, Wrong, Unfinished}
 use Rattle.judge.specs.Judging.{resultAt, verdict}

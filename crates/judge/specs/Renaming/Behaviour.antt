@@ -5,8 +5,9 @@ use Prim.Native.Nat.{ℕ, _<_}
 use mathlib.Core.Path.{_≡_, sym, ap, _∙_}
 use mathlib.Core.List.{List}
 use lib.ListN.{length}
+use Rattle.facts.specs.Lists.{Below}
 use Rattle.machine.specs.Limits.{mostSequence}
-use Rattle.machine.specs.Machine.{Mealy, answers, Proper, Below, Commands}
+use Rattle.machine.specs.Machine.{Mealy, answers, Proper, Commands}
 use Rattle.machine.specs.Machine.Laws.{state-stays}
 use Rattle.machine.specs.Unit.{Unit, tableOf, presentState}
 use Rattle.machine.specs.Unit.Laws.{assigned-alike}

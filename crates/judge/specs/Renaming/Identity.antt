@@ -8,11 +8,11 @@ use mathlib.Core.List.{List}
 use native.Mathlib.Omega.{arith}
 use native.Mathlib.Numerals.{add-one}
 use lib.ListN.{length, getD, take, drop}
+use Rattle.facts.specs.Numbers.{choice}
 use Rattle.machine.specs.Limits.{mostSequence}
 use Rattle.machine.specs.Machine.{Mealy, answers, stateAt, Separates, Proper, Commands}
 use Rattle.machine.specs.Machine.Laws.{answers-part, answer-at, state-start, state-next, state-end, states-agree}
 use Rattle.machine.specs.Machine.Laws.{state-closed, state-stays}
-use Rattle.machine.specs.Numbers.{choice}
 use Rattle.machine.specs.Unit.{Unit, tableOf, ownAnswers, presentState}
 use Rattle.machine.specs.Unit.Laws.{assigns-all}
 use Rattle.certify.specs.Recognition.{OccursAt, Recognised, Certified}

@@ -8,10 +8,10 @@ use borrow.Author.Tests.{ltb-false, leb-false, eqb-true, not-false, le-ltb, lt-l
 use lib.Arith.{digits-lt}
 use lib.Dec.{leb, ltb, eqb}
 use lib.ListN.{length, getD}
+use Rattle.facts.specs.Tests.{neither}
 use Rattle.sheet.specs.declared.check.Check.{Check}
 use Rattle.sheet.specs.declared.check.Check.the-variants.{Clear}
 use Rattle.sheet.specs.declared.record.Record.{Record}
-use Rattle.sheet.specs.Tests.{neither}
 use Rattle.sheet.specs.Check.{refusal_with_if_, _else_, first}
 use Rattle.sheet.specs.Check.Laws.{absent, clear-absent, else-clear, both-clear, first-clear, first-clear-at}
 use Rattle.sheet.specs.Format.{header, offset}

@@ -2,17 +2,18 @@
 use Prim.Native.Nat.{ℕ, _+_, _*_, _<_, _≤_}
 use mathlib.Core.Path.{_≡_, refl, sym, ap, ap₂, _∙_, fun-ext}
 use mathlib.Core.Bool.{Bool, true, false, true≢false, _&&_}
-use mathlib.Core.List.{List, [], _∷_}
+use mathlib.Core.List.{List}
 use native.Mathlib.Omega.{arith}
-use lib.Dec.{ltb, eqb}
-use borrow.Author.Tests.{lt-ltb, le-ltb, ltb-true, ltb-false, eq-eqb, eqb-true}
+use lib.Dec.{ltb}
+use borrow.Author.Tests.{lt-ltb, le-ltb, ltb-true, ltb-false}
+use Rattle.facts.specs.Tests.{both-true}
+use Rattle.facts.specs.Lists.{same, same-refl, same-equal}
 use Rattle.sheet.specs.declared.check.Check.the-variants.{Clear, Refused}
-use Rattle.sheet.specs.Tests.{both-true}
 use Rattle.sheet.specs.Check.{refusal_with_if_, first}
 use Rattle.sheet.specs.Check.Laws.{absent, present, clear-absent, first-clear, first-clear-at}
 use Rattle.machine.specs.Machine.{Mealy, tabled, answers, Separates}
 use Rattle.machine.specs.Machine.Laws.{answers-tabled}
-use Rattle.machine.specs.Causes.{same, pairCause, cause6}
+use Rattle.machine.specs.Causes.{pairCause, cause6}
 
 -- ---- a pair that a loop looks at
 module _ (M : Mealy) (w : List ℕ) (i : ℕ) where
@@ -56,19 +57,6 @@ cause6-tabled n k start start′ next answer w =
     sym (cause6-rows n k start next answer w)
     ∙ ap (first n) (fun-ext (λ i. ap (first n) (pairs-tabled n k start n start′ next answer w i)))
     ∙ cause6-rows n k start′ next answer w
-
--- ---- equal lists
-pub same-refl : (xs : List ℕ) → same xs xs ≡ true
-same-refl [] = refl
-same-refl (x ∷ xs) = rw (eq-eqb x x refl, same-refl xs)
-
-pub same-equal : (xs ys : List ℕ) → same xs ys ≡ true → xs ≡ ys
-same-equal [] [] e = refl
-same-equal [] (y ∷ ys) e = cc
-same-equal (x ∷ xs) [] e = cc
-same-equal (x ∷ xs) (y ∷ ys) e =
-    let h = both-true (eqb x y) (same xs ys) e in
-    ap₂ _∷_ (eqb-true x y (h .0)) (same-equal xs ys (h .1))
 
 -- ---- cause 6 and separation
 pair-clear : (M : Mealy) (w : List ℕ) → cause6 M w ≡ Clear → (i j : ℕ) → i < M .n → j < M .n

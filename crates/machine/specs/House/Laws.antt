@@ -9,7 +9,7 @@ use native.Mathlib.Nat.{le-of-suc-le-suc, not-suc-le-zero, eq-or-lt-of-le}
 use lib.Dec.{eqb}
 use lib.ListN.{length, getD}
 use borrow.Author.Tests.{eqb-true}
-use Rattle.sheet.specs.Tests.{both-true}
+use Rattle.facts.specs.Tests.{both-true}
 use Rattle.machine.specs.Machine.{pairAt, machineOf}
 use Rattle.machine.specs.House.{houseEntry, housePayload, house}
 

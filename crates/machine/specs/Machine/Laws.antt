@@ -5,8 +5,9 @@ use mathlib.Core.List.{List, [], _∷_, _++_}
 use native.Mathlib.Omega.{arith}
 use native.Mathlib.Numerals.{add-one}
 use lib.Arith.{digits-lt}
-use lib.ListN.{length, getD, take, drop, length-take, length-drop}
-use lib.Seq.{take-append-seam, take-suc, take-add, take-all, getD-take, getD-drop, drop-cons}
+use lib.ListN.{length, getD, take, drop}
+use lib.Seq.{take-append-seam, take-suc, take-add, take-all, drop-cons}
+use Rattle.facts.specs.Lists.{low-take}
 use Rattle.machine.specs.declared.machine.Machine.{Machine}
 use Rattle.machine.specs.Limits.{mostEntries, entries-few}
 use Rattle.machine.specs.Machine.{Mealy, tabled, meaning, run, answers, stateAt, Proper}
@@ -185,21 +186,6 @@ state-along M xs p m =
 pub states-agree : (M : Mealy) (xs : List ℕ) (p q m : ℕ) → stateAt M xs p ≡ stateAt M xs q
     → take m (drop p xs) ≡ take m (drop q xs) → stateAt M xs (p + m) ≡ stateAt M xs (q + m)
 states-agree M xs p q m e same = state-along M xs p m ∙ ap₂ (run M) e same ∙ sym (state-along M xs q m)
-
--- ---- commands below k: of two strings, of the first commands of one, and of the later ones
-pub low-append : (k : ℕ) (u v : List ℕ) → ((i : ℕ) → i < length u → getD u i 0 < k)
-    → ((i : ℕ) → i < length v → getD v i 0 < k) → (i : ℕ) → i < length (u ++ v) → getD (u ++ v) i 0 < k
-low-append k [] v p q i l = q i l
-low-append k (c ∷ u) v p q zero l = p 0 (omega arith)
-low-append k (c ∷ u) v p q (suc i) l = low-append k u v (λ j m. p (suc j) (omega arith)) q i (omega arith)
-
-pub low-take : (k n : ℕ) (u : List ℕ) → ((i : ℕ) → i < length u → getD u i 0 < k) → (i : ℕ) → i < length (take n u)
-    → getD (take n u) i 0 < k
-low-take k n u h i l = let m = simp length-take at l in rw (getD-take n u i 0 (omega arith)) (h i (omega arith))
-
-pub low-drop : (k n : ℕ) (u : List ℕ) → ((i : ℕ) → i < length u → getD u i 0 < k) → (i : ℕ) → i < length (drop n u)
-    → getD (drop n u) i 0 < k
-low-drop k n u h i l = let m = simp length-drop at l in rw (getD-drop n u i 0) (h (n + i) (omega arith))
 
 -- ---- a run stays among the states
 module _ (M : Mealy) (closed : (s c : ℕ) → s < M .n → c < M .k → M .next s c < M .n) where

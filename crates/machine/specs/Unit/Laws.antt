@@ -4,9 +4,10 @@ use Prim.Native.Nat.{ℕ, suc, _<_}
 use mathlib.Core.Path.{_≡_, refl, sym, ap, ap₂, _∙_}
 use mathlib.Core.List.{List, [], _∷_}
 use native.Mathlib.Omega.{arith}
-use Rattle.machine.specs.Machine.{Mealy, run, answers, Proper, Below}
+use Rattle.facts.specs.Lists.{Below}
+use Rattle.facts.specs.Pigeonhole.{onto}
+use Rattle.machine.specs.Machine.{Mealy, run, answers, Proper}
 use Rattle.machine.specs.Machine.Laws.{run-none, run-cons, answers-none, answers-cons}
-use Rattle.machine.specs.Pigeonhole.{onto}
 use Rattle.machine.specs.Unit.{Unit, tableOf, begunIn, Isomorphism}
 
 -- a unit has no more states than the machine: what assigns different ones to different states leaves none out

@@ -1,8 +1,8 @@
 -- The lines that the specification writes out (§8.1), as examples of the definitions.
 use mathlib.Core.Path.{_≡_, refl}
+use Rattle.facts.specs.Decimal.{bytes, decimalWithin, decimal}
 use Rattle.judge.specs.declared.answer.Answer.the-variants.{Pass, Wrong, Unfinished, Refused as RefusedJudgement}
 use Rattle.certify.specs.declared.answer.Answer.the-variants.{Certified, Open, Refused as RefusedCertification}
-use Rattle.report.specs.Text.{bytes, decimalWithin, decimal}
 use Rattle.report.specs.Phrases.{phrases, phrase}
 use Rattle.report.specs.Lines.{refusalLine, passLine, wrongLine, unfinishedLine, judgeLine, certifiedLine}
 use Rattle.report.specs.Lines.{openLine, certifyLine}

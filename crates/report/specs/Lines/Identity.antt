@@ -5,6 +5,7 @@ use mathlib.Core.Path.{_≡_, refl, ap}
 use mathlib.Core.List.{List}
 use native.Mathlib.Omega.{arith}
 use lib.ListN.{getD}
+use Rattle.facts.specs.Decimal.{bytes}
 use Rattle.sheet.specs.Reader.{content}
 use Rattle.machine.specs.Causes.{machineIn}
 use Rattle.judge.specs.declared.answer.Answer.{Answer}
@@ -13,7 +14,6 @@ use Rattle.machine.specs.Unit.{Unit, ownAnswers}
 use Rattle.judge.specs.Renaming.{Renaming}
 use Rattle.judge.specs.Judging.{judgement}
 use Rattle.judge.specs.Judging.Laws.{pass-identity}
-use Rattle.report.specs.Text.{bytes}
 use Rattle.report.specs.Lines.{refusalLine, passLine, wrongLine, unfinishedLine, judgeLine}
 
 -- the line's first byte is that of the word PASS

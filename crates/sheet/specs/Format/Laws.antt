@@ -9,12 +9,12 @@ use native.Mathlib.Omega.{arith}
 use lib.Dec.{ltb, eqb}
 use lib.ListN.{length}
 use borrow.Author.Tests.{lt-ltb, le-ltb, lt-leb, eq-eqb, ltb-true, ltb-false, leb-false, eqb-true}
+use Rattle.facts.specs.Tests.{neither}
 use Rattle.sheet.specs.declared.check.Check.{Check}
 use Rattle.sheet.specs.declared.check.Check.the-variants.{Clear, Refused}
 use Rattle.sheet.specs.declared.record.Record.{Record}
 use Rattle.sheet.specs.declared.record.Found.{Found}
 use Rattle.sheet.specs.declared.record.Found.the-variants.{At, Missing}
-use Rattle.sheet.specs.Tests.{neither}
 use Rattle.sheet.specs.Check.{refusal_with_if_, _else_}
 use Rattle.sheet.specs.Check.Laws.{absent, clear-absent, else-clear, both-clear}
 use Rattle.sheet.specs.Format.{header, recordAt, offset, end, kindOf, rank, rankAt, cause1, cause2, causeAt}

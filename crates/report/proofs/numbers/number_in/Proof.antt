@@ -5,7 +5,7 @@ use Prim.Native.Nat.{_+_, _-_, _≤_}
 use mathlib.Core.Path.{_≡_, sym, _∙_}
 use denote.Ref.{now}
 use lib.ListN.{length, drop}
-use Rattle.report.specs.Text.{numberIn}
+use Rattle.facts.specs.Decimal.{numberIn}
 use Rattle.report.proofs.Reading.{numberFrom, number-start, number-above, number-end, number-digit, number-low}
 use Rattle.report.proofs.Reading.{number-high}
 use Rattle.report.proofs.numbers.number_in.Statement.{statement}

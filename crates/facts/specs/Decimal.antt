@@ -18,17 +18,13 @@ abbrev pub lastDigit : Bool → ℕ → (ℕ → List ℕ) → List ℕ
 lastDigit true n front = (48 + n) ∷ []
 lastDigit false n front = front (n / 10) ++ ((48 + n % 10) ∷ [])
 
--- the most digits of a 64-bit number
-abbrev pub mostDigits : ℕ
-mostDigits = 20
-
 -- a number in decimal, of at most so many digits
 unfoldable pub decimalWithin : ℕ → ℕ → List ℕ
 decimalWithin zero n = []
 decimalWithin (suc most) n = lastDigit (ltb n 10) n (decimalWithin most)
 
 -- a number in decimal (§8.1): the digits of n / 10, where there are any, then the last one. n + 1 only bounds the
--- recursion: decimal-digit and decimal-more, in Text.Laws, are the equations without it
+-- recursion: decimal-digit and decimal-more, in Decimal.Laws, are the equations without it
 unfoldable pub decimal : ℕ → List ℕ
 decimal n = decimalWithin (n + 1) n
 

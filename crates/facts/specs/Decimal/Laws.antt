@@ -1,0 +1,55 @@
+-- The laws of numbers in decimal: their equations without a bound.
+use Prim.Native.Nat.{ℕ, zero, suc, _+_, _/_, _%_, _≤_, _<_}
+use mathlib.Core.Path.{_≡_, refl, sym, ap, _∙_}
+use mathlib.Core.Bool.{Bool, true, false}
+use mathlib.Core.List.{List, [], _∷_, _++_}
+use native.Mathlib.Omega.{arith}
+use native.Mathlib.Numerals.{add-one}
+use native.Mathlib.Nat.{div-lt-self}
+use borrow.Author.Tests.{lt-ltb, le-ltb, ltb-true, ltb-false}
+use lib.Dec.{ltb}
+use Rattle.facts.specs.Decimal.{lastDigit, decimalWithin, decimal}
+
+-- ---- with a bound
+within-digit : (most n : ℕ) → n < 10 → decimalWithin (suc most) n ≡ (48 + n) ∷ []
+unfolding decimalWithin
+within-digit most n h = ap (λ (t : Bool). lastDigit t n (decimalWithin most)) (lt-ltb n 10 h)
+
+within-more : (most n : ℕ) → 10 ≤ n → decimalWithin (suc most) n ≡ decimalWithin most (n / 10) ++ ((48 + n % 10) ∷ [])
+unfolding decimalWithin
+within-more most n h = ap (λ (t : Bool). lastDigit t n (decimalWithin most)) (le-ltb n 10 h)
+
+-- without its last digit a number is less
+pub shorter : (n : ℕ) → 10 ≤ n → n / 10 < n
+shorter n h = div-lt-self {n = n} {k = 10} (omega arith) (omega arith)
+
+-- any bound above n gives the same
+enough : (f g n : ℕ) → n < f → n < g → decimalWithin f n ≡ decimalWithin g n
+enough zero g n a b = let z : ⊥ = omega arith in absurd z
+enough (suc f) zero n a b = let z : ⊥ = omega arith in absurd z
+enough (suc f) (suc g) n a b = go (ltb n 10) refl (enough f g (n / 10))
+  where
+    go : (t : Bool) → ltb n 10 ≡ t → (n / 10 < f → n / 10 < g → decimalWithin f (n / 10) ≡ decimalWithin g (n / 10))
+        → decimalWithin (suc f) n ≡ decimalWithin (suc g) n
+    go true e again = within-digit f n (ltb-true n 10 e) ∙ sym (within-digit g n (ltb-true n 10 e))
+    go false e again =
+        let h : 10 ≤ n = ltb-false n 10 e in
+        let less : n / 10 < n = shorter n h in
+        within-more f n h
+        ∙ ap (λ (l : List ℕ). l ++ ((48 + n % 10) ∷ [])) (again (omega arith) (omega arith))
+        ∙ sym (within-more g n h)
+
+-- ---- without
+-- one digit
+pub decimal-digit : (n : ℕ) → n < 10 → decimal n ≡ (48 + n) ∷ []
+unfolding decimal
+decimal-digit n h = ap (λ (f : ℕ). decimalWithin f n) (add-one n) ∙ within-digit n n h
+
+-- more digits: those of n / 10, then the last one
+pub decimal-more : (n : ℕ) → 10 ≤ n → decimal n ≡ decimal (n / 10) ++ ((48 + n % 10) ∷ [])
+unfolding decimal
+decimal-more n h =
+    let less : n / 10 < n = shorter n h in
+    ap (λ (f : ℕ). decimalWithin f n) (add-one n)
+    ∙ within-more n n h
+    ∙ ap (λ (l : List ℕ). l ++ ((48 + n % 10) ∷ [])) (enough n (n / 10 + 1) (n / 10) (omega arith) (omega arith))
