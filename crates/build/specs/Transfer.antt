@@ -1,14 +1,14 @@
 -- Transfers (§6.1). `IsTransfer` says what one is and `transfer` computes it; Transfer.Laws shows that both agree for a
 -- machine within its limits and any two numbers, by the laws of Transfer.Paths.
-use Prim.Native.Nat.{ℕ, _≤_, _<_}
+use Prim.Native.Nat.{ℕ, _<_}
 use mathlib.Core.Path.{_≡_}
 use mathlib.Core.List.{List}
 use mathlib.Core.Option.{Option, some}
 use lib.Dec.{ltb, eqb}
-use lib.ListN.{length, take}
+use lib.ListN.{take}
 use Rattle.facts.specs.Lists.{Below}
 use Rattle.facts.specs.FirstOf.{guard, firstOf}
-use Rattle.facts.specs.ByteOrder.{Before}
+use Rattle.facts.specs.ByteOrder.{IsFirst}
 use Rattle.facts.specs.FirstString.{firstString}
 use Rattle.machine.specs.Machine.{Mealy, run}
 use Rattle.build.specs.declared.transfers.MaybeTransfer.{MaybeTransfer}
@@ -21,14 +21,12 @@ pub record Leads (M : Mealy) (a b : ℕ) (u : List ℕ) : Type 0 where
   pub commands : Below (M .k) u
   pub ends : run M a u ≡ b
 
--- the transfer from a to b (§6.1): both are states, and of the strings that lead from one to the other none is shorter,
--- and none of its length comes before it in byte order
+-- the transfer from a to b (§6.1): both are states, and of the strings that lead from one to the other it is the first
+-- of the shortest, in byte order
 pub record IsTransfer (M : Mealy) (a b : ℕ) (t : List ℕ) : Type 0 where
   pub from : a < M .n
   pub to : b < M .n
-  pub leads : Leads M a b t
-  pub shortest : (u : List ℕ) → Leads M a b u → length t ≤ length u
-  pub first : (u : List ℕ) → Leads M a b u → length u ≡ length t → Before u t → ⊥
+  pub is : IsFirst (Leads M a b) t
 
 -- ---- computed
 -- firstPath M b m a: of the strings of exactly m commands that lead from a to b along states of the machine, the first

@@ -1,5 +1,6 @@
--- Byte order (§1.2), the lexicographic order of strings of one length, and its laws.
-use Prim.Native.Nat.{ℕ, zero, suc, _<_}
+-- Byte order (§1.2), the lexicographic order of strings of one length, and the first of the shortest strings with a
+-- property, with their laws.
+use Prim.Native.Nat.{ℕ, zero, suc, _≤_, _<_}
 use mathlib.Core.Path.{_≡_, refl, sym, ap₂}
 use mathlib.Core.List.{List, [], _∷_}
 use native.Mathlib.Omega.{arith}
@@ -12,11 +13,11 @@ pub record Before (u v : List ℕ) : Type 0 where
   pub same : take place u ≡ take place v
   pub lower : getD u place 0 < getD v place 0
 
--- a lower first element
+-- with a lower first element it does
 before-head : (c d : ℕ) (u v : List ℕ) → c < d → Before (c ∷ u) (d ∷ v)
 before-head c d u v l = record { place = 0; inside = omega arith; same = refl; lower = l }
 
--- the same first element, and an order behind it
+-- and with the same one where the rest does
 before-tail : (c d : ℕ) (u v : List ℕ) → c ≡ d → Before u v → Before (c ∷ u) (d ∷ v)
 before-tail c d u v e h = record {
   place = suc (h .place);
@@ -25,7 +26,7 @@ before-tail c d u v e h = record {
   lower = h .lower;
 }
 
--- one of the two
+-- how a string with a first element comes before another: by a lower first element, or behind the same one
 pub data First-lower (c d : ℕ) (u v : List ℕ) : Type 0 where
   head : c < d → First-lower c d u v
   tail : c ≡ d → Before u v → First-lower c d u v
@@ -49,3 +50,16 @@ neither-before (c ∷ u) (d ∷ v) e p q =
     let s : c ≡ d = omega arith in
     ap₂ _∷_ s
     (neither-before u v (omega arith) (λ h. p (before-tail c d u v s h)) (λ h. q (before-tail d c v u (sym s) h)))
+
+-- the first of the shortest strings with a property: it has it, none that has it is shorter, and none of its length
+-- that has it comes before it in byte order
+pub record IsFirst (P : List ℕ → Type 0) (w : List ℕ) : Type 0 where
+  pub has : P w
+  pub shortest : (u : List ℕ) → P u → length w ≤ length u
+  pub first : (u : List ℕ) → P u → length u ≡ length w → Before u w → ⊥
+
+-- there is one at most
+pub first-one : (P : List ℕ → Type 0) {u v : List ℕ} → IsFirst P u → IsFirst P v → u ≡ v
+first-one P {u} {v} h k =
+    let same : length u ≡ length v = omega (arith, h .shortest v (k .has), k .shortest u (h .has)) in
+    neither-before u v same (k .first u (h .has) same) (h .first v (k .has) (sym same))

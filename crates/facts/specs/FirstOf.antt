@@ -61,7 +61,7 @@ module _ {A : Type 0} where
   firstOf zero f = none
   firstOf (suc n) f = orElse (firstOf n f) (f n)
 
-  -- none of the first n there is, or the least m that there is
+  -- of f 0, f 1, .., f (n - 1) each is none, or f m is the first value
   pub data First (n : ℕ) (f : ℕ → Option A) (o : Option A) : Type 0 where
     nowhere : ((i : ℕ) → i < n → f i ≡ none) → o ≡ none → First n f o
     at : (m : ℕ) (t : A) → m < n → f m ≡ some t → ((i : ℕ) → i < m → f i ≡ none) → o ≡ some t → First n f o

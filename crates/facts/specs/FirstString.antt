@@ -8,8 +8,8 @@ use mathlib.Core.List.{List, [], _∷_}
 use mathlib.Core.Option.{Option, none, some, Option·map, mem-unique, map-eq-none-iff, map-eq-some-iff}
 use native.Mathlib.Omega.{arith}
 use lib.ListN.{length}
-use Rattle.facts.specs.ByteOrder.{Before, First-lower, head, tail, before-cons, neither-before}
-use Rattle.facts.specs.FirstOf.{Some, some-none, Seen, nothing, value, seen, guard, guard-some, guard-true}
+use Rattle.facts.specs.ByteOrder.{Before, First-lower, head, tail, before-cons}
+use Rattle.facts.specs.FirstOf.{Some, some-none, guard, guard-some, guard-true}
 use Rattle.facts.specs.FirstOf.{guard-false, guard-none, firstOf, first-some, some-first, none-first}
 
 module _ {S : Type 0} (k : ℕ) (inside : S → Bool) (step : S → ℕ → S) (accepts : S → Bool) where
@@ -132,21 +132,3 @@ module _ {S : Type 0} (k : ℕ) (inside : S → Bool) (step : S → ℕ → S) (
           → ((v : List ℕ) → Accepted (step s (w .element)) v → length v ≡ m → Before v (w .rest) → ⊥) → ⊥
       go w a um (head x) again = some-none (accepted-some u (step s c) a .1) (rw um (w .passed c x))
       go w a um (tail x y) again = again u (rw (← x) a) um y
-
-  -- where none of m elements is accepted none is found
-  pub string-none : (m : ℕ) (s : S) → ((u : List ℕ) → length u ≡ m → Accepted s u → ⊥) → firstString m s ≡ none
-  string-none m s h = go (seen (firstString m s))
-    where
-      go : Seen (firstString m s) → firstString m s ≡ none
-      go (nothing e) = e
-      go (value t e) = absurd (h t (string-length m s e) (string-accepted m s e))
-
-  -- a string that is accepted, and none before it, is the one that is found
-  pub is-string : (s : S) (t : List ℕ) → Accepted s t
-      → ((u : List ℕ) → Accepted s u → length u ≡ length t → Before u t → ⊥) → firstString (length t) s ≡ some t
-  is-string s t a first =
-      let r = accepted-some t s a in
-      let l = string-length (length t) s (r .1) in
-      r .1
-      ∙ ap some (neither-before (r .0) t l (first (r .0) (string-accepted (length t) s (r .1)) l)
-      (string-first (length t) s (r .1) t a refl))

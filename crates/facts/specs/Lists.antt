@@ -35,6 +35,17 @@ same-equal (x ∷ xs) (y ∷ ys) e =
 abbrev pub Below : ℕ → List ℕ → Type 0
 Below k w = (i : ℕ) → i < length w → getD w i 0 < k
 
+-- of one element more in front
+pub below-cons : (k c : ℕ) (w : List ℕ) → c < k → Below k w → Below k (c ∷ w)
+below-cons k c w l h zero i = l
+below-cons k c w l h (suc j) i = h j (omega arith)
+
+pub below-head : (k c : ℕ) (w : List ℕ) → Below k (c ∷ w) → c < k
+below-head k c w h = h 0 (omega arith)
+
+pub below-tail : (k c : ℕ) (w : List ℕ) → Below k (c ∷ w) → Below k w
+below-tail k c w h i l = h (suc i) (omega arith)
+
 -- of two lists, of the first elements of one, and of the later ones
 pub low-append : (k : ℕ) (u v : List ℕ) → Below k u → Below k v → Below k (u ++ v)
 low-append k [] v p q i l = q i l

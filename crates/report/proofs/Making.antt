@@ -22,24 +22,25 @@ use Rattle.build.specs.Sequence.{sequence}
 use Rattle.build.specs.Building.{buildNeeds, building, Builds}
 use Rattle.build.specs.Building.Service.{load-clear, answer-built, built-sequence, built-buffer}
 use Rattle.report.specs.Printing.{Prints}
-use Rattle.report.specs.Sheets.{withSequence}
+use Rattle.report.specs.Sheets.{extended}
 use Rattle.report.specs.Output.{Output, onOutput, onError, Writes}
 
 -- ---- the place behind a record
 pub end-of : {r w : Record} → w ≡ r → w .start + header + w .size ≡ end r
 end-of {r} {w} e = sym (end-size w) ∙ ap end e
 
--- the two records lie within the sheet
-pub front-fits : (s : List ℕ) {w : Record} → w ≡ recordOf 2 s → end (recordOf 2 s) ≤ length s
+-- the records in front lie within the sheet
+pub front-fits : (k : ℕ) (s : List ℕ) {w : Record} → w ≡ recordOf k s → end (recordOf k s) ≤ length s
     → (length (take (w .start + header + w .size) s) ≡ w .start + header + w .size)
     × (w .start + header + w .size ≤ length s)
-front-fits s {w} e l =
+front-fits k s {w} e l =
     let inside : w .start + header + w .size ≤ length s = omega (arith, end-of e) in
     (length-take-le (w .start + header + w .size) s inside, inside)
 
-pub parts-are : (s xs : List ℕ) {n : ℕ} → n ≡ end (recordOf 2 s) → take n s ++ recordBytes 3 xs ≡ withSequence s xs
-unfolding withSequence
-parts-are s xs e = ap (λ (m : ℕ). take m s ++ recordBytes 3 xs) e
+pub parts-are : (k : ℕ) (s xs : List ℕ) {n : ℕ} → n ≡ end (recordOf k s)
+    → take n s ++ recordBytes (k + 1) xs ≡ extended k s xs
+unfolding extended
+parts-are k s xs e = ap (λ (m : ℕ). take m s ++ recordBytes (k + 1) xs) e
 
 -- ---- a built answer
 pub record HoldsBuilt (s buffer : List ℕ) (n : ℕ) : Type 0 where

@@ -2,7 +2,7 @@
 -- Assumes nothing.
 use Prim.Native.Nat.{ℕ, _+_, _*_, _-_, _≤_, _<_}
 use mathlib.Core.Path.{_≡_, refl, sym, ap, ap₂, _∙_}
-use mathlib.Core.Bool.{Bool, true, false, cond, _&&_}
+use mathlib.Core.Bool.{Bool, true, false, cond, _&&_, and-false}
 use mathlib.Core.List.{List, [], _∷_}
 use mathlib.Core.Option.{Option, none, some}
 use native.Mathlib.Omega.{arith}
@@ -27,10 +27,6 @@ grows : (value : ℕ) (w : List ℕ) → value ≤ valueFrom value w
 unfolding valueFrom
 grows value [] = omega arith
 grows value (b ∷ w) = omega (arith, grows (10 * value + (b - 48)) w)
-
-and-false : (a : Bool) → (a && false) ≡ false
-and-false true = refl
-and-false false = refl
 
 -- a value that is too large stays so
 pub number-above : (most value : ℕ) (w : List ℕ) → most < value → numberFrom most value w ≡ none

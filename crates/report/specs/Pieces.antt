@@ -1,12 +1,22 @@
 -- What the program's functions that put a line together promise each other.
-use Prim.Native.Nat.{ℕ, _+_, _≤_}
+use Prim.Native.Nat.{ℕ, _+_, _≤_, _<_}
 use mathlib.Core.Path.{_≡_}
 use mathlib.Core.List.{List}
 use lib.ListN.{length}
 use lib.Seq.{paste}
+use Rattle.sheet.specs.Format.{longest, end}
+use Rattle.sheet.specs.Reader.{recordOf}
+use Rattle.machine.specs.Limits.{mostSequence}
 
 -- bytes put at a place of a buffer, all else as it was, with the place behind them
 pub record Puts (before : List ℕ) (at : ℕ) (xs after : List ℕ) (end : ℕ) : Type 0 where
   pub ends : end ≡ at + length xs
   pub inside : end ≤ length before
   pub written : after ≡ paste before at xs (length xs)
+
+-- what adding a record to a sheet needs: the records in front of it lie within the sheet, and all of it has room
+pub record ExtendRequires (kind : ℕ) (s xs : List ℕ) : Type 0 where
+  pub low : kind < 65535
+  pub behind : end (recordOf kind s) ≤ length s
+  pub short : length s ≤ longest
+  pub few : length xs ≤ mostSequence

@@ -1,12 +1,10 @@
-// The sheets that the bench writes: records 1 and 2 of the lent sheet as they stand with the built
-// sequence as record 3, and the house unit's.
-ghost use Prim.Native.Nat.{_≤_};
+// The sheets that the bench writes: the lent sheet's records as they stand with the built
+// sequence as the next one, and the house unit's.
+ghost use Prim.Native.Nat.{_+_, _≤_};
 ghost use lib.ListN.{length};
-ghost use Rattle.machine.specs.Limits.{mostSequence};
-ghost use Rattle.sheet.specs.Format.{longest, end};
-ghost use Rattle.sheet.specs.Reader.{recordOf};
-ghost use Rattle.report.specs.Printing.{Prints};
-ghost use Rattle.report.specs.Sheets.{withSequence};
+ghost use Rattle.sheet.specs.Format.{longest, header};
+ghost use Rattle.report.specs.Pieces.{Puts, ExtendRequires};
+ghost use Rattle.report.specs.Sheets.{extended};
 ghost use Rattle.report.specs.Output.{Writes};
 ghost use Rattle.report.specs.Services.{built, houseWritten};
 use crate::lines::refused;
@@ -21,22 +19,21 @@ use machine::Machine;
 use machine::house_payload;
 use sheet::HEADER;
 use sheet::MACHINE_KIND;
-use sheet::SEQUENCE_KIND;
 use sheet::WORD_KIND;
 use sheet::record_of;
 
-// Puts records 1 and 2 and a sequence into a buffer; gives the length of it all.
-fn compose(sheet: &[u8], xs: &[u8], out: &mut [u8; OUTPUT]) -> usize
-    requires { ⌜ end (recordOf 2 (now sheet)) ≤ length (now sheet) ⌝ }
-    requires { ⌜ length (now sheet) ≤ longest ⌝ }
-    requires { ⌜ length (now xs) ≤ mostSequence ⌝ }
+// Puts the records up to a kind and a payload as the record of the next kind into a buffer; gives the
+// length of it all.
+fn extend(sheet: &[u8], kind: u16, xs: &[u8], out: &mut [u8; OUTPUT]) -> usize
+    requires { ⌜ ExtendRequires kind (now sheet) (now xs) ⌝ }
     ensures { λ r. ⌜
-        Prints (withSequence (now (sheet .entry)) (now (xs .entry))) (now (out .entry)) (now (out .exit)) r ⌝ }
+        Puts (now (out .entry)) 0 (extended kind (now (sheet .entry)) (now (xs .entry))) (now (out .exit)) r ⌝ }
+    ensures { λ r. ⌜ r ≤ longest + header + length (now (xs .entry)) ⌝ }
 {
-    let word = record_of(sheet, WORD_KIND);
-    let behind = word.start + HEADER + word.size;
+    let last = record_of(sheet, kind);
+    let behind = last.start + HEADER + last.size;
     let next = put(&sheet[..behind], 0, out);
-    put_record(SEQUENCE_KIND, xs, next, out)
+    put_record(kind + 1, xs, next, out)
 }
 
 // Builds the sequence of a sheet: the sheet that carries it, or a refusal's line.
@@ -47,7 +44,7 @@ pub fn build_sheet(sheet: &[u8], out: &mut [u8; OUTPUT]) -> Written
     let answer = build(sheet, &mut sequence);
     match answer {
         Answer::Built { length: n } => {
-            let size = compose(sheet, &sequence[..n], out);
+            let size = extend(sheet, WORD_KIND, &sequence[..n], out);
             Written {
                 out: size,
                 end: size,

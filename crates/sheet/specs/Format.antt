@@ -1,5 +1,6 @@
 -- The byte format of a sheet (§2.1, §2.2), and causes 1 and 2 at each record (§4.1, §4.2). A sheet is a list of numbers
--- here; the contracts are about bytes. The laws stand in Format.Laws, those of the first two records in Format.Records.
+-- here; the contracts are about bytes. The laws stand in Format.Laws, those of the records from the front in
+-- Format.Records.
 use Prim.Native.Nat.{ℕ, zero, suc, _+_, _*_, _-_}
 use mathlib.Core.Bool.{Bool, true, false, cond, _||_}
 use mathlib.Core.List.{List, [], _∷_}

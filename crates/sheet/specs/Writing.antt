@@ -1,5 +1,5 @@
 -- A record's header and a record as they are written (§2.1), and bytes put into a lent buffer at an offset or at its
--- start. The laws stand in Writing.Laws; Writing.Reading says how a sheet is read to which a record 3 was added.
+-- start. The laws stand in Writing.Laws; Writing.Reading says how a sheet is read to which a record was added.
 use Prim.Native.Nat.{ℕ, _+_, _/_, _%_}
 use mathlib.Core.Bool.{cond}
 use mathlib.Core.List.{List, [], _∷_, _++_}

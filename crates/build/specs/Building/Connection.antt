@@ -74,11 +74,11 @@ module _ (M : Mealy) (w : List ℕ) (proper : Proper M) (commands : Commands mos
       proper = proper;
       some = commands .some;
       leads = λ s sl.
-          ap (run M s) (T-splits s sl) ∙ run-append M s w (clear-transfer s sl .0) ∙ is-shortest s sl .leads .ends;
+          ap (run M s) (T-splits s sl) ∙ run-append M s w (clear-transfer s sl .0) ∙ is-shortest s sl .is .has .ends;
       begins = λ s sl. (clear-transfer s sl .0, T-splits s sl);
       low = λ s sl.
           rw (T-splits s sl)
-          (low-append (M .k) w (clear-transfer s sl .0) (commands .low) (is-shortest s sl .leads .commands));
+          (low-append (M .k) w (clear-transfer s sl .0) (commands .low) (is-shortest s sl .is .has .commands));
       short = λ s sl.
           omega (
             arith,
@@ -122,7 +122,7 @@ module _ (M : Mealy) (w : List ℕ) (proper : Proper M) (commands : Commands mos
             let ql : q < M .n = omega (arith, p .inside) in
             let o =
             there (B M w q) (clear-absent 8 q _ (first-clear-at (p .place) q (transferCause M w) (p .before) l)) in
-            (o .0, transfer-is M proper (run M q w) (following (M .n) q) (o .1) .leads);
+            (o .0, transfer-is M proper (run M q w) (following (M .n) q) (o .1) .is .has);
       } in
       (t .1 .0, rw (t .1 .1) found)
 

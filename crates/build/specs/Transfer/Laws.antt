@@ -12,7 +12,7 @@ use borrow.Author.Tests.{ltb-true, ltb-false}
 use Rattle.facts.specs.Lists.{low-append, low-take, low-drop}
 use Rattle.facts.specs.Pigeonhole.{pigeonhole}
 use Rattle.facts.specs.FirstOf.{some-none, Seen, nothing, value, seen, first-some, least-first, some-first, none-first}
-use Rattle.facts.specs.ByteOrder.{neither-before}
+use Rattle.facts.specs.ByteOrder.{first-one}
 use Rattle.machine.specs.Machine.{Mealy, run, Proper}
 use Rattle.machine.specs.Machine.Laws.{run-none, run-cons, run-append, run-stays}
 use Rattle.build.specs.Transfer.{Leads, IsTransfer, firstPath, transfer}
@@ -97,12 +97,14 @@ transfer-is M p a b {t} e =
     record {
       from = l;
       to = rw (← there .ends) (run-stays M p a t l (there .commands));
-      leads = there;
-      shortest = λ u h.
-          let r = leads-path M b p u a l h in
-          let n : length u < length t → ⊥ = λ k. some-none (r .1) (s .passed (length u) k) in
-          omega arith;
-      first = λ u h k. path-first M b p (length t) a (s .found) l u h k;
+      is = record {
+        has = there;
+        shortest = λ u h.
+            let r = leads-path M b p u a l h in
+            let n : length u < length t → ⊥ = λ k. some-none (r .1) (s .passed (length u) k) in
+            omega arith;
+        first = λ u h k. path-first M b p (length t) a (s .found) l u h k;
+      };
     }
 
 -- where a string of any length leads there is a transfer
@@ -130,10 +132,8 @@ leads-none M a b h = go (seen (transfer M a b))
 -- and a transfer is the one that is computed
 pub is-transfer : (M : Mealy) → Proper M → (a b : ℕ) {t : List ℕ} → IsTransfer M a b t → transfer M a b ≡ some t
 is-transfer M p a b {t} h =
-    let r = leads-some M p a b (h .from) t (h .leads) in
-    let k = transfer-is M p a b (r .1) in
-    let same : length (r .0) ≡ length t = omega (arith, h .shortest (r .0) (k .leads), k .shortest t (h .leads)) in
-    r .1 ∙ ap some (neither-before (r .0) t same (h .first (r .0) (k .leads) same) (k .first t (h .leads) (sym same)))
+    let r = leads-some M p a b (h .from) t (h .is .has) in
+    r .1 ∙ ap some (first-one (Leads M a b) (transfer-is M p a b (r .1) .is) (h .is))
 
 -- ---- along a transfer
 -- from a state to itself it is empty

@@ -1,5 +1,5 @@
--- The laws of `firstPath`, the first string that the machine accepts as an automaton: its states are inside, and b alone
--- accepts. What it accepts from a state are the strings that lead from there to b.
+-- The laws of `firstPath`, the first string that the machine accepts as an automaton: its states are inside, and b
+-- alone accepts. What it accepts from a state are the strings that lead from there to b.
 use Prim.Native.Nat.{ℕ, zero, suc, _≤_, _<_}
 use mathlib.Core.Path.{_≡_, sym, _∙_}
 use mathlib.Core.Bool.{true, _&&_}
@@ -7,10 +7,11 @@ use mathlib.Core.List.{List, [], _∷_}
 use mathlib.Core.Option.{none, some}
 use native.Mathlib.Omega.{arith}
 use lib.Dec.{ltb, eqb}
-use lib.ListN.{length, getD}
+use lib.ListN.{length}
 use borrow.Author.Tests.{ltb-true, eqb-true, lt-ltb, le-ltb, eq-eqb}
 use Rattle.facts.specs.Tests.{both-true}
 use Rattle.facts.specs.FirstOf.{Some}
+use Rattle.facts.specs.Lists.{below-cons, below-head, below-tail}
 use Rattle.facts.specs.ByteOrder.{Before}
 use Rattle.facts.specs.FirstString.{Accepted, string-zero, string-here, string-step, some-string, none-string}
 use Rattle.facts.specs.FirstString.{string-outside, string-length, string-accepted, accepted-some, string-first}
@@ -96,20 +97,16 @@ module _ (M : Mealy) (b : ℕ) where
 
   -- a command before a string that leads
   pub leads-more : (a c : ℕ) (u : List ℕ) → c < M .k → Leads M (M .next a c) b u → Leads M a b (c ∷ u)
-  leads-more a c u l h = record { commands = low; ends = run-cons M a c u ∙ h .ends }
-    where
-      low : (i : ℕ) → i < length (c ∷ u) → getD (c ∷ u) i 0 < M .k
-      low zero k = l
-      low (suc i) k = h .commands i (omega arith)
+  leads-more a c u l h = record { commands = below-cons (M .k) c u l (h .commands); ends = run-cons M a c u ∙ h .ends }
 
   -- the first command of a string that leads is a command
   pub leads-first : (a c : ℕ) (u : List ℕ) → Leads M a b (c ∷ u) → c < M .k
-  leads-first a c u h = h .commands 0 (omega arith)
+  leads-first a c u h = below-head (M .k) c u (h .commands)
 
   -- and the rest leads on
   pub leads-rest : (a c : ℕ) (u : List ℕ) → Leads M a b (c ∷ u) → Leads M (M .next a c) b u
   leads-rest a c u h = record {
-    commands = λ i l. h .commands (suc i) (omega arith);
+    commands = below-tail (M .k) c u (h .commands);
     ends = sym (run-cons M a c u) ∙ h .ends;
   }
 

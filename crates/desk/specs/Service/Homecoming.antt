@@ -135,7 +135,7 @@ module _ (s : List ℕ) (U : Unit (machineIn s .n) (machineIn s .k)) where
     all-low : Below (M .k) all
     all-low =
         rw (way .commands)
-        (low-append (M .k) w (way .homeward) (suited .word .commands .low) (way .drives .leads .commands))
+        (low-append (M .k) w (way .homeward) (suited .word .commands .low) (way .drives .is .has .commands))
 
     -- to commands of the sheet it gives the answers of that state
     own-are : (xs : List ℕ) → Below (M .k) xs → own xs ≡ answers M (first .0) xs
@@ -161,7 +161,7 @@ module _ (s : List ℕ) (U : Unit (machineIn s .n) (machineIn s .k)) where
         ∙ ap (iso .assigned)
         (ap (run M (first .0)) (way .commands)
         ∙ run-append M (first .0) w (way .homeward)
-        ∙ way .drives .leads .ends)
+        ∙ way .drives .is .has .ends)
 
     -- the commands sent are those of its course
     record OnWay (xs : List ℕ) : Type 0 where

@@ -1,6 +1,6 @@
 -- The laws of causes 1 to 6 in order, and what a sheet shows where they are clear.
 use Prim.Native.Nat.{ℕ}
-use mathlib.Core.Path.{_≡_, sym, ap, ap₂, _∙_}
+use mathlib.Core.Path.{_≡_, refl, sym, ap, ap₂, _∙_}
 use mathlib.Core.Bool.{Bool, true, false}
 use mathlib.Core.List.{List, [], _∷_, List·Memᴰ}
 use native.Mathlib.Omega.{arith}
@@ -8,11 +8,15 @@ use lib.ListN.{take}
 use lib.Seq.{take-all}
 use Rattle.sheet.specs.declared.check.Check.{Check}
 use Rattle.sheet.specs.declared.check.Check.the-variants.{Clear}
+use Rattle.sheet.specs.declared.record.Record.{Record}
+use Rattle.sheet.specs.declared.record.Found.the-variants.{At}
 use Rattle.sheet.specs.declared.reader.Needs.{Needs}
 use Rattle.sheet.specs.Check.{_else_, firstCause}
 use Rattle.sheet.specs.Check.Laws.{else-clear, both-clear, cause-none, cause-two, cause-append}
+use Rattle.sheet.specs.Format.{parsed, find}
 use Rattle.sheet.specs.Reader.{sheetCauses, needed, refusalOf, recordOf, content, Reads}
 use Rattle.sheet.specs.Reader.Laws.{needed-without-answers, needed-machine, needed-word, needed-clear, clear-reads}
+use Rattle.sheet.specs.Reader.Laws.{record-found}
 use Rattle.machine.specs.Limits.{mostMachine, mostWord}
 use Rattle.machine.specs.Machine.{Mealy, machineOf, Proper, Distinguishes}
 use Rattle.machine.specs.Causes.{cause3, cause4, cause5, cause6, machineIn, held, machineCauses, wordCauses}
@@ -56,6 +60,14 @@ held-loaded s pe e = e ∙ ap (λ (x : List ℕ). machineOf (take mostMachine x)
 pub machine-same : (s t : List ℕ) → content 1 t ≡ content 1 s → machineIn t ≡ machineIn s
 unfolding machineIn
 machine-same s t e = ap machineOf e
+
+-- a sheet with the same record 1 has no cause 3 or 4 either
+pub table-same : (s t : List ℕ) → find 1 (parsed t .records) ≡ At (recordOf 1 s) → content 1 t ≡ content 1 s
+    → (cause3 (recordOf 1 s) (content 1 s) else cause4 (recordOf 1 s) (content 1 s)) ≡ Clear
+    → (cause3 (recordOf 1 t) (content 1 t) else cause4 (recordOf 1 t) (content 1 t)) ≡ Clear
+table-same s t found one e =
+    let record-one : recordOf 1 t ≡ recordOf 1 s = sym (record-found 1 t {f = At (recordOf 1 s)} (sym found) refl) in
+    ap₂ (λ (r : Record) (c : List ℕ). cause3 r c else cause4 r c) record-one one ∙ e
 
 -- ---- where they are clear
 module _ (n : Needs) (s : List ℕ) (e : firstCause (machineCauses n s) ≡ Clear) where

@@ -1,10 +1,9 @@
 -- The laws of units: what is one to one into a unit's states is onto, and what an isomorphism says of the unit's runs
 -- and answers: in each of its states it goes and answers as the machine does in some state.
-use Prim.Native.Nat.{ℕ, suc, _<_}
+use Prim.Native.Nat.{ℕ, _<_}
 use mathlib.Core.Path.{_≡_, refl, sym, ap, ap₂, _∙_}
 use mathlib.Core.List.{List, [], _∷_}
-use native.Mathlib.Omega.{arith}
-use Rattle.facts.specs.Lists.{Below}
+use Rattle.facts.specs.Lists.{Below, below-head, below-tail}
 use Rattle.facts.specs.Pigeonhole.{onto}
 use Rattle.machine.specs.Machine.{Mealy, run, answers, Proper}
 use Rattle.machine.specs.Machine.Laws.{run-none, run-cons, answers-none, answers-cons}
@@ -15,12 +14,6 @@ pub assigns-all : (n k : ℕ) (U : Unit n k) (assigned : ℕ → ℕ) → ((s : 
     → ((s t : ℕ) → s < n → t < n → assigned s ≡ assigned t → s ≡ t) → (x : ℕ) → x < U .m
     → (s : ℕ) × (s < n) × (assigned s ≡ x)
 assigns-all n k U assigned = onto n (U .m) assigned (U .few)
-
-below-head : (k c : ℕ) (ys : List ℕ) → Below k (c ∷ ys) → c < k
-below-head k c ys h = h 0 (omega arith)
-
-below-tail : (k c : ℕ) (ys : List ℕ) → Below k (c ∷ ys) → Below k ys
-below-tail k c ys h i l = h (suc i) (omega arith)
 
 module _ (M : Mealy) (proper : Proper M) (U : Unit (M .n) (M .k)) (r : Isomorphism M U) where
   -- the unit as a machine

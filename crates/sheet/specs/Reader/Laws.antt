@@ -63,6 +63,13 @@ checks-are n s =
         ≡ (firstCause (map (missing s) ks) else firstCause (map (missing s) ls))
     both ks ls = ap firstCause (map-append (missing s) ks ls) ∙ cause-append (map (missing s) ks) (map (missing s) ls)
 
+-- a kind that is not needed, or that is there, is not missing
+pub not-needed : (s : List ℕ) (k : ℕ) → whenMissing s k false ≡ Clear
+not-needed s k = sym (when-missing s k false) ∙ absent 2 (length s) refl
+
+pub present-kind : (s : List ℕ) (k : ℕ) {r : Record} → find k (parsed s .records) ≡ At r → whenMissing s k true ≡ Clear
+present-kind s k e = sym (when-missing s k true) ∙ absent 2 (length s) (ap isMissing e)
+
 -- a service that does not need the answers refuses no sheet that one that does takes
 pub needed-without-answers : (w q : Bool) (s : List ℕ)
     → firstCause (sheetCauses (needed (record { word = w; sequence = q; answers = true })) s) ≡ Clear
@@ -72,11 +79,9 @@ needed-without-answers w q s e =
     let two = both-clear _ _ (one .1) in
     let three = both-clear _ _ (two .1) in
     checks-are (record { word = w; sequence = q; answers = false }) s
-    ∙ ap₂ _else_ (one .0) (ap₂ _else_ (two .0) (ap₂ _else_ (three .0) not-needed ∙ else-clear Clear) ∙ else-clear Clear)
+    ∙ ap₂ _else_ (one .0)
+    (ap₂ _else_ (two .0) (ap₂ _else_ (three .0) (not-needed s 4) ∙ else-clear Clear) ∙ else-clear Clear)
     ∙ else-clear Clear
-  where
-    not-needed : whenMissing s 4 false ≡ Clear
-    not-needed = sym (when-missing s 4 false) ∙ absent 2 (length s) refl
 
 -- ---- what holds of a record that is found
 -- what holds of every record that has no cause 1 or 2 holds of the one that is found, and that one is of the kind

@@ -8,10 +8,10 @@ use lib.ListN.{length-replicate}
 use Rattle.machine.specs.Limits.{mostSequence}
 use mathlib.Core.List.{List}
 use mathlib.Core.Path.{sym, ap}
-use Rattle.report.specs.Sheets.{withSequence}
+use Rattle.report.specs.Sheets.{extended}
 use Rattle.report.specs.Output.Laws.{writes-same}
 use Rattle.report.specs.Services.Laws.{built-clear, built-refused}
-use Rattle.report.proofs.Putting.{prints-same}
+use Rattle.report.proofs.Putting.{prints-line, prints-same}
 use Rattle.report.proofs.Making.{answer-is, built-holds, writes-output}
 use Rattle.report.proofs.sheets.build_sheet.Statement.{statement}
 use Rattle.report.proofs.sheets.build_sheet.Tie as tie
@@ -33,21 +33,26 @@ array-share-prefix-sequence c =
     (c .before .answer .given .1) in
     holds .inside
 
-slice-aggregate-compose : tie.Need-slice-aggregate-compose
-slice-aggregate-compose c =
+slice-aggregate-extend : tie.Need-slice-aggregate-extend
+slice-aggregate-extend c =
     let holds =
     built-holds (now (c .before .before .before .before .before .before .before .before .args .sheet)) _ _
     (length-replicate {A = ℕ} mostSequence 0) (c .before .before .before .before .before .build .ensures)
     (c .before .before .answer .given .1) in
     holds .sized
 
-compose-requires : tie.Need-compose-requires
-compose-requires c κs =
+extend-requires : tie.Need-extend-requires
+extend-requires c κs =
     let holds =
     built-holds (now (c .before .before .before .before .before .before .before .before .before .args .sheet)) _ _
     (length-replicate {A = ℕ} mostSequence 0) (c .before .before .before .before .before .before .build .ensures)
     (c .before .before .before .answer .given .1) in
-    (holds .behind, (holds .short, omega (arith, holds .few, holds .sized)))
+    record {
+      low = omega arith;
+      behind = holds .behind;
+      short = holds .short;
+      few = omega (arith, holds .few, holds .sized);
+    }
 
 enum-known-answer-2 : tie.Need-enum-known-answer-2
 enum-known-answer-2 c = search needs
@@ -62,7 +67,7 @@ returns c =
     let answer = c .before .before .before .before .answer .given .1 in
     let holds = built-holds s _ _ (length-replicate {A = ℕ} mostSequence 0) build answer in
     writes-output _ (built-clear s (answer-is (length-replicate {A = ℕ} mostSequence 0) build answer))
-    (prints-same (ap (λ (l : List ℕ). withSequence s l) (sym (holds .built))) (c .compose .ensures))
+    (prints-same (ap (λ (l : List ℕ). extended 2 s l) (sym (holds .built))) (prints-line _ (c .extend .ensures .0)))
 
 returns-2 : tie.Need-returns-2
 returns-2 c =
@@ -80,8 +85,8 @@ build-sheet-spec =
     build-requires
     enum-known-answer
     array-share-prefix-sequence
-    slice-aggregate-compose
-    compose-requires
+    slice-aggregate-extend
+    extend-requires
     enum-known-answer-2
     refused-requires
     returns
