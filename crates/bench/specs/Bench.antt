@@ -4,12 +4,12 @@
 use Prim.Native.Nat.{ℕ}
 use mathlib.Core.List.{List}
 use Rattle.report.specs.Output.{Output}
-use Rattle.report.specs.Services.{judged, certified, built, recordRead, houseWritten, helped, mistaken}
+use Rattle.report.specs.Services.{judged, certified, searched, built, recordRead, houseWritten, helped, mistaken}
 use Rattle.report.specs.Dialogue.{begun}
 use Rattle.bench.specs.declared.words.Service.{Service}
 use Rattle.bench.specs.declared.words.Service.the-variants.{Wrong, OnSheet, House, Help}
 use Rattle.bench.specs.declared.words.SheetService.{SheetService}
-use Rattle.bench.specs.declared.words.SheetService.the-variants.{Judge, Certify, Build, Read, Desk}
+use Rattle.bench.specs.declared.words.SheetService.the-variants.{Judge, Certify, Word, Build, Read, Desk}
 use Rattle.bench.specs.declared.words.Source.{Source}
 use Rattle.bench.specs.declared.words.Source.the-variants.{Nothing, Standard, File}
 use Rattle.bench.specs.Words.{serviceOf}
@@ -20,6 +20,7 @@ pub mod Input
 abbrev pub sheetOutput : SheetService → List ℕ → Output
 sheetOutput Judge s = judged s
 sheetOutput Certify s = certified s
+sheetOutput Word s = searched s
 sheetOutput Build s = built s
 sheetOutput (Read kind) s = recordRead kind s
 sheetOutput Desk s = begun s
@@ -35,6 +36,7 @@ output Help s = helped
 abbrev pub sheetFrom : SheetService → Source
 sheetFrom Judge = Standard
 sheetFrom Certify = Standard
+sheetFrom Word = Standard
 sheetFrom Build = Standard
 sheetFrom (Read kind) = Standard
 sheetFrom Desk = File

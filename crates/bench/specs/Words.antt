@@ -13,7 +13,7 @@ use Rattle.bench.specs.declared.words.Lookup.{Lookup}
 use Rattle.bench.specs.declared.words.Lookup.the-variants.{Found, Nothing}
 use Rattle.bench.specs.declared.words.Service.{Service}
 use Rattle.bench.specs.declared.words.Service.the-variants.{Wrong, OnSheet, House, Help}
-use Rattle.bench.specs.declared.words.SheetService.the-variants.{Judge, Certify, Build, Read, Desk}
+use Rattle.bench.specs.declared.words.SheetService.the-variants.{Judge, Certify, Word, Build, Read, Desk}
 pub mod Laws
 
 -- ---- one argument
@@ -72,6 +72,7 @@ services =
     []
     and row "judge" 0 (always (OnSheet Judge))
     and row "certify" 0 (always (OnSheet Certify))
+    and row "word" 0 (always (OnSheet Word))
     and row "build" 0 (always (OnSheet Build))
     and row "read" 1 kindOf
     and row "desk" 1 deskOf

@@ -19,6 +19,7 @@ use report::house_sheet;
 use report::judge_sheet;
 use report::read_record;
 use report::tell;
+use report::word_sheet;
 
 fn sheet_from(service: SheetService) -> Source
     ensures { λ r. ⌜ r ≡ sheetFrom service ⌝ }
@@ -26,6 +27,7 @@ fn sheet_from(service: SheetService) -> Source
     match service {
         SheetService::Judge => Source::Standard,
         SheetService::Certify => Source::Standard,
+        SheetService::Word => Source::Standard,
         SheetService::Build => Source::Standard,
         SheetService::Read { kind: _ } => Source::Standard,
         SheetService::Desk => Source::File,
@@ -65,6 +67,7 @@ fn perform_on_sheet(service: SheetService, sheet: &[u8], out: &mut [u8; OUTPUT])
     match service {
         SheetService::Judge => judge_sheet(sheet, out),
         SheetService::Certify => certify_sheet(sheet, out),
+        SheetService::Word => word_sheet(sheet, out),
         SheetService::Build => build_sheet(sheet, out),
         SheetService::Read { kind } => read_record(sheet, kind, out),
         SheetService::Desk => begun(sheet, out),

@@ -21,6 +21,7 @@ const KIND: u16 = 65_535;
 pub enum SheetService {
     Judge,
     Certify,
+    Word,
     Build,
     Read { kind: u16 },
     Desk,
@@ -121,13 +122,14 @@ fn named(first: &[u8], second: &[u8]) -> Lookup
         Lookup::Nothing,
     );
     let b = found_or(first, b"certify", 0, on_sheet(SheetService::Certify), a);
-    let c = found_or(first, b"build", 0, on_sheet(SheetService::Build), b);
-    let d = found_or(first, b"read", 1, kind_of(second), c);
-    let e = found_or(first, b"desk", 1, desk_of(second), d);
-    let f = found_or(first, b"house", 0, Service::House, e);
-    let g = found_or(first, b"help", 0, Service::Help, f);
-    let h = found_or(first, b"--help", 0, Service::Help, g);
-    found_or(first, b"-h", 0, Service::Help, h)
+    let c = found_or(first, b"word", 0, on_sheet(SheetService::Word), b);
+    let d = found_or(first, b"build", 0, on_sheet(SheetService::Build), c);
+    let e = found_or(first, b"read", 1, kind_of(second), d);
+    let f = found_or(first, b"desk", 1, desk_of(second), e);
+    let g = found_or(first, b"house", 0, Service::House, f);
+    let h = found_or(first, b"help", 0, Service::Help, g);
+    let i = found_or(first, b"--help", 0, Service::Help, h);
+    found_or(first, b"-h", 0, Service::Help, i)
 }
 
 // The service, where as many words stand behind its name as it takes.

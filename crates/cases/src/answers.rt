@@ -12,6 +12,8 @@ use judge::Answer as Judgement;
 use machine::Entry;
 use machine::Limits;
 use sheet::Check;
+use word::Answer as Search;
+use word::Searched;
 
 // A buffer, or what reading gave, behind its bar.
 pub(crate) fn buffer(part: &[u8], out: &mut [u8], used: usize) -> usize {
@@ -107,6 +109,22 @@ pub(crate) fn ordered(order: Order, out: &mut [u8], used: usize) -> usize {
         Order::Command { command } => labelled(b" command ", command as usize, out, used),
         Order::Home { after } => labelled(b" home after ", after as usize, out, used),
         Order::Stranger { at } => labelled(b" stranger at ", at as usize, out, used),
+    }
+}
+
+fn found(length: usize, word: &[u8], out: &mut [u8], used: usize) -> usize {
+    let at = text(b"word ", out, used);
+    bytes(front(word, length), out, at)
+}
+
+// What the search for a word gave.
+pub(crate) fn sought(s: Searched, out: &mut [u8], used: usize) -> usize {
+    let answer = s.answer;
+    let word = s.word;
+    match answer {
+        Search::Found { length } => found(length, &word, out, used),
+        Search::Nothing => text(b"none", out, used),
+        Search::Refused { number, place } => refused(number, place, out, used),
     }
 }
 

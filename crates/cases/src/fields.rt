@@ -63,6 +63,19 @@ fn divided_part(line: &[u8], f: Filled, parts: &mut [u8]) -> Filled {
     Filled { cursor, used }
 }
 
+// A sheet.
+pub(crate) fn one_sheet(line: &[u8], c: Cursor, parts: &mut [u8]) -> Fields {
+    let filled = only_part(line, c, parts);
+    let cursor = filled.cursor;
+    Fields {
+        first: 0,
+        second: 0,
+        sheet: filled.used,
+        size: filled.used,
+        cursor,
+    }
+}
+
 // A number and a sheet.
 pub(crate) fn number_and_sheet(line: &[u8], c: Cursor, most: u32, parts: &mut [u8]) -> Fields {
     let n = spaced(line, c, most);

@@ -8,6 +8,7 @@ pub enum Service {
     Part,
     Transfer,
     Desk,
+    Word,
     House,
     Limits,
 }
@@ -57,6 +58,7 @@ pub(crate) fn named(line: &[u8]) -> Found {
     let e = named_or(line, b"part ", Service::Part, d);
     let f = named_or(line, b"transfer ", Service::Transfer, e);
     let g = named_or(line, b"desk ", Service::Desk, f);
-    let h = named_or(line, b"house ", Service::House, g);
-    named_or(line, b"limits", Service::Limits, h)
+    let h = named_or(line, b"word ", Service::Word, g);
+    let i = named_or(line, b"house ", Service::House, h);
+    named_or(line, b"limits", Service::Limits, i)
 }

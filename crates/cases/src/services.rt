@@ -9,6 +9,7 @@ use crate::answers::handed;
 use crate::answers::judged;
 use crate::answers::limits;
 use crate::answers::ordered;
+use crate::answers::sought;
 use crate::answers::transferred;
 use crate::buffers::behind;
 use crate::buffers::fill;
@@ -18,6 +19,7 @@ use crate::fields::Fields;
 use crate::fields::bytes_and_sheet;
 use crate::fields::no_fields;
 use crate::fields::number_and_sheet;
+use crate::fields::one_sheet;
 use crate::fields::sheet_and_part;
 use crate::fields::two_bytes;
 use crate::names::Service;
@@ -43,6 +45,7 @@ use sheet::Needs;
 use sheet::part_of;
 use sheet::read;
 use sheet::refusal;
+use word::find_word;
 
 // What every byte of a buffer is before it is lent.
 const BEFORE: u8 = 238;
@@ -61,6 +64,7 @@ fn read_fields(line: &[u8], service: Service, at: usize, room: u32, parts: &mut 
         Service::Refusal | Service::Part => number_and_sheet(line, c, KIND, parts),
         Service::Transfer => bytes_and_sheet(line, c, parts),
         Service::Desk => sheet_and_part(line, c, parts),
+        Service::Word => one_sheet(line, c, parts),
         Service::House => two_bytes(line, c),
         Service::Limits => no_fields(line, c),
     }
@@ -168,6 +172,7 @@ fn perform(
         Service::Part => part_case(sheet, kind, out, used),
         Service::Transfer => transfer_case(sheet, a, b, out, used),
         Service::Desk => desk_case(sheet, answers, out, used),
+        Service::Word => sought(find_word(sheet), out, used),
         Service::House => entry(house_entry(a, b), out, used),
         Service::Limits => limits(Machine::limits(), out, used),
     }

@@ -1,4 +1,4 @@
--- Lists of numbers: whether two are equal, and lists whose elements are all below a bound.
+-- Lists of numbers: whether two are equal, lists whose elements are all below a bound, and a property of each element.
 use Prim.Native.Nat.{ℕ, zero, suc, _+_, _<_}
 use mathlib.Core.Path.{_≡_, refl, ap₂}
 use mathlib.Core.Bool.{Bool, true, false, _&&_}
@@ -57,3 +57,19 @@ low-take k n u h i l = let m = simp length-take at l in rw (getD-take n u i 0 (o
 
 pub low-drop : (k n : ℕ) (u : List ℕ) → Below k u → Below k (drop n u)
 low-drop k n u h i l = let m = simp length-drop at l in rw (getD-drop n u i 0) (h (n + i) (omega arith))
+
+-- ---- each element of a list
+-- each has a property
+abbrev pub Each : (ℕ → Type 0) → List ℕ → Type 0
+Each P [] = Unit {0}
+Each P (x ∷ xs) = P x × Each P xs
+
+module _ (P : ℕ → Type 0) where
+  -- of two lists one behind the other
+  pub each-append : (xs ys : List ℕ) → Each P xs → Each P ys → Each P (xs ++ ys)
+  each-append [] ys h k = k
+  each-append (x ∷ xs) ys h k = (h .0, each-append xs ys (h .1) k)
+
+  pub append-each : (xs ys : List ℕ) → Each P (xs ++ ys) → Each P xs × Each P ys
+  append-each [] ys h = (tt, h)
+  append-each (x ∷ xs) ys h = let r = append-each xs ys (h .1) in ((h .0, r .0), r .1)

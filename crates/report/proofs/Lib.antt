@@ -2,3 +2,4 @@ mod Conversing
 mod Making
 mod Putting
 mod Reading
+mod Listing

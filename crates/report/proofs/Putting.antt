@@ -19,7 +19,7 @@ use Rattle.report.specs.Printing.{Prints}
 pub puts-none : (before : List ℕ) (at : ℕ) → at ≤ length before → Puts before at [] before at
 puts-none before at l = record { ends = omega arith; inside = l; written = paste-zero before at [] }
 
-puts-long : {before : List ℕ} {at : ℕ} (xs : List ℕ) {after : List ℕ} {end : ℕ} → Puts before at xs after end
+pub puts-long : {before : List ℕ} {at : ℕ} (xs : List ℕ) {after : List ℕ} {end : ℕ} → Puts before at xs after end
     → length after ≡ length before
 puts-long {before} {at} xs h =
     ap length (h .written) ∙ length-paste before at xs (length xs) (omega (arith, h .ends, h .inside)) (omega arith)

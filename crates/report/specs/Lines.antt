@@ -1,4 +1,5 @@
--- The lines that the bench prints, to the byte (§8.1): those of judging, of certifying, of the desk and of a refusal.
+-- The lines that the bench prints, to the byte (§8.1): those of judging, of certifying, of the desk, of the search for
+-- a word and of a refusal.
 use Prim.Native.Nat.{ℕ}
 use Prim.Native.String.{String}
 use mathlib.Core.List.{List, [], _∷_, _++_}
@@ -35,6 +36,11 @@ numberedLine text n = (text ++ decimal n) ++ newline
 
 abbrev pub longestLabel : ℕ
 longestLabel = 12
+
+-- numbers, each with a space before it
+unfoldable pub listed : List ℕ → List ℕ
+listed [] = []
+listed (n ∷ ns) = labelled " " n ++ listed ns
 
 -- ---- the lines
 -- `REFUSED 6 at 1 word does not separate`: number, place and phrase; without a phrase the line ends after the place
@@ -74,6 +80,14 @@ abbrev pub certifyLine : Certification → List ℕ
 certifyLine (Certified recognised) = certifiedLine recognised
 certifyLine (Open recognised number) = openLine recognised number
 certifyLine (RefusedCertification number place) = refusalLine number place
+
+-- `WORD 0 1`: the commands of the word that was found
+unfoldable pub wordLine : List ℕ → List ℕ
+wordLine w = (bytes "WORD" ++ listed w) ++ newline
+
+-- `NONE of 1 to 6 commands`: there is no eligible word (§14.1)
+unfoldable pub noneLine : List ℕ
+noneLine = bytes "NONE of 1 to 6 commands" ++ newline
 
 -- `COMMAND 0`: the command to be sent
 unfoldable pub commandLine : ℕ → List ℕ

@@ -25,11 +25,14 @@ onOutput xs = record { out = xs; err = [] }
 abbrev pub onError : List ℕ → Output
 onError xs = record { out = []; err = xs }
 
--- a service whose result is bytes (§8.2): these to standard output or, where something is refused, the refusal's line
--- to standard error
+-- a service that tells a refusal on standard error (§8.2): its line there, and else what is written
+abbrev pub outputUnless : Check → Output → Output
+outputUnless Clear o = o
+outputUnless (Refused number place) o = onError (refusalLine number place)
+
+-- one whose result is bytes: these to standard output
 abbrev pub bytesUnless : Check → List ℕ → Output
-bytesUnless Clear xs = onOutput xs
-bytesUnless (Refused number place) xs = onError (refusalLine number place)
+bytesUnless c xs = outputUnless c (onOutput xs)
 
 -- the lent buffer: at its start the bytes for standard output, after them those for standard error, every later byte as
 -- it was (§4.3); and where each of the two ends, which is within the buffer

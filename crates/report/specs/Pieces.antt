@@ -7,6 +7,8 @@ use lib.Seq.{paste}
 use Rattle.sheet.specs.Format.{longest, end}
 use Rattle.sheet.specs.Reader.{recordOf}
 use Rattle.machine.specs.Limits.{mostSequence}
+use Rattle.word.specs.Search.{mostSought}
+use Rattle.report.specs.Digits.{mostDigits}
 
 -- bytes put at a place of a buffer, all else as it was, with the place behind them
 pub record Puts (before : List ℕ) (at : ℕ) (xs after : List ℕ) (end : ℕ) : Type 0 where
@@ -14,9 +16,18 @@ pub record Puts (before : List ℕ) (at : ℕ) (xs after : List ℕ) (end : ℕ)
   pub inside : end ≤ length before
   pub written : after ≡ paste before at xs (length xs)
 
+-- the bytes of room for a number of a list: a space and its digits
+abbrev pub listRoom : ℕ
+listRoom = mostDigits + 1
+
 -- what adding a record to a sheet needs: the records in front of it lie within the sheet, and all of it has room
 pub record ExtendRequires (kind : ℕ) (s xs : List ℕ) : Type 0 where
   pub low : kind < 65535
   pub behind : end (recordOf kind s) ≤ length s
   pub short : length s ≤ longest
   pub few : length xs ≤ mostSequence
+
+-- and a word with its line: the word is no longer than one that is sought
+pub record WordRequires (s w : List ℕ) : Type 0 where
+  pub extends : ExtendRequires 1 s w
+  pub few : length w ≤ mostSought

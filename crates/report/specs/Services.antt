@@ -1,17 +1,21 @@
 -- What each service of the bench writes to which stream (§8.2), by the bytes of its sheet. Laws stand in Services.Laws.
 use Prim.Native.Nat.{ℕ, _+_}
 use mathlib.Core.List.{List}
+use mathlib.Core.Option.{Option, none, some}
 use Rattle.sheet.specs.Check.{firstCause}
 use Rattle.sheet.specs.Reader.{refusalOf, content}
 use Rattle.machine.specs.Limits.{mostSequence}
+use Rattle.machine.specs.Causes.{machineIn}
+use Rattle.word.specs.Search.{search}
+use Rattle.word.specs.Service.{searchCauses}
 use Rattle.certify.specs.Certification.{certification}
 use Rattle.build.specs.Building.{buildCauses}
 use Rattle.judge.specs.Judging.{judgement}
 use Rattle.report.specs.declared.words.Mistake.{Mistake}
-use Rattle.report.specs.Lines.{judgeLine, certifyLine}
+use Rattle.report.specs.Lines.{judgeLine, certifyLine, wordLine, noneLine}
 use Rattle.report.specs.Words.{helpText, mistakeLine}
-use Rattle.report.specs.Sheets.{builtSheet, houseSheet}
-use Rattle.report.specs.Output.{Output, onOutput, onError, bytesUnless}
+use Rattle.report.specs.Sheets.{wordSheet, builtSheet, houseSheet}
+use Rattle.report.specs.Output.{Output, onOutput, onError, outputUnless, bytesUnless}
 pub mod Laws
 
 -- ---- services whose result is a line, which also tells a refusal
@@ -24,6 +28,15 @@ unfoldable pub certified : List ℕ → Output
 certified s = onOutput (certifyLine (certification (mostSequence + 1) s))
 
 -- ---- services whose result is bytes
+-- what is written of a word that was found: the sheet with it, and its line on standard error; of none that line alone
+abbrev pub foundOutput : List ℕ → Option (List ℕ) → Output
+foundOutput s none = onError noneLine
+foundOutput s (some w) = record { out = wordSheet s w; err = wordLine w }
+
+-- `bench word`
+unfoldable pub searched : List ℕ → Output
+searched s = outputUnless (firstCause (searchCauses s)) (foundOutput s (search (machineIn s)))
+
 -- the sheet with the built sequence, with room for every sequence
 unfoldable pub built : List ℕ → Output
 built s = bytesUnless (firstCause (buildCauses mostSequence s)) (builtSheet s)

@@ -1,5 +1,6 @@
--- The sheets that `bench build` and `bench house` write (§8.2). Sheets.Certified shows that the first carries the built
--- sequence and is certified, Sheets.House what the second carries; how the first is parsed, sheet's Writing.Reading.
+-- The sheets that `bench word`, `bench build` and `bench house` write (§8.2). Sheets.Found shows what the first carries
+-- and that building takes it, Sheets.Certified that the second carries the built sequence and is certified,
+-- Sheets.House what the third carries; how the first two are parsed, sheet's Writing.Reading.
 use Prim.Native.Nat.{ℕ, _+_}
 use mathlib.Core.List.{List, _++_}
 use lib.ListN.{take}
@@ -10,6 +11,7 @@ use Rattle.machine.specs.Causes.{machineIn}
 use Rattle.machine.specs.House.{housePayload, houseWord}
 use Rattle.build.specs.Sequence.{sequence}
 pub mod Extended
+pub mod Found
 pub mod Certified
 pub mod House
 
@@ -17,6 +19,10 @@ pub mod House
 -- payload as the record of the next kind (§8.2)
 unfoldable pub extended : ℕ → List ℕ → List ℕ → List ℕ
 extended kind s xs = take (end (recordOf kind s)) s ++ recordBytes (kind + 1) xs
+
+-- the sheet that `bench word` writes (§8.2): record 1 as it is, and the word that was found as record 2
+abbrev pub wordSheet : List ℕ → List ℕ → List ℕ
+wordSheet s w = extended 1 s w
 
 -- the sheet that `bench build` writes (§8.2): records 1 and 2 as they are, and the built sequence as record 3
 abbrev pub builtSheet : List ℕ → List ℕ

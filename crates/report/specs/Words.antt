@@ -10,6 +10,7 @@ unfoldable pub helpText : List ℕ
 helpText =
     bytes "bench, bench judge      judge the sheet on standard input: PASS, WRONG, UNFINISHED or REFUSED\n"
     ++ bytes "bench certify           certify the sequence of the sheet on standard input: CERTIFIED, OPEN or REFUSED\n"
+    ++ bytes "bench word              find a separating word for the machine of the sheet on standard input: the sheet with it as record 2; WORD, NONE or REFUSED on standard error\n"
     ++ bytes "bench build             build the sequence of the sheet on standard input: the sheet with it as record 3\n"
     ++ bytes "bench read KIND         read the sheet on standard input: the payload of record 1 machine, 2 word, 3 sequence, 4 answers\n"
     ++ bytes "bench desk SHEET        bring a unit to its start by the sheet in that file: COMMAND, answers on standard input, HOME or STRANGER\n"

@@ -25,6 +25,7 @@ pub use services::judge_sheet;
 pub use services::read_record;
 pub use sheets::build_sheet;
 pub use sheets::house_sheet;
+pub use sheets::word_sheet;
 pub use words::Mistake;
 pub use words::help;
 pub use words::tell;

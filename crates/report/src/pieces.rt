@@ -1,5 +1,5 @@
 // The pieces of a line or a sheet, put into a buffer one behind the other.
-ghost use Prim.Native.Nat.{_+_, _≤_};
+ghost use Prim.Native.Nat.{_+_, _*_, _≤_};
 ghost use mathlib.Core.List.{_++_};
 ghost use lib.ListN.{length};
 ghost use Rattle.facts.specs.Decimal.{decimal};
@@ -7,8 +7,8 @@ ghost use Rattle.sheet.specs.Format.{header};
 ghost use Rattle.sheet.specs.Writing.{recordBytes};
 ghost use Rattle.report.specs.Digits.{mostDigits};
 ghost use Rattle.report.specs.Phrases.{longestPhrase, phrase};
-ghost use Rattle.report.specs.Lines.{spaced};
-ghost use Rattle.report.specs.Pieces.{Puts};
+ghost use Rattle.report.specs.Lines.{labelled, spaced, listed};
+ghost use Rattle.report.specs.Pieces.{listRoom, Puts};
 use crate::phrases::phrase_of;
 use sheet::header_of;
 
@@ -41,6 +41,30 @@ pub fn put_labelled(text: &[u8], n: u64, at: usize, out: &mut [u8]) -> usize
 {
     let next = put(text, at, out);
     put_decimal(n, next, out)
+}
+
+// A space, then a number.
+fn put_spaced(n: u8, at: usize, out: &mut [u8]) -> usize
+    requires { ⌜ at + listRoom ≤ length (now out) ⌝ }
+    ensures { λ r. ⌜ Puts (now (out .entry)) at (labelled " " n) (now (out .exit)) r ⌝ }
+    ensures { λ r. ⌜ r ≤ at + listRoom ⌝ }
+{
+    put_labelled(b" ", n as u64, at, out)
+}
+
+// Numbers, each with a space before it.
+pub fn put_list(numbers: &[u8], at: usize, out: &mut [u8]) -> usize
+    requires { ⌜ at + listRoom * length (now numbers) ≤ length (now out) ⌝ }
+    ensures { λ r. ⌜ Puts (now (out .entry)) at (listed (now (numbers .entry))) (now (out .exit)) r ⌝ }
+    ensures { λ r. ⌜ r ≤ at + listRoom * length (now (numbers .entry)) ⌝ }
+{
+    let mut end = at;
+    let mut i = 0;
+    while i < numbers.len() {
+        end = put_spaced(numbers[i], end, out);
+        i += 1;
+    }
+    end
 }
 
 // A text between two others.

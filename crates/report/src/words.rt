@@ -71,26 +71,31 @@ fn help_text(out: &mut [u8; OUTPUT]) -> usize
         out,
     );
     let c = put(
-        b"bench build             build the sequence of the sheet on standard input: the sheet with it as record 3\n",
+        b"bench word              find a separating word for the machine of the sheet on standard input: the sheet with it as record 2; WORD, NONE or REFUSED on standard error\n",
         b,
         out,
     );
     let d = put(
-        b"bench read KIND         read the sheet on standard input: the payload of record 1 machine, 2 word, 3 sequence, 4 answers\n",
+        b"bench build             build the sequence of the sheet on standard input: the sheet with it as record 3\n",
         c,
         out,
     );
     let e = put(
-        b"bench desk SHEET        bring a unit to its start by the sheet in that file: COMMAND, answers on standard input, HOME or STRANGER\n",
+        b"bench read KIND         read the sheet on standard input: the payload of record 1 machine, 2 word, 3 sequence, 4 answers\n",
         d,
         out,
     );
     let f = put(
-        b"bench house             the house unit's sheet: machine and word\n",
+        b"bench desk SHEET        bring a unit to its start by the sheet in that file: COMMAND, answers on standard input, HOME or STRANGER\n",
         e,
         out,
     );
-    put(b"bench help, --help, -h  these lines\n", f, out)
+    let g = put(
+        b"bench house             the house unit's sheet: machine and word\n",
+        f,
+        out,
+    );
+    put(b"bench help, --help, -h  these lines\n", g, out)
 }
 
 // Lists the services.

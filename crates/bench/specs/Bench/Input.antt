@@ -20,6 +20,8 @@ use Rattle.sheet.specs.Reader.Laws.{refusal-is, checks-are}
 use Rattle.machine.specs.Limits.{mostSequence}
 use Rattle.machine.specs.Causes.{loadCauses}
 use Rattle.machine.specs.Causes.Lists.{machine-causes-are, load-causes-are}
+use Rattle.word.specs.Service.{searchNeeds}
+use Rattle.word.specs.Service.Laws.{search-causes-are}
 use Rattle.certify.specs.Certification.{sequenceNeeds, sequenceCauses}
 use Rattle.certify.specs.Certification.Laws.{sequence-causes-are, certification-refused}
 use Rattle.build.specs.Building.{buildNeeds}
@@ -29,12 +31,12 @@ use Rattle.judge.specs.Judging.Laws.{judge-causes-are, judgement-refused}
 use Rattle.report.specs.Lines.{refusalLine, judgeLine, certifyLine}
 use Rattle.report.specs.Output.{Output, onOutput, onError}
 use Rattle.report.specs.Services.{certified}
-use Rattle.report.specs.Services.Laws.{judged-line, built-refused, read-refused}
+use Rattle.report.specs.Services.Laws.{judged-line, searched-refused, built-refused, read-refused}
 use Rattle.report.specs.Dialogue.Laws.{begun-refused}
 use Rattle.bench.specs.declared.words.Service.{Service}
 use Rattle.bench.specs.declared.words.Service.the-variants.{Wrong, OnSheet, House, Help}
 use Rattle.bench.specs.declared.words.SheetService.{SheetService}
-use Rattle.bench.specs.declared.words.SheetService.the-variants.{Judge, Certify, Build, Read, Desk}
+use Rattle.bench.specs.declared.words.SheetService.the-variants.{Judge, Certify, Word, Build, Read, Desk}
 use Rattle.bench.specs.Words.{serviceOf, wordsOf}
 use Rattle.bench.specs.Words.Laws.{cut, words-are, words-cut}
 use Rattle.bench.specs.Bench.{sheetOutput, output, bench}
@@ -47,6 +49,7 @@ stays d {c} {n} {p} e = ap (λ (x : Check). x else d) e ∙ else-refused n p d
 abbrev long : SheetService → Output
 long Judge = onOutput (refusalLine 1 longest)
 long Certify = onOutput (refusalLine 1 longest)
+long Word = onError (refusalLine 1 longest)
 long Build = onError (refusalLine 1 longest)
 long (Read kind) = onError (refusalLine 1 longest)
 long Desk = onOutput (refusalLine 1 longest)
@@ -72,6 +75,7 @@ module _ (s : List ℕ) (l : longest < length s) where
   output-long Certify =
       ap (λ a. onOutput (certifyLine a))
       (certification-refused (mostSequence + 1) s (sequence-long false (mostSequence + 1)))
+  output-long Word = searched-refused s (sym (search-causes-are s) ∙ load-long searchNeeds)
   output-long Build =
       built-refused s
       (building-refused mostSequence s (refused-early mostSequence s (load-refused s (load-long buildNeeds))))

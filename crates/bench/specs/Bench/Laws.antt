@@ -19,7 +19,7 @@ use Rattle.report.specs.Output.{Output, onOutput, onError}
 use Rattle.report.specs.Services.Laws.{judged-line, mistake-told}
 use Rattle.bench.specs.declared.words.Service.{Service}
 use Rattle.bench.specs.declared.words.Service.the-variants.{Wrong, OnSheet, House, Help}
-use Rattle.bench.specs.declared.words.SheetService.the-variants.{Judge, Certify, Build, Read, Desk}
+use Rattle.bench.specs.declared.words.SheetService.the-variants.{Judge, Certify, Word, Build, Read, Desk}
 use Rattle.bench.specs.Words.{serviceOf}
 use Rattle.bench.specs.declared.words.SheetService.{SheetService}
 use Rattle.bench.specs.declared.words.Source.the-variants.{Nothing}
@@ -29,6 +29,7 @@ use Rattle.bench.specs.Bench.{sheetFrom, output, sourceOf, bench}
 from-somewhere : {A : Type 0} (service : SheetService) → sheetFrom service ≡ Nothing → A
 from-somewhere Judge e = let z : _≡_ {A = ℕ} 0 1 = cc in absurd (omega arith)
 from-somewhere Certify e = let z : _≡_ {A = ℕ} 0 1 = cc in absurd (omega arith)
+from-somewhere Word e = let z : _≡_ {A = ℕ} 0 1 = cc in absurd (omega arith)
 from-somewhere Build e = let z : _≡_ {A = ℕ} 0 1 = cc in absurd (omega arith)
 from-somewhere (Read kind) e = let z : _≡_ {A = ℕ} 0 1 = cc in absurd (omega arith)
 from-somewhere Desk e = let z : _≡_ {A = ℕ} 0 1 = cc in absurd (omega arith)

@@ -1,11 +1,14 @@
 -- The lines that the specification writes out (§8.1), as examples of the definitions.
 use mathlib.Core.Path.{_≡_, refl}
+use mathlib.Core.List.{[], _∷_}
 use Rattle.facts.specs.Decimal.{bytes, decimalWithin, decimal}
 use Rattle.judge.specs.declared.answer.Answer.the-variants.{Pass, Wrong, Unfinished, Refused as RefusedJudgement}
 use Rattle.certify.specs.declared.answer.Answer.the-variants.{Certified, Open, Refused as RefusedCertification}
+use Rattle.desk.specs.declared.desk.Order.the-variants.{Command, Home, Stranger}
 use Rattle.report.specs.Phrases.{phrases, phrase}
 use Rattle.report.specs.Lines.{refusalLine, passLine, wrongLine, unfinishedLine, judgeLine, certifiedLine}
-use Rattle.report.specs.Lines.{openLine, certifyLine}
+use Rattle.report.specs.Lines.{openLine, certifyLine, listed, wordLine, noneLine, commandLine, homeLine}
+use Rattle.report.specs.Lines.{strangerLine, orderLine}
 
 pub pass : judgeLine (Pass 12 0) ≡ bytes "PASS 12 end 0\n"
 unfolding passLine decimal decimalWithin
@@ -39,3 +42,23 @@ open-number = refl
 pub too-long : certifyLine (RefusedCertification 1 40912) ≡ bytes "REFUSED 1 at 40912 sheet cut or too long\n"
 unfolding refusalLine phrase phrases decimal decimalWithin
 too-long = refl
+
+pub word-found : wordLine (0 ∷ 1 ∷ []) ≡ bytes "WORD 0 1\n"
+unfolding wordLine listed decimal decimalWithin
+word-found = refl
+
+pub no-word : noneLine ≡ bytes "NONE of 1 to 6 commands\n"
+unfolding noneLine
+no-word = refl
+
+pub command-ordered : orderLine (Command 0) ≡ bytes "COMMAND 0\n"
+unfolding commandLine decimal decimalWithin
+command-ordered = refl
+
+pub home-told : orderLine (Home 7) ≡ bytes "HOME after 7\n"
+unfolding homeLine decimal decimalWithin
+home-told = refl
+
+pub stranger-told : orderLine (Stranger 3) ≡ bytes "STRANGER at 3\n"
+unfolding strangerLine decimal decimalWithin
+stranger-told = refl

@@ -24,6 +24,12 @@ certify-sheet-requires c κs = search needs
 enum-told-3 : tie.Need-enum-told-3
 enum-told-3 c = search needs
 
+word-sheet-requires : tie.Need-word-sheet-requires
+word-sheet-requires c κs = search needs
+
+enum-told-4 : tie.Need-enum-told-4
+enum-told-4 c = search needs
+
 build-sheet-requires : tie.Need-build-sheet-requires
 build-sheet-requires c κs = search needs
 
@@ -33,8 +39,8 @@ enum-known-service c = search needs
 read-record-requires : tie.Need-read-record-requires
 read-record-requires c κs = search needs
 
-enum-told-4 : tie.Need-enum-told-4
-enum-told-4 c = search needs
+enum-told-5 : tie.Need-enum-told-5
+enum-told-5 c = search needs
 
 begun-requires : tie.Need-begun-requires
 begun-requires c κs = search needs
@@ -54,20 +60,26 @@ returns-2 c =
 returns-3 : tie.Need-returns-3
 returns-3 c =
     let sheet = now (c .before .before .before .before .before .args .sheet) in
-    writes-same (c .build-sheet .ensures)
+    writes-same (c .word-sheet .ensures)
     (ap (λ (service : SheetService). sheetOutput service sheet) (c .before .before .enum-told3 .given .1))
 
 returns-4 : tie.Need-returns-4
 returns-4 c =
+    let sheet = now (c .before .before .before .before .before .args .sheet) in
+    writes-same (c .build-sheet .ensures)
+    (ap (λ (service : SheetService). sheetOutput service sheet) (c .before .before .enum-told4 .given .1))
+
+returns-5 : tie.Need-returns-5
+returns-5 c =
     let sheet = now (c .before .before .before .before .before .before .args .sheet) in
     writes-same (c .read-record .ensures)
     (ap (λ (service : SheetService). sheetOutput service sheet) (c .before .before .before .service .given .1))
 
-returns-5 : tie.Need-returns-5
-returns-5 c =
+returns-6 : tie.Need-returns-6
+returns-6 c =
     let sheet = now (c .before .before .before .before .before .args .sheet) in
     writes-same (c .begun .ensures)
-    (ap (λ (service : SheetService). sheetOutput service sheet) (c .before .before .enum-told4 .given .1))
+    (ap (λ (service : SheetService). sheetOutput service sheet) (c .before .before .enum-told5 .given .1))
 
 pub perform-on-sheet-spec : {M : Type 1} → statement M
 perform-on-sheet-spec =
@@ -78,13 +90,16 @@ perform-on-sheet-spec =
     enum-told-2
     certify-sheet-requires
     enum-told-3
+    word-sheet-requires
+    enum-told-4
     build-sheet-requires
     enum-known-service
     read-record-requires
-    enum-told-4
+    enum-told-5
     begun-requires
     returns
     returns-2
     returns-3
     returns-4
-    returns-5)
+    returns-5
+    returns-6)

@@ -37,8 +37,8 @@ found-or-requires-3 c κs = search needs
 slice-aggregate-found-or-4 : tie.Need-slice-aggregate-found-or-4
 slice-aggregate-found-or-4 c = search needs
 
-kind-of-requires : tie.Need-kind-of-requires
-kind-of-requires c κs = search needs
+on-sheet-requires-4 : tie.Need-on-sheet-requires-4
+on-sheet-requires-4 c κs = search needs
 
 found-or-requires-4 : tie.Need-found-or-requires-4
 found-or-requires-4 c κs = search needs
@@ -46,14 +46,17 @@ found-or-requires-4 c κs = search needs
 slice-aggregate-found-or-5 : tie.Need-slice-aggregate-found-or-5
 slice-aggregate-found-or-5 c = search needs
 
-desk-of-requires : tie.Need-desk-of-requires
-desk-of-requires c κs = search needs
+kind-of-requires : tie.Need-kind-of-requires
+kind-of-requires c κs = search needs
 
 found-or-requires-5 : tie.Need-found-or-requires-5
 found-or-requires-5 c κs = search needs
 
 slice-aggregate-found-or-6 : tie.Need-slice-aggregate-found-or-6
 slice-aggregate-found-or-6 c = search needs
+
+desk-of-requires : tie.Need-desk-of-requires
+desk-of-requires c κs = search needs
 
 found-or-requires-6 : tie.Need-found-or-requires-6
 found-or-requires-6 c κs = search needs
@@ -76,26 +79,34 @@ slice-aggregate-found-or-9 c = search needs
 found-or-requires-9 : tie.Need-found-or-requires-9
 found-or-requires-9 c κs = search needs
 
+slice-aggregate-found-or-10 : tie.Need-slice-aggregate-found-or-10
+slice-aggregate-found-or-10 c = search needs
+
+found-or-requires-10 : tie.Need-found-or-requires-10
+found-or-requires-10 c κs = search needs
+
 returns : tie.Need-returns
 unfolding named services
 returns c =
-    let r8 = c .before .before in
+    let r9 = c .before .before in
+    let r8 = r9 .before .before in
     let r7 = r8 .before .before in
     let r6 = r7 .before .before in
-    let r5 = r6 .before .before in
+    let r5 = r6 .before .before .before in
     let r4 = r5 .before .before .before in
     let r3 = r4 .before .before .before in
     let r2 = r3 .before .before .before in
     let r1 = r2 .before .before .before in
-    row-on _ _ _ (c .found-or9 .ensures) refl
+    row-on _ _ _ (c .found-or10 .ensures) refl
+    (row-on _ _ _ (r9 .found-or9 .ensures) refl
     (row-on _ _ _ (r8 .found-or8 .ensures) refl
     (row-on _ _ _ (r7 .found-or7 .ensures) refl
-    (row-on _ _ _ (r6 .found-or6 .ensures) refl
-    (row-on _ _ _ (r5 .found-or5 .ensures) (r5 .before .desk-of .ensures)
-    (row-on _ _ _ (r4 .found-or4 .ensures) (r4 .before .kind-of .ensures)
+    (row-on _ _ _ (r6 .found-or6 .ensures) (r6 .before .desk-of .ensures)
+    (row-on _ _ _ (r5 .found-or5 .ensures) (r5 .before .kind-of .ensures)
+    (row-on _ _ _ (r4 .found-or4 .ensures) (r4 .before .on-sheet4 .ensures)
     (row-on _ _ _ (r3 .found-or3 .ensures) (r3 .before .on-sheet3 .ensures)
     (row-on _ _ _ (r2 .found-or2 .ensures) (r2 .before .on-sheet2 .ensures)
-    (row-on _ _ _ (r1 .found-or .ensures) (r1 .before .on-sheet .ensures) refl))))))))
+    (row-on _ _ _ (r1 .found-or .ensures) (r1 .before .on-sheet .ensures) refl)))))))))
 
 pub named-spec : {M : Type 1} → statement M
 named-spec =
@@ -111,12 +122,13 @@ named-spec =
     on-sheet-requires-3
     found-or-requires-3
     slice-aggregate-found-or-4
-    kind-of-requires
+    on-sheet-requires-4
     found-or-requires-4
     slice-aggregate-found-or-5
-    desk-of-requires
+    kind-of-requires
     found-or-requires-5
     slice-aggregate-found-or-6
+    desk-of-requires
     found-or-requires-6
     slice-aggregate-found-or-7
     found-or-requires-7
@@ -124,4 +136,6 @@ named-spec =
     found-or-requires-8
     slice-aggregate-found-or-9
     found-or-requires-9
+    slice-aggregate-found-or-10
+    found-or-requires-10
     returns)

@@ -3,6 +3,7 @@
 use Rattle.report.specs.Words.{helpText}
 use Rattle.report.proofs.Putting.{puts-append, prints-line}
 use borrow.Author.Needs.{needs}
+use native.Mathlib.Omega.{arith}
 use Rattle.report.proofs.words.help_text.Statement.{statement}
 use Rattle.report.proofs.words.help_text.Tie as tie
 
@@ -48,10 +49,34 @@ slice-aggregate-put-7 c = search needs
 put-requires-7 : tie.Need-put-requires-7
 put-requires-7 c κs = search needs
 
+slice-aggregate-put-8 : tie.Need-slice-aggregate-put-8
+slice-aggregate-put-8 c = search needs
+
+put-requires-8 : tie.Need-put-requires-8
+put-requires-8 c κs =
+    let p7 = c .before .before in
+    let p6 = p7 .before .before .before in
+    let p5 = p6 .before .before .before in
+    let p4 = p5 .before .before .before in
+    let p3 = p4 .before .before .before in
+    let p2 = p3 .before .before .before in
+    let p1 = p2 .before .before .before in
+    omega (
+      arith,
+      p1 .put .ensures .ends,
+      p2 .put2 .ensures .ends,
+      p3 .put3 .ensures .ends,
+      p4 .put4 .ensures .ends,
+      p5 .put5 .ensures .ends,
+      p6 .put6 .ensures .ends,
+      p7 .put7 .ensures .ends,
+    )
+
 returns : tie.Need-returns
 unfolding helpText
 returns c =
-    let p6 = c .before .before .before in
+    let p7 = c .before .before .before in
+    let p6 = p7 .before .before .before in
     let p5 = p6 .before .before .before in
     let p4 = p5 .before .before .before in
     let p3 = p4 .before .before .before in
@@ -62,12 +87,14 @@ returns c =
     (puts-append _ _
     (puts-append _ _
     (puts-append _ _
+    (puts-append _ _
     (puts-append _ _ (p2 .before .before .before .put .ensures) (p2 .put2 .ensures))
     (p3 .put3 .ensures))
     (p4 .put4 .ensures))
     (p5 .put5 .ensures))
     (p6 .put6 .ensures))
-    (c .put7 .ensures))
+    (p7 .put7 .ensures))
+    (c .put8 .ensures))
 
 pub help-text-spec : {M : Type 1} → statement M
 help-text-spec =
@@ -87,4 +114,6 @@ help-text-spec =
     put-requires-6
     slice-aggregate-put-7
     put-requires-7
+    slice-aggregate-put-8
+    put-requires-8
     returns)

@@ -1,0 +1,83 @@
+-- `report::sheets::word_sheet` meets its contract: the sheet and the line where a word was found, else a line alone.
+-- Assumes nothing.
+use denote.Ref.{now}
+use Rattle.report.specs.Output.Laws.{writes-same}
+use Rattle.report.proofs.Listing.{searched-output, found-holds}
+use borrow.Author.Needs.{needs}
+use Rattle.report.proofs.sheets.word_sheet.Statement.{statement}
+use Rattle.report.proofs.sheets.word_sheet.Tie as tie
+
+find-word-requires : tie.Need-find-word-requires
+find-word-requires c κs = search needs
+
+enum-known-answer : tie.Need-enum-known-answer
+enum-known-answer c = search needs
+
+array-share-prefix-word : tie.Need-array-share-prefix-word
+array-share-prefix-word c =
+    let find = c .before .before .before .before in
+    found-holds (now (find .before .before .args .sheet)) (find .find-word .ensures)
+    (c .before .answer .given .1) .inside
+
+slice-aggregate-with-word : tie.Need-slice-aggregate-with-word
+slice-aggregate-with-word c =
+    let find = c .before .before .before .before .before in
+    found-holds (now (find .before .before .args .sheet)) (find .find-word .ensures)
+    (c .before .before .answer .given .1)
+    .sized
+
+with-word-requires : tie.Need-with-word-requires
+with-word-requires c κs =
+    let find = c .before .before .before .before .before .before in
+    found-holds (now (find .before .before .args .sheet)) (find .find-word .ensures)
+    (c .before .before .before .answer .given .1) .required
+
+enum-told : tie.Need-enum-told
+enum-told c = search needs
+
+without-word-requires : tie.Need-without-word-requires
+without-word-requires c κs = search needs
+
+enum-known-answer-2 : tie.Need-enum-known-answer-2
+enum-known-answer-2 c = search needs
+
+refused-requires : tie.Need-refused-requires
+refused-requires c κs = search needs
+
+returns : tie.Need-returns
+returns c =
+    let find = c .before .before .before .before .before .before .before in
+    writes-same (c .with-word .ensures)
+    (searched-output (now (find .before .before .args .sheet)) (find .find-word .ensures)
+    (c .before .before .before .before .answer .given .1))
+
+returns-2 : tie.Need-returns-2
+returns-2 c =
+    let find = c .before .before .before .before .before in
+    writes-same (c .without-word .ensures)
+    (searched-output (now (find .before .before .args .sheet)) (find .find-word .ensures)
+    (c .before .before .enum-told .given .1))
+
+returns-3 : tie.Need-returns-3
+returns-3 c =
+    let find = c .before .before .before .before .before .before in
+    writes-same (c .refused .ensures)
+    (searched-output (now (find .before .before .args .sheet)) (find .find-word .ensures)
+    (c .before .before .before .answer2 .given .1))
+
+pub word-sheet-spec : {M : Type 1} → statement M
+word-sheet-spec =
+    tie.close
+    (tie.spec
+    find-word-requires
+    enum-known-answer
+    array-share-prefix-word
+    slice-aggregate-with-word
+    with-word-requires
+    enum-told
+    without-word-requires
+    enum-known-answer-2
+    refused-requires
+    returns
+    returns-2
+    returns-3)

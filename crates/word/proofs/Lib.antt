@@ -1,0 +1,4 @@
+mod Moving
+mod Descent
+mod Lengths
+mod Answering

@@ -1,0 +1,268 @@
+-- What the loops over pairs keep, over plain variables. Assumes nothing.
+use Prim.Native.Nat.{ℕ, zero, suc, _+_, _-_, _≤_, _<_}
+use mathlib.Core.Path.{_≡_, refl, sym, ap, ap₂, subst, _∙_}
+use mathlib.Core.Bool.{Bool, true, false, not, _&&_}
+use mathlib.Core.List.{List, [], _∷_, _++_, append-assoc, append-nil}
+use native.Mathlib.Omega.{arith}
+use native.Mathlib.Numerals.{add-one}
+use borrow.Author.Tests.{eq-eqb, ne-eqb}
+use lib.Dec.{eqb}
+use lib.ListN.{length, getD, set, take, drop, length-set, length-append}
+use lib.Seq.{drop-cons, drop-length, take-suc-set, append-snoc}
+use Rattle.machine.specs.Limits.{mostStates}
+use Rattle.word.specs.Search.{pairOf, one, other, pairsWith, allPairs, keep, alike, moved, after, unmet}
+use Rattle.word.specs.Searching.{mostPairs, cells, PutRequires, PutsPairs, HoldsAll, noneAlike, leftBy, MovesOn}
+use Rattle.word.specs.declared.pairs.Moved.the-variants.{On}
+
+-- one element more of what is left of a list
+rest-cons : (ps : List ℕ) (i : ℕ) → i < length ps → drop i ps ≡ getD ps i 0 ∷ drop (i + 1) ps
+rest-cons ps i l = drop-cons ps i 0 l ∙ ap (λ (x : ℕ). getD ps i 0 ∷ drop x ps) (sym (add-one i))
+
+-- what is left at the end
+rest-none : (ps : List ℕ) (i : ℕ) → i ≤ length ps → length ps ≤ i → drop i ps ≡ []
+rest-none ps i l o = let e : i ≡ length ps = omega arith in ap (λ (x : ℕ). drop x ps) e ∙ drop-length ps
+
+-- ---- whether a command tells all pairs apart
+module _ (k : ℕ) (answer ps : List ℕ) (c : ℕ) where
+  -- what the loop keeps: the pairs before i do not answer alike
+  pub record Telling (i : ℕ) : Type 0 where
+    pub inside : i ≤ length ps
+    pub same : noneAlike k answer ps c ≡ noneAlike k answer (drop i ps) c
+
+  pub telling-none : Telling 0
+  telling-none = record { inside = omega arith; same = refl }
+
+  none-here : (i : ℕ) → i < length ps → noneAlike k answer (drop i ps) c
+      ≡ (not (alike (cells k answer) c (getD ps i 0)) && noneAlike k answer (drop (i + 1) ps) c)
+  unfolding noneAlike
+  none-here i l = ap (λ (l : List ℕ). noneAlike k answer l c) (rest-cons ps i l)
+
+  module _ {i : ℕ} {b : Bool} (h : Telling i) (l : i < length ps)
+      (e : b ≡ alike (cells k answer) c (getD ps i 0)) where
+    step : noneAlike k answer ps c ≡ (not b && noneAlike k answer (drop (i + 1) ps) c)
+    step = h .same ∙ none-here i l
+        ∙ ap (λ (x : Bool). not x && noneAlike k answer (drop (i + 1) ps) c) (sym e)
+
+    pub telling-stop : b ≡ true → false ≡ noneAlike k answer ps c
+    telling-stop t = sym (step ∙ ap (λ (x : Bool). not x && noneAlike k answer (drop (i + 1) ps) c) t)
+
+    pub telling-on : b ≡ false → Telling (i + 1)
+    telling-on t = record {
+      inside = omega arith;
+      same = step ∙ ap (λ (x : Bool). not x && noneAlike k answer (drop (i + 1) ps) c) t;
+    }
+
+  pub telling-end : {i : ℕ} → Telling i → length ps ≤ i → true ≡ noneAlike k answer ps c
+  unfolding noneAlike
+  telling-end {i} h o = sym (h .same ∙ ap (λ (l : List ℕ). noneAlike k answer l c) (rest-none ps i (h .inside) o))
+
+-- ---- pairs moved on
+-- pairs one behind the other have not met where none of both has
+unmet-append : (xs ys : List ℕ) → unmet (xs ++ ys) ≡ (unmet xs && unmet ys)
+unfolding unmet
+unmet-append [] ys = refl
+unmet-append (x ∷ xs) ys =
+    ap (λ (b : Bool). not (eqb (one x) (other x)) && b) (unmet-append xs ys)
+    ∙ shift (not (eqb (one x) (other x))) (unmet xs) (unmet ys)
+  where
+    shift : (a b d : Bool) → (a && (b && d)) ≡ ((a && b) && d)
+    shift true b d = refl
+    shift false b d = refl
+
+module _ (k : ℕ) (next answer ps : List ℕ) (c : ℕ) (room : ℕ) where
+  -- what the loop keeps: what is left of the pairs before i stands in the list, and none of it has met
+  pub record Moving (list : List ℕ) (size i : ℕ) : Type 0 where
+    pub inside : i ≤ length ps
+    pub few : size ≤ i
+    pub long : length list ≡ room
+    pub same : leftBy k next answer ps c ≡ take size list ++ leftBy k next answer (drop i ps) c
+    pub apart : unmet (take size list) ≡ true
+
+  pub moving-none : (list : List ℕ) → length list ≡ room → Moving list 0 0
+  unfolding unmet
+  moving-none list l = record { inside = omega arith; few = omega arith; long = l; same = refl; apart = refl }
+
+  -- equal parts
+  pub moving-same : {list list′ : List ℕ} {size size′ i : ℕ} → list′ ≡ list → size′ ≡ size → Moving list size i
+      → Moving list′ size′ i
+  moving-same {list} {list′} {size} {size′} {i} le se h =
+      subst (λ (l : List ℕ). Moving l size′ i) (sym le) (subst (λ (n : ℕ). Moving list n i) (sym se) h)
+
+  left-here : (i : ℕ) → i < length ps → leftBy k next answer (drop i ps) c
+      ≡ keep (alike (cells k answer) c (getD ps i 0)) (moved (cells k next) c (getD ps i 0))
+      (leftBy k next answer (drop (i + 1) ps) c)
+  unfolding after
+  left-here i l = ap (λ (l : List ℕ). leftBy k next answer l c) (rest-cons ps i l)
+
+  module _ {list : List ℕ} {size i : ℕ} {b : Bool} (h : Moving list size i) (l : i < length ps)
+      (e : b ≡ alike (cells k answer) c (getD ps i 0)) where
+    step-moved : {t : Bool} → b ≡ t → leftBy k next answer ps c
+        ≡ take size list
+        ++ keep t (moved (cells k next) c (getD ps i 0)) (leftBy k next answer (drop (i + 1) ps) c)
+    step-moved {t} be =
+        h .same
+        ∙ ap (λ (l : List ℕ). take size list ++ l) (left-here i l
+        ∙ ap (λ (x : Bool). keep x (moved (cells k next) c (getD ps i 0)) (leftBy k next answer (drop (i + 1) ps) c))
+        (sym e ∙ be))
+
+    -- a pair that is told apart
+    pub moving-past : b ≡ false → Moving list size (i + 1)
+    moving-past be = record {
+      inside = omega arith;
+      few = omega (arith, h .few);
+      long = h .long;
+      same = step-moved be;
+      apart = h .apart;
+    }
+
+    module _ (be : b ≡ true) {q : ℕ} (qe : q ≡ moved (cells k next) c (getD ps i 0)) where
+      step-kept : leftBy k next answer ps c ≡ take size list ++ (q ∷ leftBy k next answer (drop (i + 1) ps) c)
+      step-kept =
+          step-moved be
+          ∙ ap (λ (x : ℕ). take size list ++ (x ∷ leftBy k next answer (drop (i + 1) ps) c)) (sym qe)
+
+      -- a pair that met
+      pub moving-met : one q ≡ other q → unmet (leftBy k next answer ps c) ≡ false
+      unfolding unmet
+      moving-met m =
+          ap unmet step-kept
+          ∙ unmet-append (take size list) (q ∷ leftBy k next answer (drop (i + 1) ps) c)
+          ∙ ap₂ (λ (x y : Bool). x && (not y && unmet (leftBy k next answer (drop (i + 1) ps) c))) (h .apart)
+          (eq-eqb (one q) (other q) m)
+
+      -- a pair that is left
+      pub moving-kept : size < room → (one q ≡ other q → ⊥) → Moving (set list size q) (size + 1) (i + 1)
+      unfolding unmet
+      moving-kept fits o =
+          let front : take (size + 1) (set list size q) ≡ take size list ++ (q ∷ []) =
+          ap (λ (x : ℕ). take x (set list size q)) (add-one size) ∙ take-suc-set list size q (omega (arith, h .long)) in
+          record {
+            inside = omega arith;
+            few = omega (arith, h .few);
+            long = length-set list size q ∙ h .long;
+            same =
+                step-kept
+                ∙ sym (append-snoc (take size list) q (leftBy k next answer (drop (i + 1) ps) c))
+                ∙ ap (λ (l : List ℕ). l ++ leftBy k next answer (drop (i + 1) ps) c) (sym front);
+            apart =
+                ap unmet front
+                ∙ unmet-append (take size list) (q ∷ [])
+                ∙ ap₂ (λ (x y : Bool). x && (not y && true)) (h .apart) (ne-eqb (one q) (other q) o);
+          }
+
+  pub moving-end : {list : List ℕ} {size i : ℕ} → Moving list size i → length ps ≤ i
+      → MovesOn k next answer ps c list (On size)
+  unfolding after
+  moving-end {list} {size} {i} h o =
+      let all : leftBy k next answer ps c ≡ take size list =
+      h .same
+      ∙ ap (λ (l : List ℕ). take size list ++ leftBy k next answer l c) (rest-none ps i (h .inside) o)
+      ∙ append-nil (take size list) in
+      (omega (arith, h .few, h .inside), sym all, ap unmet all ∙ h .apart)
+
+-- ---- all pairs
+module _ (j at : ℕ) (before : List ℕ) where
+  -- what the loop keeps: the pairs of j with the states before i stand behind what was there
+  pub record Putting (list : List ℕ) (i end : ℕ) : Type 0 where
+    pub few : i ≤ j
+    pub end-is : end ≡ at + i
+    pub long : length list ≡ length before
+    pub holds : take end list ≡ take at before ++ pairsWith j i
+
+  pub putting-none : Putting before 0 at
+  unfolding pairsWith
+  putting-none = record {
+    few = omega arith;
+    end-is = omega arith;
+    long = refl;
+    holds = sym (append-nil (take at before));
+  }
+
+  pub putting-on : {list : List ℕ} {i end q : ℕ} → at + j ≤ length before → Putting list i end → i < j
+      → q ≡ pairOf i j → Putting (set list end q) (i + 1) (end + 1)
+  unfolding pairsWith
+  putting-on {list} {i} {end} {q} fits h l qe = record {
+    few = omega arith;
+    end-is = omega (arith, h .end-is);
+    long = length-set list end q ∙ h .long;
+    holds =
+        ap (λ (x : ℕ). take x (set list end q)) (add-one end)
+        ∙ take-suc-set list end q (omega (arith, h .end-is, h .long))
+        ∙ ap₂ (λ (l : List ℕ) (x : ℕ). l ++ (x ∷ [])) (h .holds) qe
+        ∙ append-assoc (take at before) (pairsWith j i) (pairOf i j ∷ [])
+        ∙ ap (λ (x : ℕ). take at before ++ pairsWith j x) (sym (add-one i));
+  }
+
+  pub putting-end : {list : List ℕ} {i end : ℕ} → Putting list i end → j ≤ i → PutsPairs j at before list end
+  putting-end {list} {i} {end} h o =
+      let e : i ≡ j = omega (arith, h .few) in
+      record {
+        end-is = omega (arith, h .end-is);
+        holds = h .holds ∙ ap (λ (x : ℕ). take at before ++ pairsWith j x) e;
+      }
+
+-- ---- how many there are
+with-long : (j m : ℕ) → length (pairsWith j m) ≡ m
+unfolding pairsWith
+with-long j zero = refl
+with-long j (suc m) = length-append (pairsWith j m) (pairOf m j ∷ []) ∙ ap (λ (n : ℕ). n + 1) (with-long j m)
+    ∙ add-one m
+
+all-more : (j : ℕ) → length (allPairs (suc j)) ≡ length (allPairs j) + j
+unfolding allPairs
+all-more j = length-append (allPairs j) (pairsWith j j) ∙ ap (λ (n : ℕ). length (allPairs j) + n) (with-long j j)
+
+all-grow : (j d : ℕ) → length (allPairs j) ≤ length (allPairs (d + j))
+all-grow j zero = let e : 0 + j ≡ j = omega arith in rw e (omega arith)
+all-grow j (suc d) =
+    let e : suc d + j ≡ suc (d + j) = omega arith in
+    rw e (omega (arith, all-grow j d, all-more (d + j)))
+
+-- those of at most ten states fit
+all-few : (j : ℕ) → j ≤ mostStates → length (allPairs j) ≤ mostPairs
+unfolding allPairs pairsWith
+all-few j l =
+    let e : (mostStates - j) + j ≡ mostStates = omega arith in
+    let ten : length (allPairs mostStates) ≡ mostPairs = refl in
+    omega (arith, all-grow j (mostStates - j), ap (λ (n : ℕ). length (allPairs n)) e, ten)
+
+module _ (n : ℕ) where
+  -- what the loop keeps: the pairs of the states before j stand in the list
+  pub record Filling (list : List ℕ) (size j : ℕ) : Type 0 where
+    pub few : j ≤ n
+    pub long : length list ≡ mostPairs
+    pub size-is : size ≡ length (allPairs j)
+    pub holds : take size list ≡ allPairs j
+
+  pub filling-none : (list : List ℕ) → length list ≡ mostPairs → Filling list 0 0
+  unfolding allPairs
+  filling-none list l = record { few = omega arith; long = l; size-is = refl; holds = refl }
+
+  pub filling-required : n ≤ mostStates → {list : List ℕ} {size j : ℕ} → Filling list size j → j < n
+      → PutRequires j size list
+  filling-required low {j = j} h l = record {
+    fits = omega (arith, h .long, h .size-is, all-more j, all-few (suc j) (omega arith));
+  }
+
+  pub filling-on : {list after : List ℕ} {size j end : ℕ} → Filling list size j → j < n → length after ≡ length list
+      → PutsPairs j size list after end → Filling after end (j + 1)
+  unfolding allPairs
+  filling-on {list} {after} {size} {j} {end} h l long p = record {
+    few = omega arith;
+    long = long ∙ h .long;
+    size-is =
+        p .end-is ∙ ap (λ (x : ℕ). x + j) (h .size-is) ∙ sym (all-more j)
+        ∙ ap (λ (x : ℕ). length (allPairs x)) (sym (add-one j));
+    holds =
+        p .holds ∙ ap (λ (x : List ℕ). x ++ pairsWith j j) (h .holds) ∙ ap allPairs (sym (add-one j));
+  }
+
+  pub filling-end : n ≤ mostStates → {list : List ℕ} {size j : ℕ} → Filling list size j → n ≤ j
+      → HoldsAll n (record { size = size; cells = list })
+  filling-end low {list} {size} {j} h l =
+      let e : j ≡ n = omega (arith, h .few) in
+      record {
+        few = omega (arith, h .size-is, all-few j (omega arith));
+        long = h .long;
+        holds = h .holds ∙ ap allPairs e;
+      }

@@ -1,0 +1,45 @@
+-- `word::service::find_word` meets its contract: each refusal, and what was found where nothing is refused. Assumes
+-- nothing.
+use denote.Ref.{now}
+use Rattle.word.proofs.Answering.{early-refused, loaded-proper, searched}
+use borrow.Author.Needs.{needs}
+use Rattle.word.proofs.service.find_word.Statement.{statement}
+use Rattle.word.proofs.service.find_word.Tie as tie
+
+load-sheet-requires : tie.Need-load-sheet-requires
+load-sheet-requires c κs = search needs
+
+enum-known-check : tie.Need-enum-known-check
+enum-known-check c = search needs
+
+returns : tie.Need-returns
+returns c =
+    let load = c .before .before .before in
+    early-refused (now (load .before .before .args .sheet)) (load .load-sheet .result) (load .load-sheet .ensures)
+    (c .before .check .given .1)
+
+enum-told : tie.Need-enum-told
+enum-told c = search needs
+
+shortest-word-requires : tie.Need-shortest-word-requires
+shortest-word-requires c κs =
+    let load = c .before .before .before in
+    loaded-proper (now (load .before .before .args .sheet)) (load .load-sheet .result) (load .load-sheet .ensures)
+    (c .before .enum-told .given .1)
+
+returns-2 : tie.Need-returns-2
+returns-2 c =
+    let load = c .before .before .before .before in
+    searched (now (load .before .before .args .sheet)) (load .load-sheet .result) (load .load-sheet .ensures)
+    (c .before .before .enum-told .given .1) (c .shortest-word .ensures)
+
+pub find-word-spec : {M : Type 1} → statement M
+find-word-spec =
+    tie.close
+    (tie.spec
+    load-sheet-requires
+    enum-known-check
+    returns
+    enum-told
+    shortest-word-requires
+    returns-2)

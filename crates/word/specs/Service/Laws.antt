@@ -1,0 +1,163 @@
+-- The laws of the search as a service: what each answer says, and that the word gives no cause 5 and no cause 6.
+use Prim.Native.Nat.{ℕ}
+use mathlib.Core.Path.{_≡_, refl, sym, ap, subst, _∙_}
+use mathlib.Core.Bool.{true}
+use mathlib.Core.List.{List, [], _∷_}
+use mathlib.Core.Option.{Option, none, some}
+use native.Mathlib.Omega.{arith}
+use lib.ListN.{length, take}
+use lib.Seq.{take-at}
+use Rattle.facts.specs.FirstOf.{Seen, nothing, value, seen}
+use Rattle.sheet.specs.declared.check.Check.{Check}
+use Rattle.sheet.specs.declared.check.Check.the-variants.{Clear, Refused}
+use Rattle.sheet.specs.Check.{_else_, firstCause, refusedOr}
+use Rattle.sheet.specs.Check.Laws.{else-clear, else-end}
+use Rattle.sheet.specs.Reader.{recordOf, content}
+use Rattle.machine.specs.Limits.{mostWord}
+use Rattle.machine.specs.Machine.{Mealy, Proper, Distinguishes}
+use Rattle.machine.specs.Causes.{cause6, machineIn, wordCauses, loadCauses}
+use Rattle.machine.specs.Causes.Laws.{commands-clear}
+use Rattle.machine.specs.Causes.Lists.{load-causes-are, word-causes-are, word-causes-none, machine-proper, machine-same}
+use Rattle.machine.specs.Causes.Separation.{separates-clear}
+use Rattle.word.specs.declared.answer.Answer.{Answer}
+use Rattle.word.specs.declared.answer.Answer.the-variants.{Found, Nothing, Refused as RefusedAnswer}
+use Rattle.word.specs.Search.{Eligible, IsSought, search}
+use Rattle.word.specs.Search.Laws.{search-is, is-search, none-eligible, eligible-none, single-word}
+use Rattle.word.specs.Service.{searchNeeds, searchCauses, answerOf, searching, wordFound, padded, wordBeside}
+
+-- ---- causes
+-- where the word is not needed loading checks causes 1 to 4 alone
+pub search-causes-are : (s : List ℕ) → firstCause (loadCauses searchNeeds s) ≡ firstCause (searchCauses s)
+search-causes-are s =
+    load-causes-are searchNeeds s
+    ∙ ap (λ (c : Check). firstCause (searchCauses s) else c) (word-causes-none s)
+    ∙ else-end (firstCause (searchCauses s))
+
+-- ---- the answer and the array, by the first cause
+module _ (s : List ℕ) where
+  pub searching-refused : {a b : ℕ} → firstCause (searchCauses s) ≡ Refused a b → searching s ≡ RefusedAnswer a b
+  unfolding searching
+  searching-refused e = ap (λ (c : Check). refusedOr RefusedAnswer c (answerOf (search (machineIn s)))) e
+
+  pub searching-clear : firstCause (searchCauses s) ≡ Clear → searching s ≡ answerOf (search (machineIn s))
+  unfolding searching
+  searching-clear e = ap (λ (c : Check). refusedOr RefusedAnswer c (answerOf (search (machineIn s)))) e
+
+  pub found-refused : {a b : ℕ} → firstCause (searchCauses s) ≡ Refused a b → wordFound s ≡ none
+  unfolding wordFound
+  found-refused e = ap (λ (c : Check). refusedOr (λ number place. none) c (search (machineIn s))) e
+
+  pub found-clear : firstCause (searchCauses s) ≡ Clear → wordFound s ≡ search (machineIn s)
+  unfolding wordFound
+  found-clear e = ap (λ (c : Check). refusedOr (λ number place. none) c (search (machineIn s))) e
+
+  pub searched-proper : firstCause (searchCauses s) ≡ Clear → Proper (machineIn s)
+  searched-proper e = machine-proper searchNeeds s e
+
+-- ---- what each answer says
+-- what an answer to a sheet says: a cause of 1 to 4 is the first; or none of them is present, and the word is the one
+-- that is sought, or no word of 1 to 6 commands separates. The word that was found is told besides, by which the array
+-- is known
+pub data Outcome (s : List ℕ) (a : Answer) : Type 0 where
+  refused : (number place : ℕ) → firstCause (searchCauses s) ≡ Refused number place → a ≡ RefusedAnswer number place
+      → wordFound s ≡ none → Outcome s a
+  found : (w : List ℕ) → firstCause (searchCauses s) ≡ Clear → IsSought (machineIn s) w → a ≡ Found (length w)
+      → wordFound s ≡ some w → Outcome s a
+  missing : firstCause (searchCauses s) ≡ Clear → ((u : List ℕ) → Eligible (machineIn s) u → ⊥) → a ≡ Nothing
+      → wordFound s ≡ none → Outcome s a
+
+-- the search gives such an answer
+pub searching-outcome : (s : List ℕ) → Outcome s (searching s)
+searching-outcome s = go (firstCause (searchCauses s)) refl (seen (search (machineIn s)))
+  where
+    go : (c : Check) → firstCause (searchCauses s) ≡ c → Seen (search (machineIn s)) → Outcome s (searching s)
+    go (Refused number place) c o = refused number place c (searching-refused s c) (found-refused s c)
+    go Clear c (nothing e) =
+        missing c (none-eligible (machineIn s) (searched-proper s c) e) (searching-clear s c ∙ ap answerOf e)
+        (found-clear s c ∙ e)
+    go Clear c (value w e) =
+        found w c (search-is (machineIn s) (searched-proper s c) e) (searching-clear s c ∙ ap answerOf e)
+        (found-clear s c ∙ e)
+
+-- where none of causes 1 to 4 is present, the word that is sought is found, and nothing where no word is eligible
+module _ (s : List ℕ) (c : firstCause (searchCauses s) ≡ Clear) where
+  answered-by : {o : Option (List ℕ)} → search (machineIn s) ≡ o → (searching s ≡ answerOf o) × (wordFound s ≡ o)
+  answered-by e = (searching-clear s c ∙ ap answerOf e, found-clear s c ∙ e)
+
+  pub sought-found : {w : List ℕ} → IsSought (machineIn s) w → (searching s ≡ Found (length w)) × (wordFound s ≡ some w)
+  sought-found h = answered-by (is-search (machineIn s) (searched-proper s c) h)
+
+  pub none-found : ((u : List ℕ) → Eligible (machineIn s) u → ⊥) → (searching s ≡ Nothing) × (wordFound s ≡ none)
+  none-found h = answered-by (eligible-none (machineIn s) (searched-proper s c) h)
+
+  -- of a machine with one state the word 0
+  pub single-answered : machineIn s .n ≡ 1 → (searching s ≡ Found 1) × (wordFound s ≡ some (0 ∷ []))
+  single-answered one = answered-by (single-word (machineIn s) (searched-proper s c) one)
+
+-- of a word that is answered: it is the first so many bytes of the array, and the word that is sought
+pub record Answered (s : List ℕ) (size : ℕ) : Type 0 where
+  pub clear : firstCause (searchCauses s) ≡ Clear
+  pub word : List ℕ
+  pub long : length word ≡ size
+  pub beside : take size (wordBeside s) ≡ word
+  pub found : wordFound s ≡ some word
+  pub sought : IsSought (machineIn s) word
+
+pub found-answered : (s : List ℕ) {size : ℕ} → searching s ≡ Found size → Answered s size
+found-answered s {size} e = go (searching-outcome s)
+  where
+    go : Outcome s (searching s) → Answered s size
+    go (refused number place c a o) =
+        let z : RefusedAnswer number place ≡ Found size = sym a ∙ e in
+        let y : _≡_ {A = ℕ} 0 1 = cc in
+        absurd (omega arith)
+    go (missing c h a o) =
+        let z : Nothing ≡ Found size = sym a ∙ e in
+        let y : _≡_ {A = ℕ} 0 1 = cc in
+        absurd (omega arith)
+    go (found w c h a o) =
+        let z : Found (length w) ≡ Found size = sym a ∙ e in
+        let long : length w ≡ size = cc in
+        record {
+          clear = c;
+          word = w;
+          long = long;
+          beside = ap (λ (x : Option (List ℕ)). take size (padded x)) o ∙ take-at w _ size long;
+          found = o;
+          sought = h;
+        }
+
+-- ---- the word in a sheet
+-- an eligible word is one that every service takes
+pub eligible-distinguishes : (M : Mealy) {w : List ℕ} → Eligible M w → Distinguishes M w
+eligible-distinguishes M h = record {
+  commands = record { some = h .commands .some; few = omega (arith, h .commands .few); low = h .commands .low };
+  separates = h .separates;
+}
+
+-- a sheet with the same record 1, and with the word that was found as record 2, has no cause 5 and no cause 6
+pub found-passes : (s t : List ℕ) {w : List ℕ} → wordFound s ≡ some w → content 1 t ≡ content 1 s → content 2 t ≡ w
+    → firstCause (wordCauses true t) ≡ Clear
+found-passes s t {w} e one two = go (searching-outcome s)
+  where
+    go : Outcome s (searching s) → firstCause (wordCauses true t) ≡ Clear
+    go (refused number place c a o) =
+        let z : _≡_ {A = Option (List ℕ)} none (some w) = sym o ∙ e in
+        let y : _≡_ {A = ℕ} 0 1 = cc in
+        absurd (omega arith)
+    go (missing c h a o) =
+        let z : _≡_ {A = Option (List ℕ)} none (some w) = sym o ∙ e in
+        let y : _≡_ {A = ℕ} 0 1 = cc in
+        absurd (omega arith)
+    go (found v c h a o) =
+        let z : _≡_ {A = Option (List ℕ)} (some v) (some w) = sym o ∙ e in
+        let q : v ≡ w = cc in
+        let d : Distinguishes (machineIn t) (content 2 t) =
+        subst (Distinguishes (machineIn t)) (q ∙ sym two)
+        (subst (λ (M : Mealy). Distinguishes M v) (sym (machine-same s t one))
+        (eligible-distinguishes (machineIn s) (h .has))) in
+        word-causes-are t
+        ∙ ap (λ (x : Check). x else cause6 (machineIn t) (content 2 t))
+        (commands-clear 5 mostWord (machineIn t .k) (recordOf 2 t) (content 2 t) (d .commands))
+        ∙ else-clear (cause6 (machineIn t) (content 2 t))
+        ∙ separates-clear (machineIn t) (content 2 t) (d .separates)
