@@ -4,12 +4,15 @@ use crate::certifying::Certificate;
 use crate::desk::Order;
 use crate::judging::Verdict;
 use crate::refusal::Refusal;
+use crate::searching::MOST_FOUND;
 use crate::words::Mistake;
 
 /// What `bench help` writes.
 pub const HELP: &str = "\
 bench, bench judge      judge the sheet on standard input: PASS, WRONG, UNFINISHED or REFUSED
 bench certify           certify the sequence of the sheet on standard input: CERTIFIED, OPEN or REFUSED
+bench word              find a separating word for the machine of the sheet on standard input: \
+                        the sheet with it as record 2; WORD, NONE or REFUSED on standard error
 bench build             build the sequence of the sheet on standard input: the sheet with it as record 3
 bench read KIND         read the sheet on standard input: the payload of record 1 machine, 2 word, 3 sequence, 4 answers
 bench desk SHEET        bring a unit to its start by the sheet in that file: COMMAND, answers on standard input, \
@@ -65,5 +68,16 @@ pub fn ordered(order: Order) -> String {
         Order::Command(command) => format!("COMMAND {command}\n"),
         Order::Home(commands) => format!("HOME after {commands}\n"),
         Order::Stranger(answer) => format!("STRANGER at {answer}\n"),
+    }
+}
+
+/// The line of `bench word` where nothing is refused (§14).
+pub fn searched(found: Option<&[u8]>) -> String {
+    match found {
+        None => format!("NONE of 1 to {MOST_FOUND} commands\n"),
+        Some(word) => {
+            let commands: Vec<String> = word.iter().map(u8::to_string).collect();
+            format!("WORD {}\n", commands.join(" "))
+        }
     }
 }

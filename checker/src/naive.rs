@@ -1,7 +1,9 @@
 // Recognition plainly as the two rules of §5.1 read, repeated until nothing
-// changes. Slow, for short sequences only: the yardstick of `recognition`.
+// changes; the search for a word as §14 reads. Slow, for short sequences and
+// small machines only: the yardsticks of `recognition` and `searching`.
 
 use crate::machine::Machine;
+use crate::searching::MOST_FOUND;
 
 /// For places 0 to N, whether the place is recognised.
 pub fn recognised(machine: &Machine, word: &[u8], sequence: &[u8]) -> Vec<bool> {
@@ -47,4 +49,19 @@ pub fn open_number(machine: &Machine, sequence: &[u8], known: &[bool]) -> Option
         }
     }
     None
+}
+
+/// The first word of all those of 1 to 6 commands, by length and then in byte
+/// order, that separates (§14).
+pub fn shortest_word(machine: &Machine) -> Option<Vec<u8>> {
+    let mut words = (1..=MOST_FOUND).flat_map(|length| words(machine.k, length));
+    words.find(|word| machine.unseparated(word).is_none())
+}
+
+/// All words of a length, in byte order.
+fn words(k: usize, length: usize) -> impl Iterator<Item = Vec<u8>> {
+    let command = move |number: usize, place: usize| number / k.pow(place as u32) % k;
+    let places = move || (0..length).rev();
+    let word = move |number| places().map(|place| command(number, place) as u8).collect();
+    (0..k.pow(length as u32)).map(word)
 }

@@ -5,8 +5,8 @@
 pub const LONGEST: usize = 4095;
 
 /// Every first word that names a service.
-pub const NAMES: [&str; 9] = [
-    "judge", "certify", "build", "read", "desk", "house", "help", "--help", "-h",
+pub const NAMES: [&str; 10] = [
+    "judge", "certify", "word", "build", "read", "desk", "house", "help", "--help", "-h",
 ];
 
 pub type Word = Vec<u8>;
@@ -15,6 +15,7 @@ pub type Word = Vec<u8>;
 pub enum Service {
     Judge,
     Certify,
+    Word,
     Build,
     Read(u16),
     /// The word behind it names a file.
@@ -101,6 +102,7 @@ pub fn service(words: &[Word]) -> Result<Service, Mistake> {
     let service = match first.as_slice() {
         b"judge" => Service::Judge,
         b"certify" => Service::Certify,
+        b"word" => Service::Word,
         b"build" => Service::Build,
         b"house" => Service::House,
         b"help" | b"--help" | b"-h" => Service::Help,
@@ -172,6 +174,7 @@ mod tests {
         assert_eq!(asked(&[]), Ok(Service::Judge));
         assert_eq!(asked(&["judge"]), Ok(Service::Judge));
         assert_eq!(asked(&["certify"]), Ok(Service::Certify));
+        assert_eq!(asked(&["word"]), Ok(Service::Word));
         assert_eq!(asked(&["build"]), Ok(Service::Build));
         assert_eq!(asked(&["read", "3"]), Ok(Service::Read(3)));
         assert_eq!(asked(&["desk", "3"]), Ok(Service::Desk));
@@ -196,7 +199,9 @@ mod tests {
             assert_eq!(asked(&[&word]), Err(mistake));
             assert_eq!(asked(&[&word, "", "1"]), Err(mistake));
         }
-        for word in ["Judge", "jud", "judges", "reads", "-help", "--h", "help\n"] {
+        for word in [
+            "Judge", "jud", "judges", "words", "wor", "reads", "-help", "--h", "help\n",
+        ] {
             assert_eq!(asked(&[word]), Err(Mistake::NoService));
             assert_eq!(asked(&[word, "1", "1"]), Err(Mistake::NoService));
         }
@@ -204,7 +209,9 @@ mod tests {
 
     #[test]
     fn number_of_words() {
-        for name in ["judge", "certify", "build", "house", "help", "--help", "-h"] {
+        for name in [
+            "judge", "certify", "word", "build", "house", "help", "--help", "-h",
+        ] {
             assert_eq!(asked(&[name, ""]), Err(Mistake::TooMany));
             assert_eq!(asked(&[name, "1", "2"]), Err(Mistake::TooMany));
         }

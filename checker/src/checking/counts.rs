@@ -2,8 +2,9 @@
 // mistake and refusal, and how much was compared.
 
 use super::compare::Call;
-use super::desks::groups;
+use super::desks;
 use super::driving::Reached;
+use super::searches;
 use super::tally::Tally;
 use crate::number;
 use crate::words::{Mistake, Service, Word, NAMES};
@@ -23,8 +24,11 @@ pub const ENOUGH: usize = 2000;
 pub const ENOUGH_CASES: usize = 100_000;
 /// The same for machines at the desk.
 pub const ENOUGH_DESKS: usize = 300;
-/// The name under which the program's dialogues are counted.
+/// The same for sheets of `bench word`.
+pub const ENOUGH_SEARCHES: usize = 600;
+/// The names under which the program's dialogues and its searches are counted.
 const DESK: &str = "bench desk";
+const PROGRAM: &str = "bench";
 
 /// The name under which judging without a word is counted.
 const NO_WORD: &str = "no word";
@@ -45,6 +49,11 @@ pub struct Counts {
     pub reached: Reached,
     /// Dialogues of `bench desk`.
     pub desks: Tally,
+    /// Searches of `bench word`.
+    pub words: Tally,
+    /// Machines searched in every way, and those of them in which all words were tried.
+    pub searches: usize,
+    pub all_tried: usize,
     chains: usize,
     certify: BTreeMap<u64, usize>,
     judge: BTreeMap<u64, usize>,
@@ -108,6 +117,12 @@ impl Counts {
         let compared = [
             ("fast against naive", self.naive, true),
             ("built sequences", self.built, true),
+            (
+                "searches by halves against depth first",
+                self.searches,
+                true,
+            ),
+            ("searches against all words", self.all_tried, true),
             ("house unit through the chain", self.chains, fixed),
             ("units that pass", self.units_passed, units),
             ("units told wrong", self.units_wrong, units),
@@ -118,9 +133,14 @@ impl Counts {
         missing
     }
 
+    /// The same for the searches of `bench word`.
+    pub fn words_missing(&self) -> Vec<String> {
+        self.words.missing(PROGRAM, searches::groups())
+    }
+
     /// The same for the dialogues of `bench desk`.
     pub fn desks_missing(&self) -> Vec<String> {
-        self.desks.missing(DESK, groups())
+        self.desks.missing(DESK, desks::groups())
     }
 
     pub fn summary(&self) -> String {
@@ -132,7 +152,8 @@ impl Counts {
              bench, runs by words:{}\n\
              certified {} and open {} in rig_certify\n\
              sheets of fixed lengths {}, built sequences checked {}, fast against naive {}\n\
-             {}{}units: tried {}, passed {}, told wrong {}; sequences searched for all units {}, \
+             searches for a word compared {}, with all words {}\n\
+             {}{}{}units: tried {}, passed {}, told wrong {}; sequences searched for all units {}, \
              given up {}",
             row(&self.certify, ""),
             row(&self.judge, ""),
@@ -144,7 +165,10 @@ impl Counts {
             self.lengths,
             self.built,
             self.naive,
-            self.desks.summary(DESK, groups()),
+            self.searches,
+            self.all_tried,
+            self.desks.summary(DESK, desks::groups()),
+            self.words.summary(PROGRAM, searches::groups()),
             self.reached.summary(),
             self.units,
             self.units_passed,
@@ -179,8 +203,8 @@ mod tests {
         let mut counts = Counts::default();
         let classes = CERTIFY.len() + JUDGE.len() + BUILD.len() + READ.len();
         let words = 1 + NAMES.len() + Mistake::ALL.len();
-        assert_eq!(counts.missing(false, true).len(), classes + words + 3);
-        assert_eq!(counts.missing(true, true).len(), classes + words + 6);
+        assert_eq!(counts.missing(false, true).len(), classes + words + 5);
+        assert_eq!(counts.missing(true, true).len(), classes + words + 8);
         for class in CERTIFY {
             counts.called(Call::Certify, class << 40);
         }
@@ -193,10 +217,14 @@ mod tests {
         for refusal in READ {
             counts.read_or_refused(refusal);
         }
-        let random = ["fast against naive", "built sequences"];
-        assert_eq!(counts.missing(false, false), random);
+        let left = [
+            "fast against naive",
+            "built sequences",
+            "searches by halves against depth first",
+            "searches against all words",
+        ];
+        assert_eq!(counts.missing(false, false), left);
         counts.chained(3);
-        let left = ["fast against naive", "built sequences"];
         assert_eq!(counts.missing(false, true).len(), words + left.len());
         ask_everything(&mut counts);
         assert_eq!(counts.missing(false, true), left);

@@ -50,6 +50,17 @@ pub fn table(random: &mut Random, n: usize, k: usize) -> Machine {
     Machine::from_pairs(n, k, &pairs)
 }
 
+/// Gives one state the entries of another, so that no word separates the two;
+/// there are at least two.
+pub fn make_alike(random: &mut Random, machine: &mut Machine) {
+    let (n, k) = (machine.n, machine.k);
+    let one = random.below(n);
+    let other = (one + random.range(1, n - 1)) % n;
+    let entries = one * k..(one + 1) * k;
+    machine.next.copy_within(entries.clone(), other * k);
+    machine.answer.copy_within(entries, other * k);
+}
+
 /// A random order of 0 to n-1.
 pub fn permutation(random: &mut Random, n: usize) -> Vec<usize> {
     let mut order: Vec<usize> = (0..n).collect();

@@ -21,6 +21,7 @@ mod program;
 mod readings;
 mod records;
 mod run;
+mod searches;
 mod self_check;
 mod sequences;
 mod sheets;

@@ -5,8 +5,8 @@ use std::path::PathBuf;
 
 pub const HELP: &str = "\
 checker [--seed S] [--count C] [--units U] [--programs P] [--words W]
-        [--lengths L] [--cases N] [--desks M] [--random-only] [--directory D]
-        [--spoil NAME]
+        [--lengths L] [--cases N] [--desks M] [--searches F] [--random-only]
+        [--directory D] [--spoil NAME]
 Holds the proved bench against a separately written model.
   --seed S       start of all random choices (default 1)
   --count C      random and damaged sheets (default 150000)
@@ -16,11 +16,14 @@ Holds the proved bench against a separately written model.
                  every run (default 1000)
   --lengths L    every L-th sheet length from 0 to 40913 (default 1: all)
   --cases N      about so many random cases as text, besides the 65536 of the
-                 house unit's table; 0: neither (default 400000)
+                 house unit's table and the words of all small machines; 0:
+                 none of them (default 400000)
   --desks M      machines for the program's desk, each with several dialogues;
                  0: none, and no files either (default 500)
+  --searches F   sheets for the program's search of a word; what it finds is
+                 built and certified (default 600)
   --random-only  without what is the same in every run: the documented cases,
-                 words of every kind, chains
+                 words of every kind, chains, all small machines
   --directory D  where the programs, bench and cases, are (default target/bin)
   --spoil NAME   spoils what the bench answered, so that the run must fail;
                  --spoil list prints the names, and fixed behind those that
@@ -48,6 +51,7 @@ pub struct Options {
     pub lengths: usize,
     pub cases: usize,
     pub desks: usize,
+    pub searches: usize,
     pub random_only: bool,
     pub directory: PathBuf,
     pub spoil: Option<Spoil>,
@@ -64,6 +68,7 @@ impl Default for Options {
             lengths: 1,
             cases: 400_000,
             desks: 500,
+            searches: 600,
             random_only: false,
             directory: PathBuf::from("target/bin"),
             spoil: None,
@@ -117,6 +122,7 @@ fn set(options: &mut Options, name: &str, value: String) -> Result<(), String> {
         "--lengths" => options.lengths = number(name, &value, 1)? as usize,
         "--cases" => options.cases = number(name, &value, 0)? as usize,
         "--desks" => options.desks = number(name, &value, 0)? as usize,
+        "--searches" => options.searches = number(name, &value, 0)? as usize,
         "--directory" => options.directory = PathBuf::from(value),
         "--spoil" => {
             let spoil = Spoil::named(&value).ok_or(format!("no spoil is called {value}"))?;

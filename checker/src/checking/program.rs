@@ -6,6 +6,7 @@ use super::desks::{wanted, Wanted};
 use super::difference::{Case, Difference};
 use super::kinds;
 use super::process::{on_pipe, on_sheet, Printed, LIMIT};
+use super::searches::outcome;
 use super::spoil::Spoil;
 use crate::building::build_sheet;
 use crate::known::house_sheet;
@@ -14,6 +15,7 @@ use crate::machine::LONGEST_SEQUENCE;
 use crate::random::Random;
 use crate::reading::payload;
 use crate::refusal::Refusal;
+use crate::searching::{search, with_word};
 use crate::words::{service, Service, Word};
 use std::io;
 use std::path::Path;
@@ -35,12 +37,13 @@ fn judge(random: &mut Random) -> Vec<Word> {
 }
 
 impl Comparer {
-    /// Gives the sheet to the four services that take one on standard input.
+    /// Gives the sheet to the five services that take one on standard input.
     pub fn services(&mut self, case: &Case, directory: &Path) -> Result<(), Difference> {
         let mut random = choices(case);
         let lines = [
             judge(&mut random),
             vec![b"certify".to_vec()],
+            vec![b"word".to_vec()],
             vec![b"build".to_vec()],
             vec![b"read".to_vec(), kinds::for_sheet(&mut random)],
         ];
@@ -73,7 +76,7 @@ impl Comparer {
             .started(&directory.join(NAME), words, &case.sheet)
             .map_err(|error| differs(&error.to_string()))?;
         if let Some(spoil) = self.spoil {
-            spoil.program(service(words), &mut got);
+            spoil.program(service(words), &case.sheet, &mut got);
         }
         self.count(words, &got);
         if got == want {
@@ -86,6 +89,7 @@ impl Comparer {
         let asked = service(words);
         self.counts.asked(words, asked);
         match asked {
+            Ok(Service::Word) => self.counts.words.meet("word", &outcome(&got.error)),
             Ok(Service::Build) => self.counts.built_or_refused(refusal_number(&got.error)),
             Ok(Service::Read(_)) => self.counts.read_or_refused(refusal_number(&got.error)),
             _ => {}
@@ -116,6 +120,7 @@ impl Comparer {
                 let outcome = self.certifier.certificate(sheet, &mut marks);
                 printed(lines::certified(outcome), "", None)
             }
+            Ok(Service::Word) => searched(sheet),
             Ok(Service::Build) => bytes_or_refusal(build_sheet(sheet)),
             Ok(Service::Read(kind)) => bytes_or_refusal(payload(sheet, kind).map(Vec::from)),
             Ok(Service::Desk) => desk(&words[1], sheet),
@@ -152,6 +157,19 @@ fn bytes_or_refusal(outcome: Result<Vec<u8>, Refusal>) -> Printed {
     match outcome {
         Ok(bytes) => printed(bytes, "", None),
         Err(refusal) => printed("", lines::refused(refusal), None),
+    }
+}
+
+/// The sheet with the word goes to standard output, a line to standard error in
+/// any case (§14).
+fn searched(sheet: &[u8]) -> Printed {
+    match search(sheet) {
+        Err(refusal) => printed("", lines::refused(refusal), None),
+        Ok(found) => {
+            let bytes = found.as_deref().map(|word| with_word(sheet, word));
+            let line = lines::searched(found.as_deref());
+            printed(bytes.unwrap_or_default(), line, None)
+        }
     }
 }
 

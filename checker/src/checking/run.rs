@@ -1,8 +1,8 @@
 // One run: what is the same in every run, then words, random sheets, units, all
-// lengths, cases as text and the desk.
+// lengths, cases as text, the desk and searches for a word.
 
 use super::compare::Comparer;
-use super::counts::{Counts, ENOUGH, ENOUGH_CASES, ENOUGH_DESKS};
+use super::counts::{Counts, ENOUGH, ENOUGH_CASES, ENOUGH_DESKS, ENOUGH_SEARCHES};
 use super::difference::{Case, Difference};
 use super::exhaustive::agreeing_units;
 use super::options::Options;
@@ -29,6 +29,7 @@ pub fn run(options: &Options) -> Result<Counts, Difference> {
     comparer.lengths(options.seed, options.lengths, &options.directory)?;
     comparer.cases(options)?;
     comparer.desks(options)?;
+    comparer.searches(options)?;
     let missing = missing(&comparer.counts, options);
     if !missing.is_empty() {
         let text = format!("never occurred in this run: {}", missing.join(", "));
@@ -49,6 +50,9 @@ fn missing(counts: &Counts, options: &Options) -> Vec<String> {
     }
     if options.desks >= ENOUGH_DESKS {
         missing.extend(counts.desks_missing());
+    }
+    if options.searches >= ENOUGH_SEARCHES {
+        missing.extend(counts.words_missing());
     }
     missing
 }

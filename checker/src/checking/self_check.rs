@@ -1,11 +1,13 @@
 // The model against itself and against the specification's claims: fast recognition
-// is the naive one, and what is built is certified and within its bound.
+// is the naive one, what is built is certified and within its bound, and searches
+// for a word agree.
 
 use super::compare::Comparer;
 use super::difference::{Case, Difference};
+use super::searches::promised;
 use crate::building::{bound, build};
 use crate::certifying::Certificate;
-use crate::checks::{check, Checked, Service};
+use crate::checks::{check, load, Checked, Service};
 use crate::machine::Machine;
 use crate::naive;
 use crate::sheet::sheet_of;
@@ -14,7 +16,7 @@ use crate::sheet::sheet_of;
 const SHORT: usize = 250;
 
 impl Comparer {
-    /// Both checks, where the sheet is one they apply to.
+    /// All checks, where the sheet is one they apply to.
     pub fn model(&mut self, case: &Case) -> Result<(), Difference> {
         let mut machine = Machine::default();
         if let Ok(checked) = check(&case.sheet, Service::Certifying, &mut machine) {
@@ -25,6 +27,17 @@ impl Comparer {
         if let Ok(checked) = check(&case.sheet, Service::Building, &mut machine) {
             self.built(case, &machine, checked.word)?;
         }
+        if let Ok(machine) = load(&case.sheet) {
+            self.searched(case, &machine)?;
+        }
+        Ok(())
+    }
+
+    fn searched(&mut self, case: &Case, machine: &Machine) -> Result<(), Difference> {
+        let differs = |text: String| case.difference(&format!("the checker's own: {text}"));
+        let promised = promised(machine).map_err(differs)?;
+        self.counts.searches += 1;
+        self.counts.all_tried += usize::from(promised.naive);
         Ok(())
     }
 

@@ -4,6 +4,7 @@
 use super::desks::DeskSpoil;
 use super::driving::CasesSpoil;
 use super::process::{Printed, LIMIT};
+use super::searches::WordSpoil;
 use crate::lines::mistaken;
 use crate::number::{class, CERTIFIED, OPEN, PASS, UNFINISHED, WRONG};
 use crate::words::{Mistake, Service, Word};
@@ -47,6 +48,7 @@ pub enum Spoil {
     ErrorNoise,
     Status,
     Desk(DeskSpoil),
+    Word(WordSpoil),
     Cases(CasesSpoil),
 }
 
@@ -108,6 +110,7 @@ impl Spoil {
         let found = found.map(|(_, spoil)| *spoil);
         found
             .or_else(|| DeskSpoil::named(name).map(Spoil::Desk))
+            .or_else(|| WordSpoil::named(name).map(Spoil::Word))
             .or_else(|| CasesSpoil::named(name).map(Spoil::Cases))
     }
 
@@ -118,7 +121,9 @@ impl Spoil {
             Spoil::ChainOpen => format!("{name} fixed"),
             _ => String::from(*name),
         });
-        own.chain(DeskSpoil::names()).chain(CasesSpoil::names())
+        own.chain(DeskSpoil::names())
+            .chain(WordSpoil::names())
+            .chain(CasesSpoil::names())
     }
 
     /// Spoils what a C function left.
@@ -162,10 +167,11 @@ impl Spoil {
         }
     }
 
-    /// Spoils what the program printed.
-    pub fn program(self, asked: Result<Service, Mistake>, seen: &mut Printed) {
+    /// Spoils what the program printed, for a sheet if it takes one.
+    pub fn program(self, asked: Result<Service, Mistake>, sheet: &[u8], seen: &mut Printed) {
         match asked {
             Ok(Service::Judge | Service::Certify) => self.line(seen),
+            Ok(Service::Word) => self.word(sheet, seen),
             Ok(Service::Build) => self.build(seen),
             Ok(Service::Read(_)) => self.read(seen),
             Ok(Service::House) if self == Spoil::HouseByte => change_last(&mut seen.output),
@@ -189,6 +195,12 @@ impl Spoil {
             }
             Spoil::ErrorNoise => seen.error.push(b'\n'),
             _ => {}
+        }
+    }
+
+    fn word(self, sheet: &[u8], seen: &mut Printed) {
+        if let Spoil::Word(way) = self {
+            way.apply(sheet, seen);
         }
     }
 

@@ -12,6 +12,7 @@ use crate::known::house_entry;
 use crate::machine::{LONGEST_SEQUENCE, LONGEST_WORD, MOST_COMMANDS, MOST_STATES};
 use crate::reading::part;
 use crate::refusal::Refusal;
+use crate::searching::search;
 
 /// Every byte of a lent buffer before the service.
 pub const LENT: u8 = 238;
@@ -53,6 +54,7 @@ impl Answerer {
             Question::Part { kind, sheet } => handed_back(sheet, *kind),
             Question::Transfer { from, to, sheet } => transferred(sheet, *from, *to),
             Question::Desk { sheet, answers } => dialogue(sheet, answers),
+            Question::Word { sheet } => searched(search(sheet)),
             Question::House { state, command } => {
                 let (next, answer) = house_entry(*state, *command);
                 format!("next {next} answer {answer}")
@@ -139,5 +141,13 @@ fn ordered(order: Order) -> String {
         Order::Command(command) => format!("command {command}"),
         Order::Home(commands) => format!("home after {commands}"),
         Order::Stranger(answer) => format!("stranger at {answer}"),
+    }
+}
+
+fn searched(outcome: Result<Option<Vec<u8>>, Refusal>) -> String {
+    match outcome {
+        Err(refusal) => refused(refusal),
+        Ok(None) => String::from("none"),
+        Ok(Some(word)) => format!("word {}", written(&word)),
     }
 }

@@ -166,6 +166,25 @@ fn driven() {
 }
 
 #[test]
+fn searched() {
+    assert_eq!(twin("word", ""), "word 0");
+    assert_eq!(answer(&format!("word {HOUSE}")), "word 0 1");
+    assert_eq!(twin("word", "{2 1}{3 9}{4 7*3}"), "word 0");
+    assert_eq!(answer("word {1 1 8 0*16}"), "word 0");
+    assert_eq!(answer("word {1 2 1 1 5 0 5}"), "none");
+    let around = "word {1 4 1 1 9 2 0 3 0 0 0}";
+    assert_eq!(answer(around), "word 0*3");
+    assert_eq!(answer("word {1 3 1 1 9 2 0 0 0}"), "word 0 0");
+    let long = "word {1 8 1 1 9 2 0 3 0 4 0 5 0 6 0 7 0 0 0}";
+    assert_eq!(answer(long), "none");
+    assert_eq!(answer("word -"), "refused 2 at 0");
+    assert_eq!(twin("word", " 0"), "refused 1 at 16");
+    assert_eq!(twin("word", "{2}{2}"), "refused 2 at 22");
+    assert_eq!(answer("word {1}"), "refused 3 at 0");
+    assert_eq!(answer("word {1 1 1 1 0}"), "refused 4 at 8");
+}
+
+#[test]
 fn two_parts() {
     let both = |line: &str| match question(line.as_bytes()) {
         Ok(Question::Desk { sheet, answers }) => (sheet, answers),

@@ -6,8 +6,8 @@ use super::reader::{Reader, Unreadable};
 /// The largest buffer that is lent.
 const MOST_ROOM: usize = MOST_BYTES;
 
-const NAMES: [&str; 9] = [
-    "judge", "certify", "build", "refusal", "part", "transfer", "desk", "house", "limits",
+const NAMES: [&str; 10] = [
+    "judge", "certify", "build", "refusal", "part", "transfer", "desk", "word", "house", "limits",
 ];
 
 #[derive(Clone, Debug, PartialEq, Eq)]
@@ -19,6 +19,7 @@ pub enum Question {
     Part { kind: u16, sheet: Vec<u8> },
     Transfer { from: u8, to: u8, sheet: Vec<u8> },
     Desk { sheet: Vec<u8>, answers: Vec<u8> },
+    Word { sheet: Vec<u8> },
     House { state: u8, command: u8 },
     Limits,
 }
@@ -59,17 +60,22 @@ fn fields(name: &str, reader: &mut Reader) -> Result<Question, Unreadable> {
             to: field(reader, 255)? as u8,
             sheet: sheet(reader)?,
         },
-        "desk" => {
-            reader.take(b' ')?;
-            let (sheet, answers) = two_parts(reader)?;
-            Question::Desk { sheet, answers }
-        }
+        "desk" => desk(reader)?,
+        "word" => Question::Word {
+            sheet: sheet(reader)?,
+        },
         "house" => Question::House {
             state: field(reader, 255)? as u8,
             command: field(reader, 255)? as u8,
         },
         _ => Question::Limits,
     })
+}
+
+fn desk(reader: &mut Reader) -> Result<Question, Unreadable> {
+    reader.take(b' ')?;
+    let (sheet, answers) = two_parts(reader)?;
+    Ok(Question::Desk { sheet, answers })
 }
 
 /// The space in front of a field, and a number.
@@ -93,6 +99,7 @@ impl Question {
             Question::Part { .. } => "part",
             Question::Transfer { .. } => "transfer",
             Question::Desk { .. } => "desk",
+            Question::Word { .. } => "word",
             Question::House { .. } => "house",
             Question::Limits => "limits",
         }
@@ -107,7 +114,7 @@ impl Question {
             Question::Refusal { kind, .. } | Question::Part { kind, .. } => vec![usize::from(kind)],
             Question::Transfer { from, to, .. } => vec![usize::from(from), usize::from(to)],
             Question::House { state, command } => vec![usize::from(state), usize::from(command)],
-            Question::Desk { .. } | Question::Limits => Vec::new(),
+            Question::Desk { .. } | Question::Word { .. } | Question::Limits => Vec::new(),
         }
     }
 
@@ -119,7 +126,8 @@ impl Question {
             | Question::Build { sheet, .. }
             | Question::Refusal { sheet, .. }
             | Question::Part { sheet, .. }
-            | Question::Transfer { sheet, .. } => vec![sheet],
+            | Question::Transfer { sheet, .. }
+            | Question::Word { sheet } => vec![sheet],
             Question::Desk { sheet, answers } => vec![sheet, answers],
             Question::House { .. } | Question::Limits => Vec::new(),
         }

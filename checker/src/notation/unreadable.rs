@@ -51,6 +51,7 @@ fn names() {
     told("j^;jud^;ju^ry 1 -;judge^;judge^s 1 -;judge^\t1 -");
     told("limit^;limi^x;limits^ ;limits^x;limits^\r;limits^ 1");
     told("part^s 1 -;pa^ss 1 -;house^;refusal^:1 -;certify^-");
+    told("w^;wor^;wo^lf -;word^;word^s -;word^-;word^{1};word^/ -;^Word -");
 }
 
 #[test]
@@ -61,6 +62,8 @@ fn fields() {
     told("transfer 1^;transfer 1 ^;transfer 1 ^- -;transfer 1 2^");
     told("transfer 1 2 ^;transfer 1 2 3^-;transfer 1 2^-");
     told("house 1^;house 1 ^;house 1 2^ ;house 1 2^ 3;house 1 2^-");
+    told("word ^;word ^ -;word 1 ^;word 1 ^-;word -^ -;word -^ / -;word {1}^-;word {1} ^/ -");
+    readable("word -;word 1;word {1}{2} 5;word 0*1048576");
 }
 
 #[test]
@@ -141,7 +144,7 @@ fn most_bytes_of_two_parts() {
 }
 
 /// Cases whose ends complete whatever a case goes on from.
-const WHOLE: [&str; 13] = [
+const WHOLE: [&str; 14] = [
     "judge 1 -",
     "certify 1 -",
     "build 1 -",
@@ -150,6 +153,7 @@ const WHOLE: [&str; 13] = [
     "transfer 1 1 -",
     "house 1 1",
     "desk - / -",
+    "word -",
     "limits",
     "desk 0*0 / 0*0",
     "desk {1:1 0*0} / {1:1 0*0}",

@@ -1,12 +1,16 @@
-// The benchmark of certifying: what the proved functions cost beside an unverified near-linear
-// certifier, the checker's, on the same sheets, both with parsing and all checks. Prints tables in
-// Markdown; ends with status 1 only where the two sides answer differently.
+// The benchmark of certifying and of the search for a word: what the proved functions cost beside
+// an unverified near-linear certifier, and the program `cases` beside unverified searches, the
+// checker's, on the same sheets, all with parsing and all checks. Prints tables in Markdown; ends
+// with status 1 only where two sides answer differently, or the program cannot be run.
 
 mod chains;
+mod children;
 mod clock;
 mod machines;
 mod measure;
 mod scratch;
+mod searched;
+mod searching;
 mod sides;
 mod stack;
 mod table;
@@ -16,8 +20,10 @@ use checker::machine::LONGEST_SEQUENCE;
 use checker::random::Random;
 use checker::rig::{rig_certify, rig_judge};
 use measure::{medians, Times};
+use searching::searching;
 use sides::{proved, Sides};
 use stack::PaintedStack;
+use std::path::PathBuf;
 use std::process::ExitCode;
 use table::{figure, head, row, Bars};
 use workloads::Workload;
@@ -26,39 +32,67 @@ use workloads::Workload;
 const STACK_BAR: f64 = 65_536.0;
 /// The lengths at which growth is looked at.
 const LENGTHS: [usize; 5] = [1_000, 2_000, 5_000, 10_000, LONGEST_SEQUENCE];
-const USAGE: &str = "usage: benchmark [--seed S]";
+const USAGE: &str = "usage: benchmark [--seed S] [--directory D] [--only-searching]
+  --seed S          start of all random choices (default 1)
+  --directory D     where the program cases is (default target/bin)
+  --only-searching  the search for a word alone";
+
+struct Options {
+    seed: u64,
+    directory: PathBuf,
+    only_searching: bool,
+}
 
 fn main() -> ExitCode {
-    let Some(seed) = seed() else {
+    let Some(options) = options() else {
         eprintln!("{USAGE}");
         return ExitCode::from(2);
     };
-    match benchmark(seed) {
+    match benchmark(&options) {
         Ok(bars) => {
             println!("\n{}", bars.verdict());
             ExitCode::SUCCESS
         }
         Err(difference) => {
-            println!("\nbenchmark: the answers differ: {difference}");
+            println!("\nbenchmark: {difference}");
             ExitCode::FAILURE
         }
     }
 }
 
-/// The seed that the arguments ask for; none if they are not understood.
-fn seed() -> Option<u64> {
-    let arguments: Vec<String> = std::env::args().skip(1).collect();
-    match arguments.as_slice() {
-        [] => Some(1),
-        [flag, seed] if flag == "--seed" => seed.parse().ok(),
-        _ => None,
+/// What the arguments ask for; none if they are not understood.
+fn options() -> Option<Options> {
+    let mut options = Options {
+        seed: 1,
+        directory: PathBuf::from("target/bin"),
+        only_searching: false,
+    };
+    let mut arguments = std::env::args().skip(1);
+    while let Some(name) = arguments.next() {
+        match name.as_str() {
+            "--seed" => options.seed = arguments.next()?.parse().ok()?,
+            "--directory" => options.directory = PathBuf::from(arguments.next()?),
+            "--only-searching" => options.only_searching = true,
+            _ => return None,
+        }
     }
+    Some(options)
 }
 
-fn benchmark(seed: u64) -> Result<Bars, String> {
+fn benchmark(options: &Options) -> Result<Bars, String> {
+    let seed = options.seed;
+    let mut bars = Bars::default();
+    if !options.only_searching {
+        certifying_and_judging(seed, &mut bars)?;
+    }
+    println!("\n# The search for a word: program and unverified baselines, seed {seed}");
+    searching(&options.directory, &mut Random::new(seed), &mut bars)?;
+    Ok(bars)
+}
+
+fn certifying_and_judging(seed: u64, bars: &mut Bars) -> Result<(), String> {
     let mut random = Random::new(seed);
     let mut sides = Sides::new(seed);
-    let mut bars = Bars::default();
     let built = workloads::built(&mut random);
     let house = workloads::house_workloads();
     let mut all: Vec<Workload> = Vec::new();
@@ -66,15 +100,15 @@ fn benchmark(seed: u64) -> Result<Bars, String> {
     all.extend(workloads::random_workloads(&mut random));
     all.extend(workloads::hostile(&mut random));
     println!("# Certifying: proved function and unverified baseline, seed {seed}");
-    ratios(&all, &mut sides, &mut bars)?;
+    ratios(&all, &mut sides, bars)?;
     growth(&[&house[0], &built[0], &built[5]], &mut sides)?;
     judging(built.iter().chain(&house), &mut sides)?;
-    stack_taken(&all, &mut random, &mut bars);
+    stack_taken(&all, &mut random, bars);
     println!(
         "\nThe baseline's workspace: {} bytes.",
         workspace(&built[5])
     );
-    Ok(bars)
+    Ok(())
 }
 
 /// Both sides on every workload.

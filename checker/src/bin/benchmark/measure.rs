@@ -51,7 +51,7 @@ fn sample(call: &mut impl FnMut(), calls: usize) -> f64 {
     (now() - start) / calls as f64
 }
 
-fn median(mut times: Vec<f64>) -> f64 {
+pub fn median(mut times: Vec<f64>) -> f64 {
     times.sort_by(f64::total_cmp);
     times[times.len() / 2]
 }

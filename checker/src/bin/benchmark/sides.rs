@@ -59,10 +59,14 @@ impl Sides {
 
     fn compare(&self, name: &str, ours: u64, theirs: u64) -> Result<u64, String> {
         if ours != theirs {
-            return Err(format!("{name}: baseline {ours:#x}, proved {theirs:#x}"));
+            return Err(format!(
+                "the answers differ: {name}: baseline {ours:#x}, proved {theirs:#x}"
+            ));
         }
         match (0..ROOM).find(|&byte| self.ours[byte] != self.theirs[byte]) {
-            Some(byte) => Err(format!("{name}: the marks differ at byte {byte}")),
+            Some(byte) => Err(format!(
+                "the answers differ: {name}: the marks differ at byte {byte}"
+            )),
             None => Ok(ours),
         }
     }

@@ -1,9 +1,11 @@
 // What a run with cases as text has to meet, in groups.
 
+use super::searches::SIZES;
+use crate::checking::searches;
 use crate::checking::tally::Group;
 use crate::checking::visitors::{STATES, UNITS};
 
-const GROUPS: [Group; 23] = [
+const GROUPS: [Group; 24] = [
     (
         "build",
         "built, refused 1, refused 2, refused 3, refused 4, refused 5, refused 6, refused 8, refused 9",
@@ -54,6 +56,10 @@ const GROUPS: [Group; 23] = [
     ("desk, units", UNITS),
     ("desk, any bytes", "asked"),
     ("desk, copies begun in state", STATES),
+    (
+        "word, permutations",
+        "word of 1, word of 2, word of 3, word of 4, word of 5, word of 6, none",
+    ),
     ("house", "inside, outside"),
     ("limits", "asked"),
     (
@@ -72,10 +78,14 @@ const GROUPS: [Group; 23] = [
     ),
 ];
 /// What is the same in every run.
-const FIXED: Group = ("chains", "house unit, ring, doubling, longest dialogue");
+const FIXED: [Group; 2] = [
+    ("chains", "house unit, ring, doubling, longest dialogue"),
+    ("word, all machines of the size", SIZES),
+];
 
 pub const KINDS: &str = "0, 1, 2, 3, 4, 5, 257, 258, 65535, other";
 /// All groups, what is the same in every run among them or not.
 pub fn groups(fixed: bool) -> impl Iterator<Item = Group> {
-    GROUPS.into_iter().chain(fixed.then_some(FIXED))
+    let fixed = FIXED.into_iter().filter(move |_| fixed);
+    GROUPS.into_iter().chain(searches::groups()).chain(fixed)
 }

@@ -35,7 +35,14 @@ fn two_parts(random: &mut Random) -> String {
 
 /// Bytes and records that leave at most some ten bytes, and something behind.
 fn line(random: &mut Random) -> String {
-    let names = ["refusal 1", "part 2", "build 3", "transfer 0 0", "desk"];
+    let names = [
+        "refusal 1",
+        "part 2",
+        "build 3",
+        "transfer 0 0",
+        "desk",
+        "word",
+    ];
     let mut line = String::from(*random.pick(&names));
     let mut left = MOST_BYTES - random.below(12);
     if random.once_in(2) {

@@ -14,6 +14,7 @@ mod near;
 mod numbers;
 mod parts;
 mod reached;
+mod searches;
 mod sheets;
 mod sizes;
 mod spelling;
@@ -27,7 +28,7 @@ mod unreadable;
 pub use compare::{first_difference, program_difference};
 pub use driver::{LIMIT, NAME};
 pub use reached::Reached;
-pub use sheets::{for_building, maybe_refused};
+pub use sheets::{for_building, maybe_refused, nonsense};
 pub use spoils::CasesSpoil;
 
 use super::compare::Comparer;
@@ -39,15 +40,17 @@ use driver::Driver;
 type Generator = fn(&mut Driver, &mut Random) -> Result<(), Difference>;
 
 /// One round of cases; what comes several times makes few cases at a time.
-const ROUND: [Generator; 33] = [
+const ROUND: [Generator; 39] = [
     building::every_room,
     marks::marks,
     parts::parts,
     between::between,
     desks::desks,
+    searches::searches,
     transfers::transfers,
     building::refused,
     desks::refused,
+    searches::refused,
     marks::marks,
     near::near,
     building::long_rooms,
@@ -55,8 +58,10 @@ const ROUND: [Generator; 33] = [
     marks::marks,
     between::between,
     building::refused,
+    searches::searches,
     desks::desks,
     desks::refused,
+    searches::refused,
     parts::parts,
     unreadable::damaged,
     building::refused,
@@ -69,8 +74,10 @@ const ROUND: [Generator; 33] = [
     desks::refused,
     full::full,
     parts::parts,
+    searches::searches,
     desks::desks,
     desks::refused,
+    searches::refused,
     unreadable::damaged,
     marks::marks,
 ];
@@ -78,13 +85,17 @@ const ROUND: [Generator; 33] = [
 const SIZES: usize = 10;
 
 impl Comparer {
-    /// Random cases, some more than asked for, and the house unit's whole table.
+    /// Random cases, some more than asked for, the house unit's whole table, and
+    /// the words of all small machines.
     pub fn cases(&mut self, options: &Options) -> Result<(), Difference> {
         if options.cases == 0 {
             return Ok(());
         }
         let driver = &mut Driver::new(options, &mut self.counts.reached);
         tables::tables(driver, &mut Random::at(options.seed, 7, 0))?;
+        if !options.random_only {
+            searches::all_small(driver)?;
+        }
         let table = driver.asked;
         for round in 1.. {
             let mut random = Random::at(options.seed, 7, round);

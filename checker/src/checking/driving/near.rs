@@ -4,7 +4,7 @@ use super::driver::Driver;
 use crate::checking::difference::Difference;
 use crate::random::Random;
 
-const FIRST: [&str; 14] = [
+const FIRST: [&str; 16] = [
     "judge ",
     "certify ",
     "build ",
@@ -13,9 +13,11 @@ const FIRST: [&str; 14] = [
     "transfer ",
     "desk ",
     "desk - / ",
+    "word ",
     "house ",
     "limits",
     "judges",
+    "words ",
     "Build ",
     "par",
     " ",

@@ -10,7 +10,7 @@ use crate::random::Random;
 use crate::sheet::HEADER;
 
 /// What stands before a number, its limit, and what stands behind.
-const PLACES: [(&str, usize, &str); 23] = [
+const PLACES: [(&str, usize, &str); 26] = [
     ("judge ", MOST_BYTES, " -"),
     ("certify ", MOST_BYTES, " {1}"),
     ("build ", MOST_BYTES, " {4 }"),
@@ -25,6 +25,9 @@ const PLACES: [(&str, usize, &str); 23] = [
     ("desk 5*", MOST_BYTES, " / -"),
     ("desk - / 5*", MOST_BYTES, ""),
     ("desk 5*300 / 7*", MOST_BYTES - 300, ""),
+    ("word ", 255, " 7"),
+    ("word {1 1 1 0 ", 255, "}{2 5}"),
+    ("word {1 1 1 0 7} 5*", MOST_BYTES - 10, ""),
     ("house ", 255, " 0"),
     ("house 3 ", 255, ""),
     ("refusal 1 ", 255, ""),

@@ -1,9 +1,10 @@
 // What the program `cases` was asked and answered in a run.
 
 use super::expected::{groups, KINDS};
+use crate::checking::searches::{meet_asked, Asked};
 use crate::checking::tally::{names, Tally};
 use crate::desk::{Desk, Order};
-use crate::notation::{lines, Line, Question, Unreadable, MOST_INPUT};
+use crate::notation::{lines, part, Line, Question, Reader, Unreadable, MOST_INPUT};
 
 /// The name of what comes from the program.
 const OF: &str = "cases";
@@ -32,6 +33,11 @@ impl Reached {
             Ok(Question::Desk { sheet, answers }) => self.dialogue(sheet, answers),
             _ => {}
         }
+    }
+
+    /// A machine whose word is asked for.
+    pub fn searched(&mut self, asked: &Asked) {
+        meet_asked(&mut self.tally, asked);
     }
 
     /// How a dialogue went, and how many answers there were for it.
@@ -138,6 +144,10 @@ fn outcome(question: &Question, answer: &str) -> String {
         Question::Part { .. } => String::from("bytes"),
         Question::Transfer { .. } if answer == "commands -" => String::from("empty"),
         Question::Desk { .. } if answer.starts_with("command ") => String::from("orders"),
+        Question::Word { .. } if answer.starts_with("word ") => {
+            let mut commands = Reader::new(&answer.as_bytes()["word ".len()..]);
+            format!("word of {}", part(&mut commands).unwrap_or_default().len())
+        }
         Question::House { .. } if answer.starts_with("next 255 ") => String::from("outside"),
         Question::House { .. } => String::from("inside"),
         Question::Limits => String::from("asked"),
@@ -169,7 +179,7 @@ mod tests {
     fn all_is_missed_until_it_occurs() {
         let mut reached = Reached::default();
         let all = reached.missing(true).len();
-        assert_eq!(reached.missing(false).len(), all - 4);
+        assert_eq!(reached.missing(false).len(), all - 11);
         for (group, expected) in groups(true) {
             names(expected).for_each(|name| reached.meet(group, name));
         }
@@ -180,7 +190,8 @@ mod tests {
     #[test]
     fn counted_under_their_names() {
         let mut reached = Reached::default();
-        let input = b"#\x80\r\n\n> old\nlimits\nhouse 256\npart 4 {4}\npart 258 0\nbuild 0 -\r";
+        let input = b"#\x80\r\n\n> old\nlimits\nhouse 256\npart 4 {4}\npart 258 0\nword {1 4 1 1 1 2 0 3 0 0 0}\n\
+            word {1 2 1 0 0 0 0}\nword -\nbuild 0 -\r";
         reached.input(input);
         let seen = |line: &[u8], asked: &_, answer: &str| reached.answered(line, asked, answer);
         Answerer::new().text(input, seen).unwrap();
@@ -188,8 +199,9 @@ mod tests {
         let expected = "inputs: all; inputs: without last newline; limits: asked; lines: answer; \
              lines: case with carriage return; lines: comment; lines: comment with bytes above 127; \
              lines: comment with carriage return; lines: empty; part: empty record; part: refused; \
-             part, kinds: 258; part, kinds: 4; unreadable: digit too many; unreadable: other byte";
+             part, kinds: 258; part, kinds: 4; unreadable: digit too many; unreadable: other byte; \
+             word: none; word: refused 2; word: word of 3";
         assert_eq!(met.collect::<Vec<_>>().join("; "), expected);
-        assert_eq!(reached.cases, 5);
+        assert_eq!(reached.cases, 8);
     }
 }

@@ -1,7 +1,7 @@
 // Sheets for the program's cases.
 
 use crate::checking::damage::{bytes_damaged, damaged};
-use crate::checking::machines::{machine_and_word, separated};
+use crate::checking::machines::{machine_and_word, make_alike, separated};
 use crate::checking::sheets::case;
 use crate::machine::Machine;
 use crate::random::Random;
@@ -69,12 +69,7 @@ pub fn maybe_refused(random: &mut Random) -> Vec<u8> {
 fn alike(random: &mut Random) -> Vec<u8> {
     let (n, k) = (random.range(2, 6), random.range(1, 3));
     let (mut machine, word) = separated(random, n, k);
-    let one = random.below(n);
-    let other = (one + random.range(1, n - 1)) % n;
-    machine.next.copy_within(one * k..(one + 1) * k, other * k);
-    machine
-        .answer
-        .copy_within(one * k..(one + 1) * k, other * k);
+    make_alike(random, &mut machine);
     for_building(random, &machine, &word)
 }
 

@@ -8,7 +8,7 @@ use crate::notation::MOST_INPUT;
 use crate::random::Random;
 
 /// Long lines: what stands before, the byte that fills them, what stands behind.
-const FILLINGS: [(&[u8], u8, &[u8]); 11] = [
+const FILLINGS: [(&[u8], u8, &[u8]); 13] = [
     (b"#", b'x', b""),
     (b"# ", b' ', b"\n"),
     (b"house 3 ", b'0', b"3"),
@@ -17,6 +17,8 @@ const FILLINGS: [(&[u8], u8, &[u8]); 11] = [
     (b"build 5 ", b'0', b"6"),
     (b"desk ", b'0', b"5 / -\n"),
     (b"desk {1 1 1 0 7}{2 0} / ", b'0', b"7 7"),
+    (b"word {1 1 1 0 7} {", b'0', b"2 5}"),
+    (b"word ", b'0', b"5\n"),
     (b"> ", b'>', b"\nlimits"),
     (b"", b'\n', b"limits"),
     (b"x", b'y', b"z"),

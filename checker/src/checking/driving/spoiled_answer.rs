@@ -1,6 +1,8 @@
 // Spoils one answer among those that the program `cases` wrote.
 
-use crate::notation::{lines, part, question, written, Line, Reader, LENT};
+use crate::checking::searches::Wrong;
+use crate::checks::load;
+use crate::notation::{lines, part, question, written, Line, Question, Reader, LENT};
 
 /// What becomes of an answer; the words are those with which it has to begin,
 /// so that the way applies.
@@ -24,11 +26,13 @@ pub enum Change {
     Command,
     /// The offset of a record that was found, in an answer that ends so.
     Moved(&'static str),
+    /// The word that was found is a wrong one.
+    OtherWord(Wrong),
 }
 
 impl Change {
-    /// The spoiled answer, none where the way does not apply.
-    fn of(self, answer: &str) -> Option<String> {
+    /// The spoiled answer to this case, none where the way does not apply.
+    fn of(self, asked: &[u8], answer: &str) -> Option<String> {
         match self {
             Change::More(words) => more(answer, words),
             Change::Words(start, other) => {
@@ -52,6 +56,7 @@ impl Change {
             Change::Moved(end) if answer.ends_with(end) && !answer.starts_with("from 0 ") => {
                 more(answer, "from ")
             }
+            Change::OtherWord(way) => other_word(asked, answer, way),
             Change::Byte(_) | Change::LentByte(_) | Change::Moved(_) => None,
         }
     }
@@ -83,7 +88,7 @@ fn spoiled(above: &[u8], line: &[u8], case: &str, change: Change) -> Option<Stri
     if !plainly(asked).starts_with(case) {
         return None;
     }
-    change.of(answer.trim_end_matches('\n'))
+    change.of(asked, answer.trim_end_matches('\n'))
 }
 
 /// The case's name and numbers, a space behind each; `unreadable` if it is none.
@@ -105,6 +110,17 @@ fn more(answer: &str, words: &str) -> Option<String> {
     let (number, rest) = behind.split_at(digits.unwrap_or(behind.len()));
     let number = number.parse::<usize>().ok()? + 1;
     Some(format!("{before}{words}{number}{rest}"))
+}
+
+/// A wrong word in place of the one that was found.
+fn other_word(asked: &[u8], answer: &str, way: Wrong) -> Option<String> {
+    let found = answer.strip_prefix("word ")?;
+    let found = part(&mut Reader::new(found.as_bytes())).ok()?;
+    let Ok(Question::Word { sheet }) = question(asked) else {
+        return None;
+    };
+    let other = way.word(&load(&sheet).ok()?, &found)?;
+    Some(format!("word {}", written(&other)))
 }
 
 /// One of the bytes behind these words changed; none where there is no such.

@@ -2,10 +2,11 @@
 
 use super::spoiled_answer::spoil_answer;
 use super::spoiled_answer::Change::{
-    self, Answer, Byte, Command, Dropped, LentByte, Middle, More, Moved, Words,
+    self, Answer, Byte, Command, Dropped, LentByte, Middle, More, Moved, OtherWord, Words,
 };
 use super::spoiled_run::{answer_kept, comment_lost, count_more, newline_lost, too_long_taken};
 use crate::checking::process::Printed;
+use crate::checking::searches::Wrong;
 
 /// One of the ways, by its place in the two tables.
 #[derive(Clone, Copy, Debug, PartialEq, Eq)]
@@ -13,7 +14,7 @@ pub struct CasesSpoil(usize);
 
 /// A name, how the case begins, its numbers without needless zeros, and what
 /// becomes of the first answer to which the way applies.
-const ANSWERS: [(&str, &str, Change); 49] = [
+const ANSWERS: [(&str, &str, Change); 59] = [
     ("built-length", "build", More("built ")),
     ("built-byte", "build", Byte("built ")),
     ("byte-behind-built", "build", LentByte("built ")),
@@ -72,6 +73,20 @@ const ANSWERS: [(&str, &str, Change); 49] = [
     ("desk-place", "desk", More("refused 8 at ")),
     ("desk-taken", "desk", Answer("refused ", "command 0")),
     ("desk-refused", "desk", Answer("command ", "refused 2 at 0")),
+    ("word-later", "word", OtherWord(Wrong::Later)),
+    ("word-longer", "word", OtherWord(Wrong::Longer)),
+    ("word-shorter", "word", OtherWord(Wrong::Shorter)),
+    (
+        "word-not-separating",
+        "word",
+        OtherWord(Wrong::NotSeparating),
+    ),
+    ("word-lost", "word", Answer("word ", "none")),
+    ("word-invented", "word", Answer("none", "word 0")),
+    ("word-cause", "word", Words("refused 3 ", "refused 4 ")),
+    ("word-place", "word", More("refused 4 at ")),
+    ("word-taken", "word", Answer("refused ", "none")),
+    ("word-refused", "word", Answer("word ", "refused 2 at 0")),
     ("house-next", "house 3 2 ", More("next ")),
     ("house-answer", "house 255 255 ", More("answer ")),
     ("limits", "limits", More("sequence ")),

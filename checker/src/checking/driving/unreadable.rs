@@ -30,7 +30,7 @@ pub fn damaged(driver: &mut Driver, random: &mut Random) -> Result<(), Differenc
 pub fn short(random: &mut Random) -> Question {
     let sheet = short_sheet(random);
     let (kind, room) = (random.below(6) as u16, random.below(30));
-    match random.below(15) {
+    match random.below(17) {
         0 => Question::Limits,
         1 => Question::House {
             state: random.below(6) as u8,
@@ -50,6 +50,7 @@ pub fn short(random: &mut Random) -> Question {
             random.fill(&mut answers);
             Question::Desk { sheet, answers }
         }
+        13..=14 => Question::Word { sheet },
         _ => Question::Judge { room, sheet },
     }
 }

@@ -1,0 +1,43 @@
+// What a run has to meet of searches for a word, in groups; those of `bench word`
+// and those of the cases are counted by themselves.
+
+use super::machines::MACHINES;
+use crate::checking::tally::Group;
+
+/// What a search may give.
+const OUTCOMES: &str = "word of 1, word of 2, word of 3, word of 4, word of 5, word of 6, none, \
+     refused 1, refused 2, refused 3, refused 4";
+/// What stands behind the machine.
+const RECORDS: &str =
+    "nothing, a word that separates, a word that does not separate, no word, any records";
+/// Where no word is found.
+const NONE: &str = "a longer word separates, 10 states and 8 commands";
+
+const GROUPS: [Group; 5] = [
+    ("word", OUTCOMES),
+    ("word, machines", MACHINES),
+    ("word, behind the machine", RECORDS),
+    ("word, none", NONE),
+    ("word, found", "built and certified, not connected"),
+];
+
+pub fn groups() -> impl Iterator<Item = Group> {
+    GROUPS.into_iter()
+}
+
+#[cfg(test)]
+mod tests {
+    use super::*;
+    use crate::checking::tally::{names, Tally};
+
+    #[test]
+    fn all_is_missed_until_it_occurs() {
+        let mut tally = Tally::default();
+        let all: usize = groups().map(|(_, expected)| names(expected).count()).sum();
+        assert_eq!(tally.missing("word", groups()).len(), all);
+        for (group, expected) in groups() {
+            names(expected).for_each(|name| tally.meet(group, name));
+        }
+        assert!(tally.missing("word", groups()).is_empty());
+    }
+}
