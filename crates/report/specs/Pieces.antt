@@ -20,9 +20,10 @@ pub record Puts (before : List ℕ) (at : ℕ) (xs after : List ℕ) (end : ℕ)
 abbrev pub listRoom : ℕ
 listRoom = mostDigits + 1
 
--- what adding a record to a sheet needs: the records in front of it lie within the sheet, and all of it has room
+-- what adding a record to a sheet needs: there is a next kind, the records in front lie within the sheet, and all of it
+-- has room
 pub record ExtendRequires (kind : ℕ) (s xs : List ℕ) : Type 0 where
-  pub low : kind < 65535
+  pub low : kind < 4
   pub behind : end (recordOf kind s) ≤ length s
   pub short : length s ≤ longest
   pub few : length xs ≤ mostSequence

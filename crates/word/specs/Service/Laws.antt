@@ -3,11 +3,11 @@ use Prim.Native.Nat.{ℕ}
 use mathlib.Core.Path.{_≡_, refl, sym, ap, subst, _∙_}
 use mathlib.Core.Bool.{true}
 use mathlib.Core.List.{List, [], _∷_}
-use mathlib.Core.Option.{Option, none, some}
+use mathlib.Core.Option.{Option, none, some, mem-unique}
 use native.Mathlib.Omega.{arith}
 use lib.ListN.{length, take}
 use lib.Seq.{take-at}
-use Rattle.facts.specs.FirstOf.{Seen, nothing, value, seen}
+use Rattle.facts.specs.FirstOf.{some-none, Seen, nothing, value, seen}
 use Rattle.sheet.specs.declared.check.Check.{Check}
 use Rattle.sheet.specs.declared.check.Check.the-variants.{Clear, Refused}
 use Rattle.sheet.specs.Check.{_else_, firstCause, refusedOr}
@@ -141,19 +141,11 @@ pub found-passes : (s t : List ℕ) {w : List ℕ} → wordFound s ≡ some w �
 found-passes s t {w} e one two = go (searching-outcome s)
   where
     go : Outcome s (searching s) → firstCause (wordCauses true t) ≡ Clear
-    go (refused number place c a o) =
-        let z : _≡_ {A = Option (List ℕ)} none (some w) = sym o ∙ e in
-        let y : _≡_ {A = ℕ} 0 1 = cc in
-        absurd (omega arith)
-    go (missing c h a o) =
-        let z : _≡_ {A = Option (List ℕ)} none (some w) = sym o ∙ e in
-        let y : _≡_ {A = ℕ} 0 1 = cc in
-        absurd (omega arith)
+    go (refused number place c a o) = absurd (some-none e o)
+    go (missing c h a o) = absurd (some-none e o)
     go (found v c h a o) =
-        let z : _≡_ {A = Option (List ℕ)} (some v) (some w) = sym o ∙ e in
-        let q : v ≡ w = cc in
         let d : Distinguishes (machineIn t) (content 2 t) =
-        subst (Distinguishes (machineIn t)) (q ∙ sym two)
+        subst (Distinguishes (machineIn t)) (mem-unique o e ∙ sym two)
         (subst (λ (M : Mealy). Distinguishes M v) (sym (machine-same s t one))
         (eligible-distinguishes (machineIn s) (h .has))) in
         word-causes-are t
