@@ -1,10 +1,10 @@
 -- How the code's checks, made one by one, are the first cause of the lists.
 -- Assumes nothing.
-use Prim.Native.Nat.{ℕ, _+_, _≤_}
+use Prim.Native.Nat.{ℕ, _+_, _*_, _≤_}
 use mathlib.Core.Path.{_≡_, sym, ap, ap₂, _∙_}
 use mathlib.Core.Bool.{Bool, true, false}
 use mathlib.Core.List.{List}
-use lib.ListN.{length}
+use lib.ListN.{length, getD}
 use Rattle.sheet.specs.declared.check.Check.{Check}
 use Rattle.sheet.specs.declared.check.Check.the-variants.{Clear, Refused}
 use Rattle.sheet.specs.declared.record.Record.{Record}
@@ -18,10 +18,11 @@ use Rattle.machine.specs.declared.machine.Machine.{Machine}
 use Rattle.machine.specs.Limits.{mostWord}
 use Rattle.machine.specs.Machine.{Mealy, meaning}
 use Rattle.machine.specs.Machine.Laws.{meaning-commands}
-use Rattle.machine.specs.Causes.{outside, cause3, cause4, byteCause, cause5, commandsCause, cause6, machineIn}
-use Rattle.machine.specs.Causes.{held, machineCauses, wordCauses, loadCauses}
-use Rattle.machine.specs.Causes.Laws.{commands-cause-is}
-use Rattle.machine.specs.Causes.Lists.{machine-causes-are, word-causes-are, word-causes-none, load-causes-are}
+use Rattle.machine.specs.Causes.{outside, cause3, byteCause, cause5, commandsCause, cause6, machineIn, held}
+use Rattle.machine.specs.Causes.{tableCauses, machineCauses, wordCauses, loadCauses}
+use Rattle.machine.specs.Causes.Laws.{cause4-is, commands-cause-is}
+use Rattle.machine.specs.Causes.Lists.{table-causes-are, machine-causes-are, word-causes-are, word-causes-none}
+use Rattle.machine.specs.Causes.Lists.{load-causes-are}
 use Rattle.machine.specs.Causes.Lists.{clear-table, kind-reads, held-is, load-proper, word-distinguishes}
 use Rattle.machine.specs.declared.loading.Loaded.{Loaded}
 use Rattle.machine.specs.Loading.{LoadedFrom}
@@ -42,12 +43,31 @@ commands-are number most k kind s {r} {w} re we oe ae be ce =
     ∙ commands-cause-is number most k r w
     ∙ ap₂ (commandsCause number most k) re we
 
+-- what a scan of the pairs finds, by the payload's first two bytes
+pub pairs-are : (p : List ℕ) (f : ℕ → Check) {n k : ℕ} {c : Check} → n ≡ getD p 0 0 → k ≡ getD p 1 0
+    → c ≡ first (n * k) f → c ≡ first (getD p 0 0 * getD p 1 0) f
+pairs-are p f ne ke ce = ce ∙ ap₂ (λ (n k : ℕ). first (n * k) f) ne ke
+
+-- the causes of the table: 4 as the scan finds it
+pub payload-are : (r : Record) (p : List ℕ) {n : ℕ} {three four c : Check} → three ≡ cause3 r p → n ≡ getD p 0 0
+    → four ≡ first (getD p 0 0 * getD p 1 0) (byteCause 4 (r .start + header) p 2 2 n) → c ≡ (three else four)
+    → c ≡ firstCause (tableCauses r p)
+payload-are r p te ne fe ce =
+    ce
+    ∙ ap₂ _else_ te
+    (fe
+    ∙ ap (λ (x : ℕ). first (getD p 0 0 * getD p 1 0) (byteCause 4 (r .start + header) p 2 2 x)) ne
+    ∙ cause4-is r p)
+    ∙ sym (table-causes-are r p)
+
 -- causes 1 to 4
-pub table-are : (n : Needs) (s : List ℕ) {r : Record} {p : List ℕ} {kinds three four inner c : Check}
-    → kinds ≡ firstCause (sheetCauses (needed n) s) → r ≡ recordOf 1 s → p ≡ content 1 s → three ≡ cause3 r p
-    → four ≡ cause4 r p → inner ≡ (three else four) → c ≡ (kinds else inner) → c ≡ firstCause (machineCauses n s)
-table-are n s ke re pe te fe ie ce =
-    ce ∙ ap₂ _else_ ke (ie ∙ ap₂ _else_ (te ∙ ap₂ cause3 re pe) (fe ∙ ap₂ cause4 re pe)) ∙ sym (machine-causes-are n s)
+pub table-are : (n : Needs) (s : List ℕ) {r : Record} {p : List ℕ} {kinds table c : Check}
+    → kinds ≡ firstCause (sheetCauses (needed n) s) → r ≡ recordOf 1 s → p ≡ content 1 s
+    → table ≡ firstCause (tableCauses r p) → c ≡ (kinds else table) → c ≡ firstCause (machineCauses n s)
+table-are n s ke re pe te ce =
+    ce
+    ∙ ap₂ _else_ ke (te ∙ ap₂ (λ (x : Record) (y : List ℕ). firstCause (tableCauses x y)) re pe)
+    ∙ sym (machine-causes-are n s)
 
 -- causes 5 and 6, of the machine that the program holds
 module _ (s : List ℕ) (m : Machine) (h : meaning m ≡ machineIn s) where

@@ -76,10 +76,13 @@ machineIn s = machineOf (content 1 s)
 unfoldable pub held : List ℕ → Mealy
 held s = machineOf (take mostMachine (content 1 s))
 
+-- the causes of a machine's payload in order (§4.1), by its record
+unfoldable pub tableCauses : Record → List ℕ → List Check
+tableCauses r p = cause3 r p ∷ cause4 r p ∷ []
+
 -- causes 1 to 4 in order (§4.1), for a service that needs the machine and these kinds besides
 unfoldable pub machineCauses : Needs → List ℕ → List Check
-machineCauses needs s =
-    sheetCauses (needed needs) s ++ (cause3 (recordOf 1 s) (content 1 s) ∷ cause4 (recordOf 1 s) (content 1 s) ∷ [])
+machineCauses needs s = sheetCauses (needed needs) s ++ tableCauses (recordOf 1 s) (content 1 s)
 
 -- causes 5 and 6 in order (§4.1) where the word is needed, else none
 unfoldable pub wordCauses : Bool → List ℕ → List Check

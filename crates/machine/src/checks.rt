@@ -1,9 +1,11 @@
 // Causes 3, 4, 5 and 7: the machine's shape, its next states, and the commands of a word or a sequence.
 ghost use mathlib.Core.Path.{_≡_};
-ghost use Prim.Native.Nat.{_+_, _*_, _<_, _^_};
-ghost use Rattle.sheet.specs.Check.{first};
+ghost use Prim.Native.Nat.{_+_, _*_, _≤_, _<_, _^_};
+ghost use lib.ListN.{getD};
+ghost use Rattle.sheet.specs.Check.{first, firstCause};
+ghost use Rattle.sheet.specs.Format.{header};
 ghost use Rattle.sheet.specs.Reader.{recordOf, content};
-ghost use Rattle.machine.specs.Causes.{cause3, cause4, byteCause, commandsCause};
+ghost use Rattle.machine.specs.Causes.{cause3, tableCauses, byteCause, commandsCause};
 ghost use Rattle.machine.specs.Causes.{outside as outsideOf};
 use crate::machine::Machine;
 use sheet::Check;
@@ -51,7 +53,7 @@ fn scan(
 }
 
 // Cause 3, of a payload and its record.
-pub fn shape(r: Record, p: &[u8]) -> Check
+fn shape(r: Record, p: &[u8]) -> Check
     ensures { λ c. ⌜ c ≡ cause3 r (now (p .entry)) ⌝ }
 {
     let n = byte(p, 0) as usize;
@@ -61,14 +63,27 @@ pub fn shape(r: Record, p: &[u8]) -> Check
     refuse(3, r.start, states | commands | (p.len() != 2 + 2 * (n * k)))
 }
 
-// Cause 4, likewise.
-pub fn next_states(r: Record, p: &[u8]) -> Check
+// The first of the n·k pairs of a payload whose byte is bound or more: every second byte from a
+// place on.
+fn scan_pairs(number: u8, r: Record, p: &[u8], from: usize, bound: u8) -> Check
     requires { ⌜ r .start < 2 ^ 63 ⌝ }
-    ensures { λ c. ⌜ c ≡ cause4 r (now (p .entry)) ⌝ }
+    requires { ⌜ from ≤ 3 ⌝ }
+    ensures { λ c. ⌜ c ≡ first (getD (now (p .entry)) 0 0 * getD (now (p .entry)) 1 0)
+        (byteCause number (r .start + header) (now (p .entry)) from 2 bound) ⌝ }
 {
-    let n = byte(p, 0);
-    let k = byte(p, 1);
-    scan(4, r.start + HEADER, p, 2, 2, n as usize * k as usize, n)
+    let n = byte(p, 0) as usize;
+    let k = byte(p, 1) as usize;
+    scan(number, r.start + HEADER, p, from, 2, n * k, bound)
+}
+
+// The causes of a machine's payload, by its record.
+pub fn table(r: Record, p: &[u8]) -> Check
+    requires { ⌜ r .start < 2 ^ 63 ⌝ }
+    ensures { λ c. ⌜ c ≡ firstCause (tableCauses r (now (p .entry))) ⌝ }
+{
+    let three = shape(r, p);
+    let four = scan_pairs(4, r, p, 2, byte(p, 0));
+    first_of(three, four)
 }
 
 // Causes 5 and 7: the commands of a record of a sheet, for a machine of k commands. The answer

@@ -5,8 +5,7 @@ ghost use Rattle.machine.specs.Machine.{meaning};
 ghost use Rattle.machine.specs.Causes.{machineIn, held, machineCauses, wordCauses, loadCauses};
 ghost use Rattle.machine.specs.Loading.{LoadedFrom};
 use crate::checks::commands;
-use crate::checks::next_states;
-use crate::checks::shape;
+use crate::checks::table;
 use crate::machine::Machine;
 use crate::separation::separation;
 use sheet::Check;
@@ -31,9 +30,7 @@ fn table_check(sheet: &[u8], needs: Needs) -> Check
     let kinds = checks(sheet, needs);
     let r = record_of(sheet, MACHINE_KIND);
     let p = read(sheet, MACHINE_KIND);
-    let three = shape(r, p);
-    let four = next_states(r, p);
-    first_of(kinds, first_of(three, four))
+    first_of(kinds, table(r, p))
 }
 
 // Causes 5 and 6, where the word is needed, for the sheet's machine.

@@ -19,8 +19,8 @@ use Rattle.sheet.specs.Reader.{sheetCauses, when, needed, refusalOf, recordOf, 
 use Rattle.sheet.specs.Writing.{written}
 use Rattle.machine.specs.House.{housePayload, house, houseWord}
 use Rattle.machine.specs.Machine.{machineOf, run, answers}
-use Rattle.machine.specs.Causes.{cause3, cause4, commandsCause, cause6, machineIn, machineCauses, wordCauses}
-use Rattle.machine.specs.Causes.{loadCauses}
+use Rattle.machine.specs.Causes.{cause3, cause4, commandsCause, cause6, machineIn, tableCauses, machineCauses}
+use Rattle.machine.specs.Causes.{wordCauses, loadCauses}
 use Rattle.certify.specs.Marks.Twin.{twin, single}
 use Rattle.certify.specs.declared.answer.Answer.the-variants.{Certified}
 use Rattle.certify.specs.Certification.{cause9, outcome}
@@ -77,9 +77,9 @@ nine-clear room size l = else-end _ ∙ absent 9 size (le-ltb room size l)
 twin-clear : (room : ℕ) → 12 ≤ room → firstCause (buildCauses room twinSheet) ≡ Clear
 unfolding twinSheet refusal_with_if_ _else_ firstCause first recordAt offset end kindOf cause1 cause2 causeAt parseStep
     parseFrom parse parsed ofKind _or_ find sheetCauses when needed refusalOf recordOf part partBytes content machineOf
-    run answers cause3 cause4 commandsCause cause6 machineIn machineCauses wordCauses loadCauses cause9 guard orElse
-    firstOf firstString firstPath transfer following T nthState firstBlocks opening approach test stateTests tests
-    sequence cause8 connectedCauses buildCauses
+    run answers cause3 cause4 commandsCause cause6 machineIn tableCauses machineCauses wordCauses loadCauses cause9
+    guard orElse firstOf firstString firstPath transfer following T nthState firstBlocks opening approach test
+    stateTests tests sequence cause8 connectedCauses buildCauses
 twin-clear room l = nine-clear room 12 l
 
 pub twin-building : (room : ℕ) → 12 ≤ room → building room twinSheet ≡ Built 12
@@ -96,9 +96,9 @@ twin-buffer buffer l =
 pub disconnected-building : (room : ℕ) → building room disconnectedSheet ≡ Refused 8 1
 unfolding building disconnectedSheet refusal_with_if_ _else_ firstCause first recordAt offset end kindOf cause1 cause2
     causeAt parseStep parseFrom parse parsed ofKind _or_ find sheetCauses when needed refusalOf recordOf part partBytes
-    content machineOf run answers cause3 cause4 commandsCause cause6 machineIn machineCauses wordCauses loadCauses
-    cause9 guard orElse firstOf firstString firstPath transfer following T nthState firstBlocks opening approach test
-    stateTests tests sequence cause8 connectedCauses buildCauses
+    content machineOf run answers cause3 cause4 commandsCause cause6 machineIn tableCauses machineCauses wordCauses
+    loadCauses cause9 guard orElse firstOf firstString firstPath transfer following T nthState firstBlocks opening
+    approach test stateTests tests sequence cause8 connectedCauses buildCauses
 disconnected-building room = refl
 
 -- ---- the sequence of one state and one command
@@ -127,9 +127,9 @@ single-built-sequence answer = ap₂ sequence (single-machine answer) (single-wo
 single-clear : (answer room : ℕ) → 4 ≤ room → firstCause (buildCauses room (singleSheet answer)) ≡ Clear
 unfolding singleSheet refusal_with_if_ _else_ firstCause first recordAt offset end kindOf cause1 cause2 causeAt
     parseStep parseFrom parse parsed ofKind _or_ find sheetCauses when needed refusalOf recordOf part partBytes content
-    machineOf run answers cause3 cause4 commandsCause cause6 machineIn machineCauses wordCauses loadCauses cause9 guard
-    orElse firstOf firstString firstPath transfer following T nthState firstBlocks opening approach test stateTests
-    tests sequence cause8 connectedCauses buildCauses
+    machineOf run answers cause3 cause4 commandsCause cause6 machineIn tableCauses machineCauses wordCauses loadCauses
+    cause9 guard orElse firstOf firstString firstPath transfer following T nthState firstBlocks opening approach test
+    stateTests tests sequence cause8 connectedCauses buildCauses
 single-clear answer room l = nine-clear room 4 l
 
 pub single-building : (answer room : ℕ) → 4 ≤ room → building room (singleSheet answer) ≡ Built 4

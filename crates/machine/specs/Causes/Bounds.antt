@@ -18,11 +18,11 @@ use Rattle.sheet.specs.Reader.Laws.{record-inside}
 use Rattle.sheet.specs.Reader.Bounds.{Small, sheet-small, sheet-short, offset-inside, Bytes, content-bytes}
 use Rattle.machine.specs.Limits.{mostStates, mostWord}
 use Rattle.machine.specs.Machine.{Mealy, pairAt, machineOf}
-use Rattle.machine.specs.Causes.{outside, cause3, cause4, commandsCause, cause5, cause6, machineIn, machineCauses}
-use Rattle.machine.specs.Causes.{wordCauses, loadCauses}
+use Rattle.machine.specs.Causes.{outside, cause3, cause4, commandsCause, cause5, cause6, machineIn, tableCauses}
+use Rattle.machine.specs.Causes.{machineCauses, wordCauses, loadCauses}
 use Rattle.machine.specs.Causes.Laws.{Shape, clear-shape}
-use Rattle.machine.specs.Causes.Lists.{machine-causes-are, word-causes-are, word-causes-none, load-causes-are}
-use Rattle.machine.specs.Causes.Lists.{machine-proper, clear-table}
+use Rattle.machine.specs.Causes.Lists.{table-causes-are, machine-causes-are, word-causes-are, word-causes-none}
+use Rattle.machine.specs.Causes.Lists.{load-causes-are, machine-proper, clear-table}
 
 -- ---- each cause, on a sheet that is not too long
 module _ (s : List ℕ) (short : length s ≤ longest) where
@@ -41,6 +41,12 @@ module _ (s : List ℕ) (short : length s ≤ longest) where
         number = omega arith;
         place = omega (arith, offset-inside 1 s (pairAt e) (omega (arith, h .long)));
       }))
+
+  table-small : WhereRefused Small (firstCause (tableCauses (recordOf 1 s) (content 1 s)))
+  table-small =
+      place-of Small (table-causes-are (recordOf 1 s) (content 1 s))
+      (place-else Small (cause3 (recordOf 1 s) (content 1 s)) (cause4 (recordOf 1 s) (content 1 s)) cause3-small
+      (λ t. cause4-small (clear-shape (recordOf 1 s) (content 1 s) t)))
 
   -- causes 5 and 7, of the record of any kind
   pub commands-small : (number most k kind : ℕ) → number < 100
@@ -70,12 +76,8 @@ module _ (n : Needs) (s : List ℕ) where
   machine-small =
       place-of Small (machine-causes-are n s)
       (place-else Small (firstCause (sheetCauses (needed n) s))
-      (cause3 (recordOf 1 s) (content 1 s) else cause4 (recordOf 1 s) (content 1 s))
-      (sheet-small (needed n) s)
-      (λ q.
-      let l : length s ≤ longest = sheet-short (needed n) s q in
-      place-else Small (cause3 (recordOf 1 s) (content 1 s)) (cause4 (recordOf 1 s) (content 1 s)) (cause3-small s l)
-      (λ t. cause4-small s l (clear-shape (recordOf 1 s) (content 1 s) t))))
+      (firstCause (tableCauses (recordOf 1 s) (content 1 s))) (sheet-small (needed n) s)
+      (λ q. table-small s (sheet-short (needed n) s q)))
 
   machine-short : firstCause (machineCauses n s) ≡ Clear → length s ≤ longest
   machine-short e = sheet-short (needed n) s (both-clear _ _ (sym (machine-causes-are n s) ∙ e) .0)

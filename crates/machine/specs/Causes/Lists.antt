@@ -2,11 +2,10 @@
 use Prim.Native.Nat.{ℕ}
 use mathlib.Core.Path.{_≡_, refl, sym, ap, ap₂, _∙_}
 use mathlib.Core.Bool.{Bool, true, false}
-use mathlib.Core.List.{List, [], _∷_, List·Memᴰ}
+use mathlib.Core.List.{List, List·Memᴰ}
 use native.Mathlib.Omega.{arith}
 use lib.ListN.{take}
 use lib.Seq.{take-all}
-use Rattle.sheet.specs.declared.check.Check.{Check}
 use Rattle.sheet.specs.declared.check.Check.the-variants.{Clear}
 use Rattle.sheet.specs.declared.record.Record.{Record}
 use Rattle.sheet.specs.declared.record.Found.the-variants.{At}
@@ -19,21 +18,20 @@ use Rattle.sheet.specs.Reader.Laws.{needed-without-answers, needed-machine, nee
 use Rattle.sheet.specs.Reader.Laws.{record-found}
 use Rattle.machine.specs.Limits.{mostMachine, mostWord}
 use Rattle.machine.specs.Machine.{Mealy, machineOf, Proper, Distinguishes}
-use Rattle.machine.specs.Causes.{cause3, cause4, cause5, cause6, machineIn, held, machineCauses, wordCauses}
-use Rattle.machine.specs.Causes.{loadCauses}
+use Rattle.machine.specs.Causes.{cause3, cause4, cause5, cause6, machineIn, held, tableCauses, machineCauses}
+use Rattle.machine.specs.Causes.{wordCauses, loadCauses}
 use Rattle.machine.specs.Causes.Laws.{Shape, clear-shape, shape-entries, clear-next, clear-commands}
 use Rattle.machine.specs.Causes.Separation.{clear-separates}
 
 -- ---- the lists, written out
+pub table-causes-are : (r : Record) (p : List ℕ) → firstCause (tableCauses r p) ≡ (cause3 r p else cause4 r p)
+unfolding tableCauses
+table-causes-are r p = cause-two (cause3 r p) (cause4 r p)
+
 pub machine-causes-are : (n : Needs) (s : List ℕ) → firstCause (machineCauses n s)
-    ≡ (firstCause (sheetCauses (needed n) s)
-    else (cause3 (recordOf 1 s) (content 1 s) else cause4 (recordOf 1 s) (content 1 s)))
+    ≡ (firstCause (sheetCauses (needed n) s) else firstCause (tableCauses (recordOf 1 s) (content 1 s)))
 unfolding machineCauses
-machine-causes-are n s =
-    cause-append (sheetCauses (needed n) s)
-    (cause3 (recordOf 1 s) (content 1 s) ∷ cause4 (recordOf 1 s) (content 1 s) ∷ [])
-    ∙ ap (λ (c : Check). firstCause (sheetCauses (needed n) s) else c)
-    (cause-two (cause3 (recordOf 1 s) (content 1 s)) (cause4 (recordOf 1 s) (content 1 s)))
+machine-causes-are n s = cause-append (sheetCauses (needed n) s) (tableCauses (recordOf 1 s) (content 1 s))
 
 pub word-causes-are : (s : List ℕ) → firstCause (wordCauses true s)
     ≡ (cause5 (machineIn s .k) (recordOf 2 s) (content 2 s) else cause6 (machineIn s) (content 2 s))
@@ -61,18 +59,20 @@ pub machine-same : (s t : List ℕ) → content 1 t ≡ content 1 s → machineI
 unfolding machineIn
 machine-same s t e = ap machineOf e
 
--- a sheet with the same record 1 has no cause 3 or 4 either
+-- a sheet with the same record 1 has no cause of the table either
 pub table-same : (s t : List ℕ) → find 1 (parsed t .records) ≡ At (recordOf 1 s) → content 1 t ≡ content 1 s
-    → (cause3 (recordOf 1 s) (content 1 s) else cause4 (recordOf 1 s) (content 1 s)) ≡ Clear
-    → (cause3 (recordOf 1 t) (content 1 t) else cause4 (recordOf 1 t) (content 1 t)) ≡ Clear
+    → firstCause (tableCauses (recordOf 1 s) (content 1 s)) ≡ Clear
+    → firstCause (tableCauses (recordOf 1 t) (content 1 t)) ≡ Clear
 table-same s t found one e =
     let record-one : recordOf 1 t ≡ recordOf 1 s = sym (record-found 1 t {f = At (recordOf 1 s)} (sym found) refl) in
-    ap₂ (λ (r : Record) (c : List ℕ). cause3 r c else cause4 r c) record-one one ∙ e
+    ap₂ (λ (r : Record) (p : List ℕ). firstCause (tableCauses r p)) record-one one ∙ e
 
 -- ---- where they are clear
 module _ (n : Needs) (s : List ℕ) (e : firstCause (machineCauses n s) ≡ Clear) where
   table-clear : (cause3 (recordOf 1 s) (content 1 s) ≡ Clear) × (cause4 (recordOf 1 s) (content 1 s) ≡ Clear)
-  table-clear = both-clear _ _ (both-clear _ _ (sym (machine-causes-are n s) ∙ e) .1)
+  table-clear =
+      both-clear _ _
+      (sym (table-causes-are (recordOf 1 s) (content 1 s)) ∙ both-clear _ _ (sym (machine-causes-are n s) ∙ e) .1)
 
   -- reading a needed kind is not refused
   kind-clear : (k : ℕ) → List·Memᴰ k (needed n) → refusalOf k s ≡ Clear

@@ -20,7 +20,7 @@ use Rattle.sheet.specs.Writing.{headerOf}
 use Rattle.sheet.specs.Writing.Reading as reading
 use Rattle.machine.specs.Limits.{mostMachine, mostWord, mostSequence}
 use Rattle.machine.specs.Machine.{Mealy, Commands}
-use Rattle.machine.specs.Causes.{cause3, cause4, cause5, cause6, machineIn, loadCauses}
+use Rattle.machine.specs.Causes.{cause5, cause6, machineIn, tableCauses, loadCauses}
 use Rattle.machine.specs.Causes.Laws.{shape-entries, commands-clear}
 use Rattle.machine.specs.Causes.Lists.{machine-same, machine-causes-are, word-causes-are, load-causes-are, shape-of}
 use Rattle.machine.specs.Causes.Lists.{table-same}
@@ -46,7 +46,7 @@ record Source (s : List ℕ) : Type 0 where
   pub inside : end (recordOf 2 s) ≤ length s
   pub pair-end : end (recordOf 1 s) ≤ end (recordOf 2 s)
   pub short : end (recordOf 2 s) ≤ header + mostMachine + (header + mostWord)
-  pub table : (cause3 (recordOf 1 s) (content 1 s) else cause4 (recordOf 1 s) (content 1 s)) ≡ Clear
+  pub table : firstCause (tableCauses (recordOf 1 s) (content 1 s)) ≡ Clear
   pub word : (cause5 (machineIn s .k) (recordOf 2 s) (content 2 s) else cause6 (machineIn s) (content 2 s)) ≡ Clear
 
 source-of : (s : List ℕ) → firstCause (loadCauses buildNeeds s) ≡ Clear → Source s

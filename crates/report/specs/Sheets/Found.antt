@@ -20,7 +20,7 @@ use Rattle.sheet.specs.Writing.{headerOf}
 use Rattle.sheet.specs.Writing.Reading as reading
 use Rattle.machine.specs.Limits.{mostMachine}
 use Rattle.machine.specs.Machine.{Mealy}
-use Rattle.machine.specs.Causes.{cause3, cause4, machineIn, loadCauses}
+use Rattle.machine.specs.Causes.{machineIn, tableCauses, loadCauses}
 use Rattle.machine.specs.Causes.Laws.{shape-entries}
 use Rattle.machine.specs.Causes.Lists.{machine-same, machine-causes-are, load-causes-are, shape-of, table-same}
 use Rattle.machine.specs.Causes.Lists.{load-machine}
@@ -42,7 +42,7 @@ record Source (s : List ℕ) : Type 0 where
   pub first : Next s 0 0 1 (recordOf 1 s)
   pub inside : end (recordOf 1 s) ≤ length s
   pub short : end (recordOf 1 s) ≤ header + mostMachine
-  pub table : (cause3 (recordOf 1 s) (content 1 s) else cause4 (recordOf 1 s) (content 1 s)) ≡ Clear
+  pub table : firstCause (tableCauses (recordOf 1 s) (content 1 s)) ≡ Clear
 
 source-of : (s : List ℕ) → firstCause (searchCauses s) ≡ Clear → Source s
 source-of s e =

@@ -15,8 +15,8 @@ use Rattle.sheet.specs.Format.{parsed, ofKind, _or_, find}
 use Rattle.sheet.specs.Reader.{sheetCauses, when, needed, refusalOf, recordOf, part, partBytes, content}
 use Rattle.sheet.specs.Writing.{headerOf}
 use Rattle.machine.specs.Machine.{Mealy, machineOf, run, answers, stateAt}
-use Rattle.machine.specs.Causes.{cause3, cause4, commandsCause, cause6, machineIn, machineCauses, wordCauses}
-use Rattle.machine.specs.Causes.{loadCauses}
+use Rattle.machine.specs.Causes.{cause3, cause4, commandsCause, cause6, machineIn, tableCauses, machineCauses}
+use Rattle.machine.specs.Causes.{wordCauses, loadCauses}
 use Rattle.certify.specs.declared.answer.Answer.{Answer}
 use Rattle.certify.specs.declared.answer.Answer.the-variants.{Certified}
 use Rattle.certify.specs.Marks.Twin.{twin as twinMachine, single as singleMachine}
@@ -104,8 +104,9 @@ record Computed : Type 0 where
 computed : Computed
 unfolding twinMachine singleMachine headerOf refusal_with_if_ _else_ firstCause first recordAt offset end kindOf cause1
     cause2 causeAt parseStep parseFrom parse parsed ofKind _or_ find sheetCauses when needed refusalOf recordOf part
-    partBytes content machineOf run answers cause3 cause4 commandsCause cause6 machineIn machineCauses wordCauses
-    loadCauses connectedCauses buildCauses cause9 sequenceCauses cause10 judgeCauses verdict resultAt agreed stateAt
+    partBytes content machineOf run answers cause3 cause4 commandsCause cause6 machineIn tableCauses machineCauses
+    wordCauses loadCauses connectedCauses buildCauses cause9 sequenceCauses cause10 judgeCauses verdict resultAt agreed
+    stateAt
 computed = record {
   built = λ room l. reads-as (buildings.nine-clear room 13 l) refl refl refl;
   each-other = λ room l. reads-as (buildings.nine-clear room 7 l) refl refl refl;
