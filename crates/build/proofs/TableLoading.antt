@@ -1,4 +1,4 @@
--- From what loading a sheet and filling the table of transfers promise to causes 1 to 6 and 8.
+-- From what loading a sheet and filling the table of transfers promise to the causes of loading and 8.
 -- Assumes nothing.
 use Prim.Native.Nat.{ℕ}
 use mathlib.Core.Path.{_≡_, sym, ap₂, _∙_}
@@ -15,7 +15,7 @@ use Rattle.build.specs.Building.Connection.{connected-causes-are}
 use Rattle.build.specs.Loading.{ConnectedFrom}
 
 module _ (s : List ℕ) (l : Loaded) (h : LoadedFrom buildNeeds s l) where
-  -- one of causes 1 to 6
+  -- one of the causes of loading
   pub early-connected : {a b : ℕ} → l .check ≡ Refused a b
       → ConnectedFrom s (record { check = l .check; machine = l .machine })
   early-connected {a} {b} e = record {

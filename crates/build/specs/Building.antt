@@ -1,6 +1,6 @@
--- Building: causes 1 to 6, 8 and 9 (§4.2), the answer and what is written (§6.4), and when building succeeds (§6.5).
--- The laws of cause 8 stand in Building.Connection, those of the service in Building.Service; in Building.Twin the
--- starred cases are computed.
+-- Building: cause 8 (§4.2), the causes in order (§4.1), the answer and what is written (§6.4), and when building
+-- succeeds (§6.5). The laws of cause 8 stand in Building.Connection, those of the service in Building.Service; in
+-- Building.Twin the starred cases are computed.
 use Prim.Native.Nat.{ℕ, _≤_, _<_}
 use mathlib.Core.Path.{_≡_}
 use mathlib.Core.Bool.{Bool, true, false}
@@ -42,7 +42,7 @@ noTransfer (some t) = false
 unfoldable pub cause8 : Mealy → List ℕ → Check
 cause8 M w = first (M .n) (λ s. refusal 8 with s if noTransfer (B M w s))
 
--- causes 1 to 6, then 8 (§4.1), of a service that needs a separating word and transfers
+-- the causes of loading, then 8 (§4.1), of a service that needs a separating word and transfers
 unfoldable pub connectedCauses : List ℕ → List Check
 connectedCauses s = loadCauses buildNeeds s ++ (cause8 (machineIn s) (content 2 s) ∷ [])
 
@@ -78,8 +78,8 @@ pub record Builds (s before after : List ℕ) (a : Answer) : Type 0 where
 abbrev pub StronglyConnected : Mealy → Type 0
 StronglyConnected M = (a b : ℕ) → a < M .n → b < M .n → (u : List ℕ) × Leads M a b u
 
--- when building succeeds (§6.5): no cause of 1 to 5 is present, the word separates, the table is strongly connected,
--- and there is room. It succeeds exactly then: built-buildable and buildable-built, in Building.Service
+-- when building succeeds (§6.5): no cause of the machine and no 5 is present, the word separates, the table is strongly
+-- connected, and there is room. It succeeds exactly then: built-buildable and buildable-built, in Building.Service
 pub record Buildable (room : ℕ) (s : List ℕ) : Type 0 where
   pub machine : firstCause (machineCauses buildNeeds s) ≡ Clear
   pub word : cause5 (machineIn s .k) (recordOf 2 s) (content 2 s) ≡ Clear

@@ -1,5 +1,5 @@
--- What a service that needs transfers begins with (§4.2, §4.4): the first refusal of causes 1 to 6 and 8, and the
--- machine.
+-- What a service that needs transfers begins with (§4.2, §4.4): the first refusal of the causes of loading and 8,
+-- and the machine.
 use mathlib.Core.Path.{_≡_}
 use mathlib.Core.List.{List}
 use Prim.Native.Nat.{ℕ}

@@ -1,4 +1,4 @@
-// Causes 1 to 6 and 8 of a sheet, its machine, and the table of the transfers B(s).
+// The causes of loading and 8 of a sheet, its machine, and the table of the transfers B(s).
 ghost use mathlib.Core.Path.{_≡_};
 ghost use lib.ListN.{length};
 ghost use Rattle.sheet.specs.declared.check.Check.the-variants.{Clear};

@@ -1,4 +1,4 @@
--- Causes 1 to 7 and 9 behind each other as loading makes them, and what it shows where none is present.
+-- The causes of loading, 7 and 9 behind each other as the code makes them, and what is shown where none is present.
 -- Assumes nothing.
 use Prim.Native.Nat.{ℕ, _+_}
 use mathlib.Core.Path.{_≡_, refl, sym, ap, ap₂, _∙_}

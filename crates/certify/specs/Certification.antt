@@ -1,4 +1,4 @@
--- Certifying: causes 1 to 7 and 9 (§4.2), the answer and what is written (§5.4), and the contract (§4.4), which says by
+-- Certifying: causes 7 and 9 (§4.2), the answer and what is written (§5.4), and the contract (§4.4), which says by
 -- Recognition what an answer and a mark mean. No other module can unfold `verified`, `openCause`, `openIn`, `outcome`,
 -- `certification` and `marksAfter`; Certification.Contract shows that the contract holds of them. Certification.Laws
 -- has the laws of causes, answer and buffer, Certification.Bounds how large the values are, Certification.Program what
@@ -50,7 +50,8 @@ cause9 room bytes = refusal 9 with bytes if ltb room bytes
 abbrev pub markBytes : List ℕ → ℕ
 markBytes xs = length xs + 1
 
--- causes 1 to 7, then 9, of a service that certifies (§4.1), by whether it needs the answers and by the room for marks
+-- the causes of loading, then 7 and 9, of a service that certifies (§4.1), by whether it needs the answers and by the
+-- room for marks
 unfoldable pub sequenceCauses : Bool → ℕ → List ℕ → List Check
 sequenceCauses withAnswers room s =
     loadCauses (sequenceNeeds withAnswers) s

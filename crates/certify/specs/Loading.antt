@@ -1,5 +1,5 @@
--- What a service that certifies begins with, here and in judging (§4.2, §4.4): the first refusal of causes 1 to 7 and
--- 9, and the machine.
+-- What a service that certifies begins with, here and in judging (§4.2, §4.4): the first refusal of the causes of
+-- loading, 7 and 9, and the machine.
 use Prim.Native.Nat.{ℕ, _≤_}
 use mathlib.Core.Path.{_≡_}
 use mathlib.Core.Bool.{Bool}

@@ -45,7 +45,7 @@ pub record Reached (s ys : List ℕ) (d : Desk) : Type 0 where
   pub waits : (c : ℕ) → orderOn s ys ≡ Command c → (d .count ≡ length ys) × (d .sent ≡ c)
 
 -- ---- start
--- the answer of start (§13.2): the word's first command, or the first refusal of causes 1 to 6 and 8
+-- the answer of start (§13.2): the word's first command, or the first refusal of the causes of loading and 8
 unfoldable pub starting : List ℕ → First
 starting s = refusedOr RefusedFirst (firstCause (connectedCauses s)) (FirstCommand (getD (content 2 s) 0 0))
 

@@ -22,7 +22,7 @@ pub struct Started {
     pub desk: Desk,
 }
 
-// Checks a sheet for causes 1 to 6 and 8, and gives the desk and the first command.
+// Checks a sheet for the causes of loading and 8, and gives the desk and the first command.
 pub fn start(sheet: &[u8]) -> Started
     ensures { λ r. ⌜ Starts (now (sheet .entry)) r ⌝ }
 {

@@ -24,7 +24,7 @@ pub mod Laws
 abbrev pub searchNeeds : Needs
 searchNeeds = record { word = false; sequence = false; answers = false }
 
--- causes 1 to 4 in order (§4.1, §14.2)
+-- the causes of the machine in order (§4.1, §14.2)
 abbrev pub searchCauses : List ℕ → List Check
 searchCauses s = machineCauses searchNeeds s
 

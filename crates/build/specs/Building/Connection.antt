@@ -1,5 +1,5 @@
 -- The laws of cause 8: it is clear exactly where the table is strongly connected, and then every T(s) is there; and of
--- causes 1 to 6 and 8 together. The laws of the service stand in Building.Service.
+-- the causes of loading and 8 together. The laws of the service stand in Building.Service.
 use Prim.Native.Nat.{ℕ, _<_}
 use mathlib.Core.Path.{_≡_, refl, sym, ap, _∙_}
 use mathlib.Core.Bool.{true, false}
@@ -138,7 +138,7 @@ module _ (M : Mealy) (w : List ℕ) (proper : Proper M) (commands : Commands mos
       (ap noTransfer (leads-some M proper (run M t w) (following (M .n) t) (word-stays t tl) (u .0) (u .1) .1))))
       (present 8 s (ap noTransfer (leads-none M (run M s w) (following (M .n) s) (h .none-leads-on))))
 
--- ---- causes 1 to 6 and 8 of a sheet
+-- ---- the causes of loading and 8 of a sheet
 pub connected-causes-are : (s : List ℕ)
     → firstCause (connectedCauses s) ≡ (firstCause (loadCauses buildNeeds s) else cause8 (machineIn s) (content 2 s))
 unfolding connectedCauses
@@ -147,7 +147,7 @@ connected-causes-are s =
     cause-append (loadCauses buildNeeds s) (eight ∷ [])
     ∙ ap (λ (c : Check). firstCause (loadCauses buildNeeds s) else c) (cause-one eight)
 
--- one of causes 1 to 6 is the first
+-- one of the causes of loading is the first
 pub load-refused : (s : List ℕ) {a b : ℕ} → firstCause (loadCauses buildNeeds s) ≡ Refused a b
     → firstCause (connectedCauses s) ≡ Refused a b
 load-refused s {a} {b} e = connected-causes-are s ∙ (rw e (else-refused a b _))
@@ -170,7 +170,7 @@ module _ (s : List ℕ) (clear : firstCause (connectedCauses s) ≡ Clear) where
   pub clear-strongly : StronglyConnected (machineIn s)
   clear-strongly = clear-connected (machineIn s) (content 2 s) clear-proper (clear-distinguishes .commands) clear-eight
 
--- and they are clear where 1 to 6 and 8 are
+-- and they are clear where those of loading and 8 are
 pub all-clear : (s : List ℕ) → firstCause (loadCauses buildNeeds s) ≡ Clear → cause8 (machineIn s) (content 2 s) ≡ Clear
     → firstCause (connectedCauses s) ≡ Clear
 all-clear s load eight = connected-causes-are s ∙ (rw (load, eight) (else-clear Clear))

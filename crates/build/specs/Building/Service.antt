@@ -54,7 +54,7 @@ build-causes-are room s =
     ∙ else-assoc _ _ _
 
 module _ (room : ℕ) (s : List ℕ) where
-  -- the first cause is one of 1 to 6 and 8
+  -- the first cause is one of loading, or 8
   pub refused-early : {a b : ℕ} → firstCause (connectedCauses s) ≡ Refused a b
       → firstCause (buildCauses room s) ≡ Refused a b
   refused-early {a} {b} e = connected-then-room room s ∙ (rw e (else-refused a b _))
@@ -170,8 +170,8 @@ which Clear Clear e h = three refl refl (sym (else-clear (Clear else e) ∙ else
 which Clear (Refused n p) e h = two refl (sym (else-clear (Refused n p else e) ∙ else-refused n p e) ∙ h)
 which (Refused n p) d e h = one (sym (else-refused n p (d else e)) ∙ h)
 
--- why building refuses with number a and place b: one of causes 1 to 6; 8, at the least s from which no path of any
--- length leads on; or 9, with the built length, which is above the room
+-- why building refuses with number a and place b: one of the causes of loading; 8, at the least s from which no path of
+-- any length leads on; or 9, with the built length, which is above the room
 pub data RefusedFor (room : ℕ) (s : List ℕ) (a b : ℕ) : Type 0 where
   early : firstCause (loadCauses buildNeeds s) ≡ Refused a b → RefusedFor room s a b
   unconnected : a ≡ 8 → NotConnected (machineIn s) (content 2 s) b → RefusedFor room s a b

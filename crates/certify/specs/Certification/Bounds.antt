@@ -31,7 +31,7 @@ use Rattle.certify.specs.Certification.Laws.{room-refused, sequence-caus
 use Rattle.certify.specs.Certification.Contract.{number-is, certification-says}
 
 -- ---- refusals
--- of causes 1 to 7 and 9, for a service that certifies, whether it needs the answers or not
+-- of the causes of loading, 7 and 9, for a service that certifies, whether it needs the answers or not
 pub sequence-small : (answers : Bool) (room : ℕ) (s : List ℕ)
     → WhereRefused Small (firstCause (sequenceCauses answers room s))
 sequence-small answers room s =

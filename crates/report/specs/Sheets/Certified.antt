@@ -150,7 +150,7 @@ carries : (s xs : List ℕ) → Source s → length xs ≤ mostSequence → Carr
 carries s xs h few = subst (Carries s xs) (extended-is 2 s xs) (parts-carry s xs h few)
 
 -- where a sequence was built, the sheet that is made has the same machine and word and carries the sequence, and no
--- cause of 1 to 6 is present
+-- cause of loading is present
 pub built-carries : (room : ℕ) (s : List ℕ) {n : ℕ} → building room s ≡ Built n
     → Carries s (sequence (machineIn s) (content 2 s)) (builtSheet s)
 built-carries room s e =

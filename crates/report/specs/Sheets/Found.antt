@@ -1,5 +1,5 @@
 -- The sheet that is made from the word that was found is read as meant: the machine is the same, the word is the one
--- that was found, no cause of 1 to 6 is present, and building takes it or refuses it with 8 or 9.
+-- that was found, no cause of loading is present, and building takes it or refuses it with 8 or 9.
 use Prim.Native.Nat.{ℕ, _+_, _^_, _≤_, _<_}
 use mathlib.Core.Path.{_≡_, refl, sym, ap, ap₂, subst, _∙_}
 use mathlib.Core.Option.{some}
@@ -107,7 +107,7 @@ parts-carry s w h found few =
           ∙ else-clear Clear;
     }
 
--- where a word was found, the sheet that is made has the same machine and carries the word, and no cause of 1 to 6 is
+-- where a word was found, the sheet that is made has the same machine and carries the word, and no cause of loading is
 -- present
 pub word-carries : (s : List ℕ) {n : ℕ} (e : searching s ≡ Found n) →
     let w = found-answered s e .word in Carries s w (wordSheet s w)

@@ -26,7 +26,7 @@ use Rattle.word.specs.Search.Laws.{search-is, is-search, none-eligible, 
 use Rattle.word.specs.Service.{searchNeeds, searchCauses, answerOf, searching, wordFound, padded, wordBeside}
 
 -- ---- causes
--- where the word is not needed loading checks causes 1 to 4 alone
+-- where the word is not needed the causes of loading are those of the machine
 pub search-causes-are : (s : List ℕ) → firstCause (loadCauses searchNeeds s) ≡ firstCause (searchCauses s)
 search-causes-are s =
     load-causes-are searchNeeds s
@@ -55,7 +55,7 @@ module _ (s : List ℕ) where
   searched-proper e = machine-proper searchNeeds s e
 
 -- ---- what each answer says
--- what an answer to a sheet says: a cause of 1 to 4 is the first; or none of them is present, and the word is the one
+-- what an answer to a sheet says: a cause of the machine is the first; or none is present, and the word is the one
 -- that is sought, or no word of 1 to 6 commands separates. The word that was found is told besides, by which the array
 -- is known
 pub data Outcome (s : List ℕ) (a : Answer) : Type 0 where
@@ -79,7 +79,7 @@ searching-outcome s = go (firstCause (searchCauses s)) refl (seen (search (machi
         found w c (search-is (machineIn s) (searched-proper s c) e) (searching-clear s c ∙ ap answerOf e)
         (found-clear s c ∙ e)
 
--- where none of causes 1 to 4 is present, the word that is sought is found, and nothing where no word is eligible
+-- where no cause of the machine is present, the word that is sought is found, and nothing where no word is eligible
 module _ (s : List ℕ) (c : firstCause (searchCauses s) ≡ Clear) where
   answered-by : {o : Option (List ℕ)} → search (machineIn s) ≡ o → (searching s ≡ answerOf o) × (wordFound s ≡ o)
   answered-by e = (searching-clear s c ∙ ap answerOf e, found-clear s c ∙ e)

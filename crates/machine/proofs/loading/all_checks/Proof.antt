@@ -1,5 +1,5 @@
--- `machine::loading::all_checks` meets its contract: causes 1 to 4, and where they are clear 5 and 6 of the sheet's
--- machine. Assumes nothing.
+-- `machine::loading::all_checks` meets its contract: the causes of the machine, and where they are clear those of
+-- the word. Assumes nothing.
 use borrow.Author.Needs.{needs}
 use mathlib.Core.Path.{sym, _∙_}
 use denote.Ref.{now}
