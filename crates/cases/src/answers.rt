@@ -45,6 +45,7 @@ pub(crate) fn judged(a: Judgement, out: &mut [u8], used: usize) -> usize {
             specified,
             given,
         } => wrong(place, specified, given, out, used),
+        Judgement::Unheard { place } => labelled(b"unheard at ", place, out, used),
         Judgement::Unfinished { number } => labelled(b"unfinished ", number, out, used),
         Judgement::Refused { number, place } => refused(number, place, out, used),
     }

@@ -19,7 +19,8 @@ use Rattle.certify.specs.declared.answer.Answer.{Answer as Certification}
 use Rattle.certify.specs.declared.answer.Answer.the-variants.{Certified, Open, Refused as RefusedCertification}
 use Rattle.certify.specs.Certification.{sequenceCauses, Certifies}
 use Rattle.judge.specs.declared.answer.Answer.{Answer}
-use Rattle.judge.specs.declared.answer.Answer.the-variants.{Pass, Wrong, Unfinished, Refused as RefusedAnswer}
+use Rattle.judge.specs.declared.answer.Answer.the-variants.{Pass, Wrong, Unheard, Unfinished}
+use Rattle.judge.specs.declared.answer.Answer.the-variants.{Refused as RefusedAnswer}
 use Rattle.judge.specs.Judging.{cause10, judgeCauses, cause11, verdict, Judges, Identity, valuesOf}
 use Rattle.judge.specs.Judging.Laws.{cause10-is, judge-causes-are, few-answers, judgement-refused, judgement-by}
 use Rattle.judge.specs.Judging.Laws.{judged-refused, judged-clear, pass-identity}
@@ -85,6 +86,9 @@ values-pass q = rw q
 pub values-wrong : {a : Answer} {p x y : ℕ} → a ≡ Wrong p x y
     → record { class = 101; place = p; a = x; b = y } ≡ valuesOf a
 values-wrong q = rw q
+
+pub values-unheard : {a : Answer} {p : ℕ} → a ≡ Unheard p → record { class = 103; place = p; a = 0; b = 0 } ≡ valuesOf a
+values-unheard q = rw q
 
 pub values-unfinished : {a : Answer} {n : ℕ} → a ≡ Unfinished n
     → record { class = 102; place = n; a = 0; b = 0 } ≡ valuesOf a

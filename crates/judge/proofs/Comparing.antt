@@ -12,10 +12,11 @@ use Rattle.machine.specs.Limits.{mostEntries}
 use Rattle.machine.specs.Machine.{Mealy, meaning, answers, stateAt}
 use Rattle.machine.specs.Machine.Laws.{meaning-commands, meaning-start, tabled-next, tabled-answer, answers-length}
 use Rattle.machine.specs.Machine.Laws.{answer-at, state-start, state-next, state-stays, proper-entry}
-use Rattle.judge.specs.declared.answer.Answer.the-variants.{Pass, Wrong, Unfinished}
-use Rattle.judge.specs.Judging.{verdict}
+use Rattle.judge.specs.declared.answer.Answer.{Answer}
+use Rattle.judge.specs.declared.answer.Answer.the-variants.{Pass, Unfinished}
+use Rattle.judge.specs.Judging.{difference, verdict}
 use Rattle.judge.specs.Comparison.{CompareRequires}
-use Rattle.judge.specs.Judging.Verdict.{Right, passed, wrong, unfinished, judged-verdict}
+use Rattle.judge.specs.Judging.Verdict.{Right, passed, unfinished, differs-verdict, judged-verdict}
 
 -- the answers before i are right, and s is the state there
 pub record Compared (M : Mealy) (xs ys : List ℕ) (i s : ℕ) : Type 0 where
@@ -52,9 +53,9 @@ module _ (m : Machine) (xs ys : List ℕ) where
           ∙ sym (answer-at M xs i inside-sequence)
 
       -- an answer that differs
-      pub compared-wrong : {v g : ℕ} → v ≡ getD (m .answer) e 0 → g ≡ getD ys i 0 → (v ≡ g → ⊥)
-          → Wrong i v g ≡ verdict M xs ys
-      compared-wrong ve ge d = judged-verdict M xs ys (h .few) (wrong l (c .right) d (specified-is ve) ge)
+      pub compared-differs : {v g : ℕ} → v ≡ getD (m .answer) e 0 → g ≡ getD ys i 0 → (v ≡ g → ⊥) → {a : Answer}
+          → a ≡ difference i v g → a ≡ verdict M xs ys
+      compared-differs ve ge d ae = ae ∙ differs-verdict M xs ys (h .few) l (c .right) d (specified-is ve) ge
 
       -- one that is right
       pub compared-next : {v g t : ℕ} → v ≡ getD (m .answer) e 0 → g ≡ getD ys i 0 → v ≡ g → t ≡ getD (m .next) e 0

@@ -1,11 +1,12 @@
--- Judging: causes 1 to 7, 9, 10 and 11 (§4.2), the results and what is written (§7), and the identity claim (§9.3).
+-- Judging: causes 10 and 11 (§4.2), the results and what is written (§7), and the identity claim (§9.3).
 -- Certifying's answer and buffer, `certification` and `marksAfter`, cannot be unfolded here: its contract says what
--- they are. Judging.Verdict has laws of the verdict, Judging.Laws those of a sheet, Judging.Bounds bounds on values.
+-- they are. Judging.Verdict has laws of the verdict, Judging.Laws those of a sheet, Judging.NoAnswer those of the byte
+-- for no answer, Judging.Bounds bounds on values.
 use Prim.Native.Nat.{ℕ}
 use mathlib.Core.Path.{_≡_}
 use mathlib.Core.Bool.{true, cond}
 use mathlib.Core.List.{List, [], _∷_, _++_}
-use lib.Dec.{ltb}
+use lib.Dec.{ltb, eqb}
 use lib.ListN.{length, getD}
 use Rattle.facts.specs.CommonPrefix.{agreed}
 use Rattle.sheet.specs.declared.check.Check.{Check}
@@ -15,17 +16,19 @@ use Rattle.sheet.specs.declared.record.Record.{Record}
 use Rattle.sheet.specs.Check.{refusal_with_if_, firstCause, refusedOr, unlessRefused}
 use Rattle.sheet.specs.Values.{refusalValues, Returns}
 use Rattle.sheet.specs.Reader.{recordOf, content}
-use Rattle.machine.specs.Machine.{Mealy, answers, stateAt}
+use Rattle.machine.specs.Machine.{Mealy, noAnswer, answers, stateAt}
 use Rattle.machine.specs.Causes.{machineIn}
 use Rattle.machine.specs.Unit.{Unit, ownAnswers}
 use Rattle.certify.specs.declared.answer.Answer.{Answer as Certification}
 use Rattle.certify.specs.declared.answer.Answer.the-variants.{Certified, Open, Refused as RefusedCertification}
 use Rattle.certify.specs.Certification.{sequenceCauses, certification, marksAfter}
 use Rattle.judge.specs.declared.answer.Answer.{Answer}
-use Rattle.judge.specs.declared.answer.Answer.the-variants.{Pass, Wrong, Unfinished, Refused as RefusedAnswer}
+use Rattle.judge.specs.declared.answer.Answer.the-variants.{Pass, Wrong, Unheard, Unfinished}
+use Rattle.judge.specs.declared.answer.Answer.the-variants.{Refused as RefusedAnswer}
 use Rattle.judge.specs.Renaming.{Renaming}
 pub mod Verdict
 pub mod Laws
+pub mod NoAnswer
 pub mod Bounds
 
 -- ---- causes
@@ -33,7 +36,7 @@ pub mod Bounds
 unfoldable pub cause10 : Record → List ℕ → List ℕ → Check
 cause10 r xs ys = refusal 10 with r .start if ltb (length xs) (length ys)
 
--- causes 1 to 7 and 9, all four kinds being needed, and 10: those that write nothing (§4.3)
+-- the causes of certifying, all four kinds being needed, and 10: those that write nothing (§4.3)
 unfoldable pub judgeCauses : ℕ → List ℕ → List Check
 judgeCauses room s = sequenceCauses true room s ++ (cause10 (recordOf 4 s) (content 3 s) (content 4 s) ∷ [])
 
@@ -46,11 +49,16 @@ cause11 (Open recognised number) = Refused 11 number
 cause11 (RefusedCertification number place) = Refused number place
 
 -- ---- the results
--- the result (§7), by how many answers from the front are the specified ones: wrong where an answer at that place was
--- given, unfinished where none was and the sequence goes on, otherwise pass with N and the state of place N
+-- the result (§7) where the answer given at a place is not the specified one: unheard where it is the byte for no
+-- answer, otherwise wrong
+unfoldable pub difference : ℕ → ℕ → ℕ → Answer
+difference place specified given = cond (eqb given noAnswer) (Unheard place) (Wrong place specified given)
+
+-- the result (§7), by how many answers from the front are the specified ones: wrong or unheard where an answer at that
+-- place was given, unfinished where none was and the sequence goes on, otherwise pass with N and the state of place N
 unfoldable pub resultAt : Mealy → List ℕ → List ℕ → ℕ → Answer
 resultAt M xs ys right =
-    cond (ltb right (length ys)) (Wrong right (getD (answers M (M .start) xs) right 0) (getD ys right 0))
+    cond (ltb right (length ys)) (difference right (getD (answers M (M .start) xs) right 0) (getD ys right 0))
     (cond (ltb right (length xs)) (Unfinished right) (Pass (length xs) (stateAt M xs (length xs))))
 
 -- the result (§7) for a machine, a sequence, and the answers given to it, which are no more than the commands
@@ -69,10 +77,11 @@ unfoldable pub judgedMarks : List ℕ → List ℕ → List ℕ
 judgedMarks s buffer = unlessRefused (firstCause (judgeCauses (length buffer) s)) (marksAfter s buffer) buffer
 
 -- number and values of each answer (§8.3): pass has N as its place and the end state as b; wrong its place, the
--- specified answer as a and the given one as b; unfinished the number of answers as its place
+-- specified answer as a and the given one as b; unheard its place; unfinished the number of answers as its place
 abbrev pub valuesOf : Answer → Values
 valuesOf (Pass size end) = record { class = 100; place = size; a = 0; b = end }
 valuesOf (Wrong place specified given) = record { class = 101; place = place; a = specified; b = given }
+valuesOf (Unheard place) = record { class = 103; place = place; a = 0; b = 0 }
 valuesOf (Unfinished number) = record { class = 102; place = number; a = 0; b = 0 }
 valuesOf (RefusedAnswer number place) = refusalValues number place
 

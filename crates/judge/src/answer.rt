@@ -5,8 +5,8 @@ use sheet::Values;
 use sheet::refusal_values;
 
 // Pass with the number of commands and the end state; wrong with the place of the first wrong
-// answer, what was specified there and what was given; unfinished with the number of answers;
-// refused with number and place.
+// answer, what was specified there and what was given; unheard with that place, where no answer
+// came; unfinished with the number of answers; refused with number and place.
 pub enum Answer {
     Pass {
         size: usize,
@@ -16,6 +16,9 @@ pub enum Answer {
         place: usize,
         specified: u8,
         given: u8,
+    },
+    Unheard {
+        place: usize,
     },
     Unfinished {
         number: usize,
@@ -46,6 +49,12 @@ pub fn values_of(answer: Answer) -> Values
             place,
             a: specified as usize,
             b: given as usize,
+        },
+        Answer::Unheard { place } => Values {
+            class: 103,
+            place,
+            a: 0,
+            b: 0,
         },
         Answer::Unfinished { number } => Values {
             class: 102,

@@ -2,10 +2,25 @@
 ghost use mathlib.Core.Path.{_≡_};
 ghost use Rattle.machine.specs.Machine.{meaning};
 ghost use Rattle.judge.specs.Judging.{verdict};
+ghost use Rattle.judge.specs.Judging.{difference as differenceAt};
 ghost use Rattle.judge.specs.Comparison.{CompareRequires};
 use crate::answer::Answer;
 use machine::Machine;
 use machine::entry_at;
+
+// The result where the answer given is not the specified one.
+fn difference(place: usize, specified: u8, given: u8) -> Answer
+    ensures { λ r. ⌜ r ≡ differenceAt place specified given ⌝ }
+{
+    if given == Machine::NO_ANSWER {
+        return Answer::Unheard { place };
+    }
+    Answer::Wrong {
+        place,
+        specified,
+        given,
+    }
+}
 
 // Runs the machine along the sequence as far as there are answers, and stops at the first that
 // differs.
@@ -22,11 +37,7 @@ pub fn compare(m: Machine, xs: &[u8], ys: &[u8]) -> Answer
         let specified = answer[e];
         let given = ys[i];
         if specified != given {
-            return Answer::Wrong {
-                place: i,
-                specified,
-                given,
-            };
+            return difference(i, specified, given);
         }
         s = next[e];
         i += 1;

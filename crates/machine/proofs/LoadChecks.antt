@@ -14,13 +14,14 @@ use Rattle.sheet.specs.Check.Laws.{else-clear, else-refused}
 use Rattle.sheet.specs.Format.{header}
 use Rattle.sheet.specs.Reader.{sheetCauses, needed, recordOf, content}
 use Rattle.sheet.specs.Reader.Laws.{record-inside}
+use Rattle.sheet.specs.Reader.Bounds.{Bytes}
 use Rattle.machine.specs.declared.machine.Machine.{Machine}
 use Rattle.machine.specs.Limits.{mostWord}
-use Rattle.machine.specs.Machine.{Mealy, meaning}
+use Rattle.machine.specs.Machine.{Mealy, noAnswer, meaning}
 use Rattle.machine.specs.Machine.Laws.{meaning-commands}
 use Rattle.machine.specs.Causes.{outside, cause3, byteCause, cause5, commandsCause, cause6, machineIn, held}
 use Rattle.machine.specs.Causes.{tableCauses, machineCauses, wordCauses, loadCauses}
-use Rattle.machine.specs.Causes.Laws.{cause4-is, commands-cause-is}
+use Rattle.machine.specs.Causes.Laws.{cause4-is, cause12-is, commands-cause-is}
 use Rattle.machine.specs.Causes.Lists.{table-causes-are, machine-causes-are, word-causes-are, word-causes-none}
 use Rattle.machine.specs.Causes.Lists.{load-causes-are}
 use Rattle.machine.specs.Causes.Lists.{clear-table, kind-reads, held-is, load-proper, word-distinguishes}
@@ -48,19 +49,20 @@ pub pairs-are : (p : List ℕ) (f : ℕ → Check) {n k : ℕ} {c : Check} → n
     → c ≡ first (n * k) f → c ≡ first (getD p 0 0 * getD p 1 0) f
 pairs-are p f ne ke ce = ce ∙ ap₂ (λ (n k : ℕ). first (n * k) f) ne ke
 
--- the causes of the table: 4 as the scan finds it
-pub payload-are : (r : Record) (p : List ℕ) {n : ℕ} {three four c : Check} → three ≡ cause3 r p → n ≡ getD p 0 0
-    → four ≡ first (getD p 0 0 * getD p 1 0) (byteCause 4 (r .start + header) p 2 2 n) → c ≡ (three else four)
-    → c ≡ firstCause (tableCauses r p)
-payload-are r p te ne fe ce =
-    ce
-    ∙ ap₂ _else_ te
-    (fe
+-- the causes of the table, of bytes: 4 and 12 as the scans find them
+pub payload-are : (r : Record) (p : List ℕ) → Bytes p → {n : ℕ} {three four twelve inner c : Check}
+    → three ≡ cause3 r p → n ≡ getD p 0 0
+    → four ≡ first (getD p 0 0 * getD p 1 0) (byteCause 4 (r .start + header) p 2 2 n)
+    → twelve ≡ first (getD p 0 0 * getD p 1 0) (byteCause 12 (r .start + header) p 3 2 noAnswer)
+    → inner ≡ (four else twelve) → c ≡ (three else inner) → c ≡ firstCause (tableCauses r p)
+payload-are r p bytes te ne fe we ie ce =
+    let four-is =
+    fe
     ∙ ap (λ (x : ℕ). first (getD p 0 0 * getD p 1 0) (byteCause 4 (r .start + header) p 2 2 x)) ne
-    ∙ cause4-is r p)
-    ∙ sym (table-causes-are r p)
+    ∙ cause4-is r p in
+    ce ∙ ap₂ _else_ te (ie ∙ ap₂ _else_ four-is (we ∙ cause12-is r p bytes)) ∙ sym (table-causes-are r p)
 
--- causes 1 to 4
+-- the causes of the machine
 pub table-are : (n : Needs) (s : List ℕ) {r : Record} {p : List ℕ} {kinds table c : Check}
     → kinds ≡ firstCause (sheetCauses (needed n) s) → r ≡ recordOf 1 s → p ≡ content 1 s
     → table ≡ firstCause (tableCauses r p) → c ≡ (kinds else table) → c ≡ firstCause (machineCauses n s)
@@ -102,7 +104,7 @@ pub word-on : (s : List ℕ) {b : Bool} → b ≡ true → {c : Check} → c ≡
     → c ≡ firstCause (wordCauses b s)
 word-on s e ce = ce ∙ ap (λ (x : Bool). firstCause (wordCauses x s)) (sym e)
 
--- causes 1 to 6
+-- the causes of loading
 module _ (n : Needs) (s : List ℕ) {t : Check} (te : t ≡ firstCause (machineCauses n s)) where
   pub load-stops : {a b : ℕ} → t ≡ Refused a b → t ≡ firstCause (loadCauses n s)
   load-stops {a} {b} e =

@@ -1,5 +1,6 @@
--- Causes 3 to 6, what 7 shares with 5, and causes 1 to 6 in order (§4.1, §4.2). The laws stand in Causes.Laws (3, 4, 5
--- and 7), Causes.Separation (6) and Causes.Lists (the lists); Causes.Bounds has how large a place is.
+-- Causes 3 to 6 and 12, what 7 shares with 5, and the causes of loading in order (§4.1, §4.2). The laws stand in
+-- Causes.Laws (3, 4, 12, 5 and 7), Causes.Separation (6) and Causes.Lists (the lists); Causes.Bounds has how large a
+-- place is.
 use Prim.Native.Nat.{ℕ, _+_, _*_}
 use mathlib.Core.Bool.{Bool, true, false, not, _&&_, _||_}
 use mathlib.Core.List.{List, [], _∷_, _++_}
@@ -13,7 +14,7 @@ use Rattle.sheet.specs.Check.{refusal_with_if_, _else_, first}
 use Rattle.sheet.specs.Format.{offset}
 use Rattle.sheet.specs.Reader.{sheetCauses, needed, recordOf, content}
 use Rattle.machine.specs.Limits.{mostStates, mostCommands, mostMachine, mostWord}
-use Rattle.machine.specs.Machine.{Mealy, pairAt, machineOf, tabled, answers}
+use Rattle.machine.specs.Machine.{Mealy, noAnswer, pairAt, machineOf, tabled, answers}
 pub mod Laws
 pub mod Lists
 pub mod Bounds
@@ -38,8 +39,15 @@ cause4 r p =
     let k = getD p 1 0 in
     first (n * k) (λ e. refusal 4 with offset r (pairAt e) if leb n (getD p (pairAt e) 0))
 
+-- cause 12 (§4.2), at its offset: the first byte for an answer that is the one for no answer
+unfoldable pub cause12 : Record → List ℕ → Check
+cause12 r p =
+    let n = getD p 0 0 in
+    let k = getD p 1 0 in
+    first (n * k) (λ e. refusal 12 with offset r (pairAt e + 1) if eqb (getD p (pairAt e + 1) 0) noAnswer)
+
 -- the cause at byte from + stride · i of a part that begins at offset base: the byte is not below the bound. The code
--- looks for causes 4, 5 and 7 with it: cause4-is and commands-cause-is, in Causes.Laws
+-- looks for causes 4, 12, 5 and 7 with it: cause4-is, cause12-is and commands-cause-is, in Causes.Laws
 unfoldable pub byteCause : ℕ → ℕ → List ℕ → ℕ → ℕ → ℕ → ℕ → Check
 byteCause number base p from stride bound i =
     refusal number with base + (from + stride * i) if leb bound (getD p (from + stride * i) 0)
@@ -72,23 +80,23 @@ unfoldable pub machineIn : List ℕ → Mealy
 machineIn s = machineOf (content 1 s)
 
 -- the machine that the program holds for any sheet: that of the payload, cut to the bytes of the largest machine. Where
--- causes 1 to 4 are absent it is the sheet's: held-is, in Causes.Lists
+-- the causes of the machine are absent it is the sheet's: held-is, in Causes.Lists
 unfoldable pub held : List ℕ → Mealy
 held s = machineOf (take mostMachine (content 1 s))
 
--- the causes of a machine's payload in order (§4.1), by its record
+-- the causes of a machine's payload in order (§4.1), by its record: 12 comes straight after 4
 unfoldable pub tableCauses : Record → List ℕ → List Check
-tableCauses r p = cause3 r p ∷ cause4 r p ∷ []
+tableCauses r p = cause3 r p ∷ cause4 r p ∷ cause12 r p ∷ []
 
--- causes 1 to 4 in order (§4.1), for a service that needs the machine and these kinds besides
+-- the causes of the machine in order (§4.1), 1 to 4 and 12, for a service that needs it and these kinds besides
 unfoldable pub machineCauses : Needs → List ℕ → List Check
 machineCauses needs s = sheetCauses (needed needs) s ++ tableCauses (recordOf 1 s) (content 1 s)
 
--- causes 5 and 6 in order (§4.1) where the word is needed, else none
+-- the causes of the word in order (§4.1), 5 and 6, where it is needed, else none
 unfoldable pub wordCauses : Bool → List ℕ → List Check
 wordCauses true s = cause5 (machineIn s .k) (recordOf 2 s) (content 2 s) ∷ cause6 (machineIn s) (content 2 s) ∷ []
 wordCauses false s = []
 
--- causes 1 to 6 by their numbers, 5 and 6 where the word is needed (§4.1)
+-- the causes of loading in order (§4.1): those of the machine, then those of the word
 unfoldable pub loadCauses : Needs → List ℕ → List Check
 loadCauses needs s = machineCauses needs s ++ wordCauses (needs .word) s

@@ -1,5 +1,5 @@
--- What a service that needs the machine begins with (§4.2, §4.4): the first refusal of causes 1 to 4 and, where the
--- word is needed, of 5 and 6; and the machine.
+-- What a service that needs the machine begins with (§4.2, §4.4): the first refusal of the causes of loading, and the
+-- machine.
 use Prim.Native.Nat.{ℕ}
 use mathlib.Core.Path.{_≡_}
 use mathlib.Core.Bool.{true}

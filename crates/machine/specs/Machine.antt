@@ -18,6 +18,11 @@ pub record Mealy : Type 0 where
   pub next : ℕ → ℕ → ℕ
   pub answer : ℕ → ℕ → ℕ
 
+-- the byte that stands for no answer (§2.2): the capture cable writes it where none came, and no entry specifies it. In
+-- the literature the absence of an output is called quiescence
+abbrev pub noAnswer : ℕ
+noAnswer = 255
+
 -- where pair e, counted from 0, begins in the machine's payload, after n and k (§2.2, §3.1)
 abbrev pub pairAt : ℕ → ℕ
 pairAt e = 2 + 2 * e
@@ -73,6 +78,10 @@ pub record Proper (M : Mealy) : Type 0 where
   pub few-commands : M .k ≤ mostCommands
   pub starts : M .start < M .n
   pub stays : (s c : ℕ) → s < M .n → c < M .k → M .next s c < M .n
+
+-- every entry specifies an answer (§2.2): none is the byte for no answer
+abbrev pub AlwaysAnswers : Mealy → Type 0
+AlwaysAnswers M = (s c : ℕ) → s < M .n → c < M .k → M .answer s c ≡ noAnswer → ⊥
 
 -- a word or a sequence within its limits (§2.2): 1 to most commands, each below k
 pub record Commands (most k : ℕ) (w : List ℕ) : Type 0 where

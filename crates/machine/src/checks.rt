@@ -1,4 +1,5 @@
-// Causes 3, 4, 5 and 7: the machine's shape, its next states, and the commands of a word or a sequence.
+// Causes 3, 4, 12, 5 and 7: the machine's shape, its next states, its answers, and the commands of a
+// word or a sequence.
 ghost use mathlib.Core.Path.{_≡_};
 ghost use Prim.Native.Nat.{_+_, _*_, _≤_, _<_, _^_};
 ghost use lib.ListN.{getD};
@@ -83,7 +84,8 @@ pub fn table(r: Record, p: &[u8]) -> Check
 {
     let three = shape(r, p);
     let four = scan_pairs(4, r, p, 2, byte(p, 0));
-    first_of(three, four)
+    let twelve = scan_pairs(12, r, p, 3, Machine::NO_ANSWER);
+    first_of(three, first_of(four, twelve))
 }
 
 // Causes 5 and 7: the commands of a record of a sheet, for a machine of k commands. The answer

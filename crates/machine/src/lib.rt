@@ -1,4 +1,4 @@
-// The machine that a sheet specifies: its type and limits, checks 3 to 6, and the house unit.
+// The machine that a sheet specifies: its type and limits, checks 3 to 6 and 12, and the house unit.
 mod checks;
 mod house;
 mod loading;

@@ -1,4 +1,4 @@
-// Causes 1 to 6 of a sheet, and its machine: what every service on a machine begins with.
+// The causes of loading a sheet, and its machine: what every service on a machine begins with.
 ghost use mathlib.Core.Path.{_≡_};
 ghost use Rattle.sheet.specs.Check.{firstCause};
 ghost use Rattle.machine.specs.Machine.{meaning};
@@ -23,7 +23,7 @@ pub struct Loaded {
     pub machine: Machine,
 }
 
-// Causes 1 to 4.
+// The causes of the machine.
 fn table_check(sheet: &[u8], needs: Needs) -> Check
     ensures { λ r. ⌜ r ≡ firstCause (machineCauses needs (now (sheet .entry))) ⌝ }
 {
@@ -33,7 +33,7 @@ fn table_check(sheet: &[u8], needs: Needs) -> Check
     first_of(kinds, table(r, p))
 }
 
-// Causes 5 and 6, where the word is needed, for the sheet's machine.
+// The causes of the word, where it is needed, for the sheet's machine.
 fn word_check(sheet: &[u8], m: Machine, needed: bool) -> Check
     requires { ⌜ meaning m ≡ machineIn (now sheet) ⌝ }
     ensures { λ r. ⌜ r ≡ firstCause (wordCauses needed (now (sheet .entry))) ⌝ }
@@ -52,7 +52,7 @@ fn word_check(sheet: &[u8], m: Machine, needed: bool) -> Check
     }
 }
 
-// Causes 1 to 6, with the machine as it was loaded.
+// All causes of loading, with the machine as it was loaded.
 fn all_checks(sheet: &[u8], needs: Needs, m: Machine) -> Check
     requires { ⌜ meaning m ≡ held (now sheet) ⌝ }
     ensures { λ r. ⌜ r ≡ firstCause (loadCauses needs (now (sheet .entry))) ⌝ }

@@ -39,6 +39,9 @@ impl Machine {
     // The most entries.
     pub const ENTRIES: usize = Machine::STATES * Machine::COMMANDS;
 
+    // The byte that stands for no answer.
+    pub const NO_ANSWER: u8 = 255;
+
     // The machine of a payload, of which it reads at most as many bytes as the largest machine has.
     pub fn load(p: &[u8]) -> Machine
         ensures { λ m. ⌜ meaning m ≡ machineOf (take mostMachine (now (p .entry))) ⌝ }

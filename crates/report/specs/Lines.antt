@@ -5,7 +5,8 @@ use Prim.Native.String.{String}
 use mathlib.Core.List.{List, [], _∷_, _++_}
 use Rattle.facts.specs.Decimal.{bytes, decimal}
 use Rattle.judge.specs.declared.answer.Answer.{Answer as Judgement}
-use Rattle.judge.specs.declared.answer.Answer.the-variants.{Pass, Wrong, Unfinished, Refused as RefusedJudgement}
+use Rattle.judge.specs.declared.answer.Answer.the-variants.{Pass, Wrong, Unheard, Unfinished}
+use Rattle.judge.specs.declared.answer.Answer.the-variants.{Refused as RefusedJudgement}
 use Rattle.certify.specs.declared.answer.Answer.{Answer as Certification}
 use Rattle.certify.specs.declared.answer.Answer.the-variants.{Certified, Open, Refused as RefusedCertification}
 use Rattle.desk.specs.declared.desk.Order.{Order}
@@ -56,6 +57,10 @@ unfoldable pub wrongLine : ℕ → ℕ → ℕ → List ℕ
 wrongLine place specified given =
     labelled "WRONG at " place ++ labelled " want " specified ++ labelled " got " given ++ newline
 
+-- `UNHEARD at 3`: the place
+unfoldable pub unheardLine : ℕ → List ℕ
+unheardLine place = numberedLine (bytes "UNHEARD at ") place
+
 -- `UNFINISHED 4`: how many answers there are
 unfoldable pub unfinishedLine : ℕ → List ℕ
 unfinishedLine number = numberedLine (bytes "UNFINISHED ") number
@@ -64,6 +69,7 @@ unfinishedLine number = numberedLine (bytes "UNFINISHED ") number
 abbrev pub judgeLine : Judgement → List ℕ
 judgeLine (Pass size end) = passLine size end
 judgeLine (Wrong place specified given) = wrongLine place specified given
+judgeLine (Unheard place) = unheardLine place
 judgeLine (Unfinished number) = unfinishedLine number
 judgeLine (RefusedJudgement number place) = refusalLine number place
 

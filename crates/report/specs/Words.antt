@@ -8,7 +8,7 @@ use Rattle.report.specs.declared.words.Mistake.the-variants.{Unknown, Em
 -- the list of services, a line each (§8.2). Its text is fixed here; the specification leaves it free
 unfoldable pub helpText : List ℕ
 helpText =
-    bytes "bench, bench judge      judge the sheet on standard input: PASS, WRONG, UNFINISHED or REFUSED\n"
+    bytes "bench, bench judge      judge the sheet on standard input: PASS, WRONG, UNHEARD, UNFINISHED or REFUSED\n"
     ++ bytes "bench certify           certify the sequence of the sheet on standard input: CERTIFIED, OPEN or REFUSED\n"
     ++ bytes "bench word              find a separating word for the machine of the sheet on standard input: the sheet with it as record 2; WORD, NONE or REFUSED on standard error\n"
     ++ bytes "bench build             build the sequence of the sheet on standard input: the sheet with it as record 3\n"

@@ -79,6 +79,7 @@ pub fn judge_line(answer: Judgement, out: &mut [u8; OUTPUT]) -> usize
             specified,
             given,
         } => wrong(place, specified, given, out),
+        Judgement::Unheard { place } => numbered(b"UNHEARD at ", place as u64, out),
         Judgement::Unfinished { number } => numbered(b"UNFINISHED ", number as u64, out),
         Judgement::Refused { number, place } => refusal_line(number, place, out),
     }

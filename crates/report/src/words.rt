@@ -61,7 +61,7 @@ fn help_text(out: &mut [u8; OUTPUT]) -> usize
     ensures { λ r. ⌜ Prints helpText (now (out .entry)) (now (out .exit)) r ⌝ }
 {
     let a = put(
-        b"bench, bench judge      judge the sheet on standard input: PASS, WRONG, UNFINISHED or REFUSED\n",
+        b"bench, bench judge      judge the sheet on standard input: PASS, WRONG, UNHEARD, UNFINISHED or REFUSED\n",
         0,
         out,
     );

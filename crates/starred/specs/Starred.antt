@@ -7,6 +7,7 @@ use mathlib.Core.List.{List, [], _∷_, _++_}
 use lib.ListN.{length, drop}
 use Rattle.facts.specs.Decimal.{bytes}
 use Rattle.sheet.specs.Writing.{recordBytes}
+use Rattle.machine.specs.Machine.{noAnswer}
 use Rattle.certify.specs.declared.answer.Answer.the-variants.{Certified, Open, Refused as RefusedCertification}
 use Rattle.certify.specs.Certification.{certification}
 use Rattle.build.specs.declared.service.Answer.the-variants.{Built, Refused as RefusedBuilding}
@@ -42,7 +43,7 @@ disconnectedTable = 2 ∷ 2 ∷ 1 ∷ 0 ∷ 0 ∷ 5 ∷ 1 ∷ 1 ∷ 1 ∷ 5 ∷ 
 abbrev pub noStateTable : List ℕ
 noStateTable = 2 ∷ 2 ∷ 2 ∷ 0 ∷ 0 ∷ 5 ∷ 0 ∷ 1 ∷ 1 ∷ 5 ∷ []
 
--- the payload of record 1 with one state, one command and any answer
+-- the payload of record 1 with one state, one command and an answer
 abbrev pub singleTable : ℕ → List ℕ
 singleTable answer = 1 ∷ 1 ∷ 0 ∷ answer ∷ []
 
@@ -104,11 +105,12 @@ pub record Starred : Type 0 where
       → judgement room (answersSheet noStateTable (command ∷ []) builtTwin (answer ∷ [])) ≡ RefusedJudgement 4 8
   -- a table that is not connected
   pub not-connected : (room : ℕ) → building room (unitSheet disconnectedTable (0 ∷ [])) ≡ RefusedBuilding 8 1
-  -- one state and one command
-  pub single-built : (answer room : ℕ) → 4 ≤ room → building room (unitSheet (singleTable answer) (0 ∷ [])) ≡ Built 4
-  pub single-bytes : (answer : ℕ) (buffer : List ℕ) → 4 ≤ length buffer
+  -- one state and one command, whatever the answer is but the byte for no answer
+  pub single-built : (answer room : ℕ) → (answer ≡ noAnswer → ⊥) → 4 ≤ room
+      → building room (unitSheet (singleTable answer) (0 ∷ [])) ≡ Built 4
+  pub single-bytes : (answer : ℕ) (buffer : List ℕ) → (answer ≡ noAnswer → ⊥) → 4 ≤ length buffer
       → bufferAfter (unitSheet (singleTable answer) (0 ∷ [])) buffer ≡ (0 ∷ 0 ∷ 0 ∷ 0 ∷ []) ++ drop 4 buffer
-  pub single-pair : (answer room : ℕ) → 3 ≤ room
+  pub single-pair : (answer room : ℕ) → (answer ≡ noAnswer → ⊥) → 3 ≤ room
       → certification room (sequenceSheet (singleTable answer) (0 ∷ []) (0 ∷ 0 ∷ [])) ≡ Certified 3
-  pub single-short : (answer room : ℕ) → 2 ≤ room
+  pub single-short : (answer room : ℕ) → (answer ≡ noAnswer → ⊥) → 2 ≤ room
       → certification room (sequenceSheet (singleTable answer) (0 ∷ []) (0 ∷ [])) ≡ Open 1 1

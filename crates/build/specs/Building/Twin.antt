@@ -5,22 +5,23 @@ use Prim.Native.Nat.{ℕ, _≤_}
 use mathlib.Core.Path.{_≡_, refl, ap, ap₂, _∙_}
 use mathlib.Core.List.{List, [], _∷_, _++_}
 use mathlib.Core.Option.{orElse}
-use borrow.Author.Tests.{le-ltb}
-use lib.Dec.{ltb}
+use borrow.Author.Tests.{le-ltb, ne-eqb}
+use lib.Dec.{ltb, eqb}
 use lib.ListN.{length, drop}
 use Rattle.facts.specs.FirstOf.{guard, firstOf}
 use Rattle.facts.specs.FirstString.{firstString}
+use Rattle.sheet.specs.declared.check.Check.{Check}
 use Rattle.sheet.specs.declared.check.Check.the-variants.{Clear}
 use Rattle.sheet.specs.Check.{refusal_with_if_, _else_, firstCause, first}
-use Rattle.sheet.specs.Check.Laws.{absent, else-end}
+use Rattle.sheet.specs.Check.Laws.{absent, else-clear, else-end}
 use Rattle.sheet.specs.Format.{recordAt, offset, end, kindOf, cause1, cause2, causeAt, parseStep, parseFrom, parse}
 use Rattle.sheet.specs.Format.{parsed, ofKind, _or_, find}
 use Rattle.sheet.specs.Reader.{sheetCauses, when, needed, refusalOf, recordOf, part, partBytes, content}
 use Rattle.sheet.specs.Writing.{written}
 use Rattle.machine.specs.House.{housePayload, house, houseWord}
-use Rattle.machine.specs.Machine.{machineOf, run, answers}
-use Rattle.machine.specs.Causes.{cause3, cause4, commandsCause, cause6, machineIn, tableCauses, machineCauses}
-use Rattle.machine.specs.Causes.{wordCauses, loadCauses}
+use Rattle.machine.specs.Machine.{noAnswer, machineOf, run, answers}
+use Rattle.machine.specs.Causes.{cause3, cause4, cause12, commandsCause, cause6, machineIn, tableCauses}
+use Rattle.machine.specs.Causes.{machineCauses, wordCauses, loadCauses}
 use Rattle.certify.specs.Marks.Twin.{twin, single}
 use Rattle.certify.specs.declared.answer.Answer.the-variants.{Certified}
 use Rattle.certify.specs.Certification.{cause9, outcome}
@@ -41,7 +42,7 @@ twinSheet = 10 ∷ 0 ∷ 0 ∷ 0 ∷ 1 ∷ 0 ∷ 2 ∷ 2 ∷ 1 ∷ 0 ∷ 0 ∷ 5
 unfoldable pub disconnectedSheet : List ℕ
 disconnectedSheet = 10 ∷ 0 ∷ 0 ∷ 0 ∷ 1 ∷ 0 ∷ 2 ∷ 2 ∷ 1 ∷ 0 ∷ 0 ∷ 5 ∷ 1 ∷ 1 ∷ 1 ∷ 5 ∷ 1 ∷ 0 ∷ 0 ∷ 0 ∷ 2 ∷ 0 ∷ 0 ∷ []
 
--- that of one state and one command, with the word 0 and any answer
+-- that of one state and one command, with the word 0 and an answer
 unfoldable pub singleSheet : ℕ → List ℕ
 singleSheet answer = 4 ∷ 0 ∷ 0 ∷ 0 ∷ 1 ∷ 0 ∷ 1 ∷ 1 ∷ 0 ∷ answer ∷ 1 ∷ 0 ∷ 0 ∷ 0 ∷ 2 ∷ 0 ∷ 0 ∷ []
 
@@ -74,11 +75,17 @@ twin-built-sequence = ap₂ sequence twin-machine twin-word ∙ twin-sequence
 pub nine-clear : (room size : ℕ) → size ≤ room → ((refusal 9 with size if ltb room size) else Clear) ≡ Clear
 nine-clear room size l = else-end _ ∙ absent 9 size (le-ltb room size l)
 
+-- and so is cause 12 before it, where the answer in the table is one
+pub twelve-clear : (answer place : ℕ) → (answer ≡ noAnswer → ⊥) → {c : Check} → c ≡ Clear
+    → ((refusal 12 with place if eqb answer noAnswer) else c) ≡ Clear
+twelve-clear answer place some e =
+    ap₂ _else_ (absent 12 place (ne-eqb answer noAnswer some)) e ∙ else-clear Clear
+
 twin-clear : (room : ℕ) → 12 ≤ room → firstCause (buildCauses room twinSheet) ≡ Clear
 unfolding twinSheet refusal_with_if_ _else_ firstCause first recordAt offset end kindOf cause1 cause2 causeAt parseStep
     parseFrom parse parsed ofKind _or_ find sheetCauses when needed refusalOf recordOf part partBytes content machineOf
-    run answers cause3 cause4 commandsCause cause6 machineIn tableCauses machineCauses wordCauses loadCauses cause9
-    guard orElse firstOf firstString firstPath transfer following T nthState firstBlocks opening approach test
+    run answers cause3 cause4 cause12 commandsCause cause6 machineIn tableCauses machineCauses wordCauses loadCauses
+    cause9 guard orElse firstOf firstString firstPath transfer following T nthState firstBlocks opening approach test
     stateTests tests sequence cause8 connectedCauses buildCauses
 twin-clear room l = nine-clear room 12 l
 
@@ -96,8 +103,9 @@ twin-buffer buffer l =
 pub disconnected-building : (room : ℕ) → building room disconnectedSheet ≡ Refused 8 1
 unfolding building disconnectedSheet refusal_with_if_ _else_ firstCause first recordAt offset end kindOf cause1 cause2
     causeAt parseStep parseFrom parse parsed ofKind _or_ find sheetCauses when needed refusalOf recordOf part partBytes
-    content machineOf run answers cause3 cause4 commandsCause cause6 machineIn tableCauses machineCauses wordCauses
-    loadCauses cause9 guard orElse firstOf firstString firstPath transfer following T nthState firstBlocks opening
+    content machineOf run answers cause3 cause4 cause12 commandsCause cause6 machineIn tableCauses machineCauses
+    wordCauses loadCauses cause9 guard orElse firstOf firstString firstPath transfer following T nthState firstBlocks
+    opening
     approach test stateTests tests sequence cause8 connectedCauses buildCauses
 disconnected-building room = refl
 
@@ -124,23 +132,25 @@ single-built-sequence : (answer : ℕ)
     → sequence (machineIn (singleSheet answer)) (content 2 (singleSheet answer)) ≡ 0 ∷ 0 ∷ 0 ∷ 0 ∷ []
 single-built-sequence answer = ap₂ sequence (single-machine answer) (single-word answer) ∙ single-sequence answer
 
-single-clear : (answer room : ℕ) → 4 ≤ room → firstCause (buildCauses room (singleSheet answer)) ≡ Clear
+single-clear : (answer room : ℕ) → (answer ≡ noAnswer → ⊥) → 4 ≤ room
+    → firstCause (buildCauses room (singleSheet answer)) ≡ Clear
 unfolding singleSheet refusal_with_if_ _else_ firstCause first recordAt offset end kindOf cause1 cause2 causeAt
     parseStep parseFrom parse parsed ofKind _or_ find sheetCauses when needed refusalOf recordOf part partBytes content
-    machineOf run answers cause3 cause4 commandsCause cause6 machineIn tableCauses machineCauses wordCauses loadCauses
-    cause9 guard orElse firstOf firstString firstPath transfer following T nthState firstBlocks opening approach test
-    stateTests tests sequence cause8 connectedCauses buildCauses
-single-clear answer room l = nine-clear room 4 l
+    machineOf run answers cause3 cause4 cause12 commandsCause cause6 machineIn tableCauses machineCauses wordCauses
+    loadCauses cause9 guard orElse firstOf firstString firstPath transfer following T nthState firstBlocks opening
+    approach test stateTests tests sequence cause8 connectedCauses buildCauses
+single-clear answer room some l = twelve-clear answer 9 some (nine-clear room 4 l)
 
-pub single-building : (answer room : ℕ) → 4 ≤ room → building room (singleSheet answer) ≡ Built 4
-single-building answer room l =
-    building-clear room (singleSheet answer) (single-clear answer room l)
+pub single-building : (answer room : ℕ) → (answer ≡ noAnswer → ⊥) → 4 ≤ room
+    → building room (singleSheet answer) ≡ Built 4
+single-building answer room some l =
+    building-clear room (singleSheet answer) (single-clear answer room some l)
     ∙ ap (λ (xs : List ℕ). Built (length xs)) (single-built-sequence answer)
 
-pub single-buffer : (answer : ℕ) (buffer : List ℕ) → 4 ≤ length buffer
+pub single-buffer : (answer : ℕ) (buffer : List ℕ) → (answer ≡ noAnswer → ⊥) → 4 ≤ length buffer
     → bufferAfter (singleSheet answer) buffer ≡ (0 ∷ 0 ∷ 0 ∷ 0 ∷ []) ++ drop 4 buffer
-single-buffer answer buffer l =
-    buffer-clear (singleSheet answer) buffer (single-clear answer (length buffer) l)
+single-buffer answer buffer some l =
+    buffer-clear (singleSheet answer) buffer (single-clear answer (length buffer) some l)
     ∙ ap (λ (xs : List ℕ). written xs buffer) (single-built-sequence answer)
 
 -- the length formula is met there: no smaller one holds

@@ -26,12 +26,12 @@ use Rattle.certify.specs.Certification.Bounds.{sequence-small}
 use Rattle.judge.specs.declared.answer.Answer.{Answer}
 use Rattle.judge.specs.declared.answer.Answer.the-variants.{Pass}
 use Rattle.judge.specs.Judging.{cause10, judgeCauses, judgement, valuesOf}
-use Rattle.judge.specs.Judging.Verdict.{Judged, passed, wrong, unfinished}
+use Rattle.judge.specs.Judging.Verdict.{Judged, passed, wrong, unheard, unfinished}
 use Rattle.judge.specs.Judging.Laws.{cause10-is, judge-causes-are, few-answers, judged-proper, judged-commands}
 use Rattle.judge.specs.Judging.Laws.{Result, refused, not-certified, judged, judgement-result}
 
 -- ---- refusals
--- of causes 1 to 7, 9 and 10
+-- of the causes of certifying and 10
 pub judge-small : (room : ℕ) (s : List ℕ) → WhereRefused Small (firstCause (judgeCauses room s))
 judge-small room s =
     place-of Small (judge-causes-are room s)
@@ -63,7 +63,7 @@ module _ (room : ℕ) (s : List ℕ) (bytes : Bytes s) where
         state-stays (machineIn s) proper (content 3 s) (commands .low) (length (content 3 s)),
       );
     }
-    judged-fits (wrong {place = p} l r d x y) =
+    judged-fits (wrong {place = p} l r d n x y) =
         let inside : p < length (content 3 s) = omega (arith, few-answers room s e) in
         record {
           place = omega (arith, commands .few);
@@ -72,6 +72,11 @@ module _ (room : ℕ) (s : List ℕ) (bytes : Bytes s) where
               (answer-byte s bytes (stateAt (machineIn s) (content 3 s) p) (getD (content 3 s) p 0));
           b = rw y (content-bytes 4 s bytes p);
         }
+    judged-fits (unheard {place = p} l r n y) = record {
+      place = omega (arith, few-answers room s e, commands .few);
+      a = omega arith;
+      b = omega arith;
+    }
     judged-fits (unfinished y l r) = record { place = omega (arith, commands .few); a = omega arith; b = omega arith }
 
   result-fits : {a : Answer} → Result room s a → Fits (valuesOf a)
@@ -98,7 +103,8 @@ module _ (room : ℕ) (s : List ℕ) (bytes : Bytes s) where
 judged-pass : (M : Mealy) (xs ys : List ℕ) {a : Answer} → Judged M xs ys a → valuesOf a .class ≡ 100
     → (size : ℕ) × (a ≡ Pass size (valuesOf a .b))
 judged-pass M xs ys (passed {size = size} y n t) c = (size, refl)
-judged-pass M xs ys (wrong l r d x y) c = let z : ⊥ = omega arith in absurd z
+judged-pass M xs ys (wrong l r d n x y) c = let z : ⊥ = omega arith in absurd z
+judged-pass M xs ys (unheard l r n y) c = let z : ⊥ = omega arith in absurd z
 judged-pass M xs ys (unfinished y l r) c = let z : ⊥ = omega arith in absurd z
 
 result-pass : (room : ℕ) (s : List ℕ) {a : Answer} → Result room s a → valuesOf a .class ≡ 100

@@ -1,7 +1,7 @@
 -- The laws of judging a sheet: its causes, its answer and buffer by the first cause, what each answer says, both
 -- directions, and the identity claim.
 use Prim.Native.Nat.{ℕ, _≤_}
-use mathlib.Core.Path.{_≡_, refl, sym, ap, ap₂, _∙_}
+use mathlib.Core.Path.{_≡_, refl, sym, ap, ap₂, subst, _∙_}
 use mathlib.Core.Bool.{true}
 use mathlib.Core.List.{List, [], _∷_}
 use native.Mathlib.Omega.{arith}
@@ -33,7 +33,7 @@ use Rattle.judge.specs.declared.answer.Answer.the-variants.{Pass, Refuse
 use Rattle.judge.specs.Renaming.Identity.{identity}
 use Rattle.judge.specs.Renaming.Behaviour.{end-alike}
 use Rattle.judge.specs.Judging.{cause10, judgeCauses, cause11, verdict, judgement, judgedMarks, Identity}
-use Rattle.judge.specs.Judging.Verdict.{Judged, passed, wrong, unfinished, judged-verdict, verdict-judged}
+use Rattle.judge.specs.Judging.Verdict.{Judged, passed, judged-verdict, verdict-judged}
 
 -- ---- the causes
 pub cause10-is : (r : Record) (xs ys : List ℕ)
@@ -158,21 +158,14 @@ module _ (room : ℕ) (s : List ℕ) where
   pub judgement-result : Result room s (judgement room s)
   judgement-result = result-by (firstCause (judgeCauses room s)) (certification room s) refl refl
 
--- no result is a refusal
-result-not-refused : (M : Mealy) (xs ys : List ℕ) {a : Answer} {n p : ℕ} → Judged M xs ys a → a ≡ RefusedAnswer n p → ⊥
-result-not-refused M xs ys (passed y m t) q = let z : _≡_ {A = ℕ} 0 1 = cc in omega arith
-result-not-refused M xs ys (wrong l r d x y) q = let z : _≡_ {A = ℕ} 0 1 = cc in omega arith
-result-not-refused M xs ys (unfinished y l r) q = let z : _≡_ {A = ℕ} 0 1 = cc in omega arith
-
 -- a refusal other than judging's 11 writes nothing
 pub refused-marks : (s buffer : List ℕ) {n p : ℕ} → judgement (length buffer) s ≡ RefusedAnswer n p → (n ≡ 11 → ⊥)
     → judgedMarks s buffer ≡ buffer
-refused-marks s buffer {n} {p} e other = go (judgement-result (length buffer) s) e
+refused-marks s buffer e = go (subst (Result (length buffer) s) e (judgement-result (length buffer) s))
   where
-    go : {a : Answer} → Result (length buffer) s a → a ≡ RefusedAnswer n p → judgedMarks s buffer ≡ buffer
-    go (refused f) q = judged-refused s buffer f
-    go (not-certified f o) q = let eleven : n ≡ 11 = cc in absurd (other eleven)
-    go (judged f c h) q = absurd (result-not-refused (machineIn s) (content 3 s) (content 4 s) h q)
+    go : {n p : ℕ} → Result (length buffer) s (RefusedAnswer n p) → (n ≡ 11 → ⊥) → judgedMarks s buffer ≡ buffer
+    go (refused f) other = judged-refused s buffer f
+    go (not-certified f o) other = absurd (other refl)
 
 -- what pass shows
 pub record Passes (room : ℕ) (s : List ℕ) (size end : ℕ) : Type 0 where
@@ -182,31 +175,12 @@ pub record Passes (room : ℕ) (s : List ℕ) (size end : ℕ) : Type 0 where
   pub long : size ≡ length (content 3 s)
   pub ends : end ≡ stateAt (machineIn s) (content 3 s) (length (content 3 s))
 
-result-passes : (room : ℕ) (s : List ℕ) {a : Answer} {size end : ℕ} → Result room s a → a ≡ Pass size end
-    → Passes room s size end
-result-passes room s (refused e) q = let z : _≡_ {A = ℕ} 0 1 = cc in absurd (omega arith)
-result-passes room s (not-certified e o) q = let z : _≡_ {A = ℕ} 0 1 = cc in absurd (omega arith)
-result-passes room s {size = size} {end = end} (judged e c h) q = go h q
-  where
-    same-size : {n e m f : ℕ} → Pass n e ≡ Pass m f → m ≡ n
-    same-size p = cc
-
-    same-end : {n e m f : ℕ} → Pass n e ≡ Pass m f → f ≡ e
-    same-end p = cc
-
-    go : {a : Answer} → Judged (machineIn s) (content 3 s) (content 4 s) a → a ≡ Pass size end → Passes room s size end
-    go (passed y n t) p = record {
-      clear = e;
-      certified = c;
-      complete = y;
-      long = same-size p ∙ n;
-      ends = same-end p ∙ t;
-    }
-    go (wrong l r d x y) p = let z : _≡_ {A = ℕ} 0 1 = cc in absurd (omega arith)
-    go (unfinished y l r) p = let z : _≡_ {A = ℕ} 0 1 = cc in absurd (omega arith)
+result-passes : (room : ℕ) (s : List ℕ) {size end : ℕ} → Result room s (Pass size end) → Passes room s size end
+result-passes room s (judged e c (passed y n t)) =
+    record { clear = e; certified = c; complete = y; long = n; ends = t }
 
 pub pass-passes : (room : ℕ) (s : List ℕ) {size end : ℕ} → judgement room s ≡ Pass size end → Passes room s size end
-pass-passes room s e = result-passes room s (judgement-result room s) e
+pass-passes room s e = result-passes room s (subst (Result room s) e (judgement-result room s))
 
 pub passes-pass : (room : ℕ) (s : List ℕ) {size end : ℕ} → Passes room s size end → judgement room s ≡ Pass size end
 passes-pass room s h =

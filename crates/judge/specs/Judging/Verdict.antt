@@ -4,17 +4,17 @@ use mathlib.Core.Path.{_≡_, refl, sym, ap, ap₂, _∙_}
 use mathlib.Core.Bool.{Bool, true, false, cond}
 use mathlib.Core.List.{List}
 use native.Mathlib.Omega.{arith}
-use lib.Dec.{ltb}
+use lib.Dec.{ltb, eqb}
 use lib.ListN.{length, getD}
 use lib.Seq.{ext-getD}
-use borrow.Author.Tests.{ltb-true, ltb-false, lt-ltb, le-ltb}
+use borrow.Author.Tests.{ltb-true, ltb-false, lt-ltb, le-ltb, eqb-true, eqb-false, eq-eqb, ne-eqb}
 use Rattle.facts.specs.Tests.{if-true, if-false}
 use Rattle.facts.specs.CommonPrefix.{agreed, Agreed, agreed-holds, agreed-is}
-use Rattle.machine.specs.Machine.{Mealy, answers, stateAt}
+use Rattle.machine.specs.Machine.{Mealy, noAnswer, answers, stateAt}
 use Rattle.machine.specs.Machine.Laws.{answers-length}
 use Rattle.judge.specs.declared.answer.Answer.{Answer}
-use Rattle.judge.specs.declared.answer.Answer.the-variants.{Pass, Wrong, Unfinished}
-use Rattle.judge.specs.Judging.{resultAt, verdict}
+use Rattle.judge.specs.declared.answer.Answer.the-variants.{Pass, Wrong, Unheard, Unfinished}
+use Rattle.judge.specs.Judging.{difference, resultAt, verdict}
 
 -- ---- the results, as §7 says them
 -- the answers before place p are the specified ones
@@ -25,13 +25,27 @@ pub data Judged (M : Mealy) (xs ys : List ℕ) : Answer → Type 0 where
   -- pass: every answer was given, and each is the specified one
   passed : {size end : ℕ} → ys ≡ answers M (M .start) xs → size ≡ length xs → end ≡ stateAt M xs (length xs)
       → Judged M xs ys (Pass size end)
-  -- wrong: the answers before the place are right, and the one there is not
+  -- wrong: the answers before the place are right, and the one there is not, and is one
   wrong : {place specified given : ℕ} → place < length ys → Right M xs ys place → (specified ≡ given → ⊥)
-      → specified ≡ getD (answers M (M .start) xs) place 0 → given ≡ getD ys place 0
+      → (given ≡ noAnswer → ⊥) → specified ≡ getD (answers M (M .start) xs) place 0 → given ≡ getD ys place 0
       → Judged M xs ys (Wrong place specified given)
+  -- unheard: the answers before the place are right, and no answer came there, where one is specified
+  unheard : {place : ℕ} → place < length ys → Right M xs ys place
+      → (getD (answers M (M .start) xs) place 0 ≡ noAnswer → ⊥) → getD ys place 0 ≡ noAnswer
+      → Judged M xs ys (Unheard place)
   -- unfinished: some answers are missing, and those that were given are right
   unfinished : {number : ℕ} → number ≡ length ys → number < length xs → Right M xs ys number
       → Judged M xs ys (Unfinished number)
+
+-- ---- the two results for an answer that is not the specified one
+module _ (place specified given : ℕ) where
+  pub difference-wrong : (given ≡ noAnswer → ⊥) → difference place specified given ≡ Wrong place specified given
+  unfolding difference
+  difference-wrong h = if-false _ _ (ne-eqb given noAnswer h)
+
+  pub difference-unheard : given ≡ noAnswer → difference place specified given ≡ Unheard place
+  unfolding difference
+  difference-unheard e = if-true _ _ (eq-eqb given noAnswer e)
 
 module _ (M : Mealy) (xs ys : List ℕ) (few : length ys ≤ length xs) where
   abbrev specified : List ℕ
@@ -44,9 +58,9 @@ module _ (M : Mealy) (xs ys : List ℕ) (few : length ys ≤ length xs) where
   unfolding verdict
   verdict-at {p} h = ap (resultAt M xs ys) (sym (agreed-is specified ys p h))
 
-  at-wrong : {p : ℕ} → p < length ys → resultAt M xs ys p ≡ Wrong p (getD specified p 0) (getD ys p 0)
+  at-difference : {p : ℕ} → p < length ys → resultAt M xs ys p ≡ difference p (getD specified p 0) (getD ys p 0)
   unfolding resultAt
-  at-wrong l = if-true _ _ (lt-ltb _ _ l)
+  at-difference l = if-true _ _ (lt-ltb _ _ l)
 
   at-last : {p : ℕ} → length ys ≤ p
       → resultAt M xs ys p ≡ cond (ltb p (length xs)) (Unfinished p) (Pass (length xs) (stateAt M xs (length xs)))
@@ -60,6 +74,18 @@ module _ (M : Mealy) (xs ys : List ℕ) (few : length ys ≤ length xs) where
   at-passed l k = at-last l ∙ if-false _ _ (le-ltb _ _ k)
 
   -- ---- from what holds to the verdict
+  -- the answers before a place are right, and the one there is not
+  pub differs-verdict : {place v g : ℕ} → place < length ys → Right M xs ys place → (v ≡ g → ⊥)
+      → v ≡ getD specified place 0 → g ≡ getD ys place 0 → difference place v g ≡ verdict M xs ys
+  differs-verdict {place} l r d se ge =
+      let h : Agreed specified ys place = record {
+        in-first = omega (arith, many);
+        in-second = omega arith;
+        before = r;
+        here = λ k m q. d (se ∙ q ∙ sym ge);
+      } in
+      ap₂ (difference place) se ge ∙ sym (verdict-at h ∙ at-difference l)
+
   pub judged-verdict : {a : Answer} → Judged M xs ys a → a ≡ verdict M xs ys
   judged-verdict (passed e se ee) =
       let long : length ys ≡ length xs = ap length e ∙ many in
@@ -70,14 +96,11 @@ module _ (M : Mealy) (xs ys : List ℕ) (few : length ys ≤ length xs) where
         here = λ k l q. omega (arith, many);
       } in
       ap₂ Pass se ee ∙ sym (verdict-at h ∙ at-passed (omega (arith, long)) (omega arith))
-  judged-verdict (wrong {place} l r d se ge) =
-      let h : Agreed specified ys place = record {
-        in-first = omega (arith, many);
-        in-second = omega arith;
-        before = r;
-        here = λ k m q. d (se ∙ q ∙ sym ge);
-      } in
-      ap₂ (Wrong place) se ge ∙ sym (verdict-at h ∙ at-wrong l)
+  judged-verdict (wrong {place} {specified = v} {given = g} l r d n se ge) =
+      sym (difference-wrong place v g n) ∙ differs-verdict l r d se ge
+  judged-verdict (unheard {place} l r n ge) =
+      sym (difference-unheard place (getD specified place 0) (getD ys place 0) ge)
+      ∙ differs-verdict l r (λ q. n (q ∙ ge)) refl refl
   judged-verdict (unfinished {number} e l r) =
       let h : Agreed specified ys number = record {
         in-first = omega (arith, many);
@@ -88,11 +111,22 @@ module _ (M : Mealy) (xs ys : List ℕ) (few : length ys ≤ length xs) where
       sym (verdict-at h ∙ at-unfinished (omega arith) l)
 
   -- ---- and from the verdict to what holds
+  judged-difference : {p : ℕ} → Agreed specified ys p → p < length ys → (t : Bool) → eqb (getD ys p 0) noAnswer ≡ t
+      → Judged M xs ys (difference p (getD specified p 0) (getD ys p 0))
+  judged-difference {p} h l true e =
+      let no = eqb-true (getD ys p 0) noAnswer e in
+      rw (difference-unheard p (getD specified p 0) (getD ys p 0) no)
+      (unheard l (h .before) (λ q. h .here (omega (arith, many)) l (q ∙ sym no)) no)
+  judged-difference {p} h l false e =
+      let some = eqb-false (getD ys p 0) noAnswer e in
+      rw (difference-wrong p (getD specified p 0) (getD ys p 0) some)
+      (wrong l (h .before) (h .here (omega (arith, many)) l) some refl refl)
+
   judged-by : {p : ℕ} → Agreed specified ys p → (t u : Bool) → ltb p (length ys) ≡ t → ltb p (length xs) ≡ u
       → Judged M xs ys (resultAt M xs ys p)
   judged-by {p} h true u e k =
       let l = ltb-true p (length ys) e in
-      rw (at-wrong l) (wrong l (h .before) (h .here (omega (arith, many)) l) refl refl)
+      rw (at-difference l) (judged-difference h l (eqb (getD ys p 0) noAnswer) refl)
   judged-by {p} h false true e k =
       rw (at-unfinished (ltb-false p _ e) (ltb-true p _ k))
       (unfinished {number = p} (omega (arith, ltb-false p _ e, h .in-second)) (ltb-true p _ k) (h .before))

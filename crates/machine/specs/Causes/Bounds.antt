@@ -1,5 +1,5 @@
--- The places of causes 3 to 6 lie inside the longest sheet, and so do those of cause 7, which is stated with 5. The
--- answers of a sheet's machine are bytes.
+-- The places of causes 3 to 6 and 12 lie inside the longest sheet, and so do those of cause 7, which is stated with 5.
+-- The answers of a sheet's machine are bytes.
 use Prim.Native.Nat.{ℕ, _+_, _*_, _≤_, _<_}
 use mathlib.Core.Path.{_≡_, sym, _∙_}
 use mathlib.Core.Bool.{Bool, true, false}
@@ -18,8 +18,8 @@ use Rattle.sheet.specs.Reader.Laws.{record-inside}
 use Rattle.sheet.specs.Reader.Bounds.{Small, sheet-small, sheet-short, offset-inside, Bytes, content-bytes}
 use Rattle.machine.specs.Limits.{mostStates, mostWord}
 use Rattle.machine.specs.Machine.{Mealy, pairAt, machineOf}
-use Rattle.machine.specs.Causes.{outside, cause3, cause4, commandsCause, cause5, cause6, machineIn, tableCauses}
-use Rattle.machine.specs.Causes.{machineCauses, wordCauses, loadCauses}
+use Rattle.machine.specs.Causes.{outside, cause3, cause4, cause12, commandsCause, cause5, cause6, machineIn}
+use Rattle.machine.specs.Causes.{tableCauses, machineCauses, wordCauses, loadCauses}
 use Rattle.machine.specs.Causes.Laws.{Shape, clear-shape}
 use Rattle.machine.specs.Causes.Lists.{table-causes-are, machine-causes-are, word-causes-are, word-causes-none}
 use Rattle.machine.specs.Causes.Lists.{load-causes-are, machine-proper, clear-table}
@@ -32,21 +32,32 @@ module _ (s : List ℕ) (short : length s ≤ longest) where
       place-cause Small 3 (recordOf 1 s .start) _
       (λ t. record { number = omega arith; place = omega (arith, record-inside 1 s) })
 
+  -- an offset in the payload
+  payload-small : (number i : ℕ) → number < 100 → i < length (content 1 s) → Small number (offset (recordOf 1 s) i)
+  payload-small number i low l = record { number = low; place = omega (arith, offset-inside 1 s i l) }
+
   cause4-small : Shape (content 1 s) → WhereRefused Small (cause4 (recordOf 1 s) (content 1 s))
   unfolding cause4
   cause4-small h =
       place-first Small (getD (content 1 s) 0 0 * getD (content 1 s) 1 0) _
       (λ e l. place-cause Small 4 (offset (recordOf 1 s) (pairAt e)) _
-      (λ t. record {
-        number = omega arith;
-        place = omega (arith, offset-inside 1 s (pairAt e) (omega (arith, h .long)));
-      }))
+      (λ t. payload-small 4 (pairAt e) (omega arith) (omega (arith, h .long))))
+
+  cause12-small : Shape (content 1 s) → WhereRefused Small (cause12 (recordOf 1 s) (content 1 s))
+  unfolding cause12
+  cause12-small h =
+      place-first Small (getD (content 1 s) 0 0 * getD (content 1 s) 1 0) _
+      (λ e l. place-cause Small 12 (offset (recordOf 1 s) (pairAt e + 1)) _
+      (λ t. payload-small 12 (pairAt e + 1) (omega arith) (omega (arith, h .long))))
 
   table-small : WhereRefused Small (firstCause (tableCauses (recordOf 1 s) (content 1 s)))
   table-small =
       place-of Small (table-causes-are (recordOf 1 s) (content 1 s))
-      (place-else Small (cause3 (recordOf 1 s) (content 1 s)) (cause4 (recordOf 1 s) (content 1 s)) cause3-small
-      (λ t. cause4-small (clear-shape (recordOf 1 s) (content 1 s) t)))
+      (place-else Small (cause3 (recordOf 1 s) (content 1 s)) _ cause3-small
+      (λ t.
+      let h = clear-shape (recordOf 1 s) (content 1 s) t in
+      place-else Small (cause4 (recordOf 1 s) (content 1 s)) (cause12 (recordOf 1 s) (content 1 s)) (cause4-small h)
+      (λ u. cause12-small h)))
 
   -- causes 5 and 7, of the record of any kind
   pub commands-small : (number most k kind : ℕ) → number < 100
@@ -90,7 +101,7 @@ module _ (n : Needs) (s : List ℕ) where
       (commands-small s (machine-short e) 5 mostWord (machineIn s .k) 2 (omega arith))
       (λ q. cause6-small (machineIn s) (content 2 s) (machine-proper n s e .few-states)))
 
-  -- of causes 1 to 6
+  -- of the causes of loading
   pub load-small : WhereRefused Small (firstCause (loadCauses n s))
   load-small =
       place-of Small (load-causes-are n s)

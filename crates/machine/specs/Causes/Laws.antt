@@ -1,10 +1,11 @@
--- The laws of causes 3, 4, 5 and 7: each as the code looks for it, and what it shows where it is clear.
+-- The laws of causes 3, 4, 12, 5 and 7: each as the code looks for it, and what it shows where it is clear.
 use Prim.Native.Nat.{ℕ, _+_, _*_, _<_, _≤_}
-use mathlib.Core.Path.{_≡_, sym, ap, ap₂, _∙_, fun-ext}
-use mathlib.Core.Bool.{Bool, false, not, _||_}
+use mathlib.Core.Path.{_≡_, refl, sym, ap, ap₂, _∙_, fun-ext}
+use mathlib.Core.Bool.{Bool, true, false, not, _||_}
 use mathlib.Core.List.{List}
 use native.Mathlib.Nat.{zero-add, one-mul}
-use borrow.Author.Tests.{ltb-false, leb-false, eqb-true, not-false, le-ltb, lt-leb}
+use native.Mathlib.Omega.{arith}
+use borrow.Author.Tests.{ltb-false, leb-true, leb-false, eqb-true, eqb-false, not-false, le-ltb, lt-leb, eq-eqb, ne-eqb}
 use lib.Arith.{digits-lt}
 use lib.Dec.{leb, ltb, eqb}
 use lib.ListN.{length, getD}
@@ -14,11 +15,13 @@ use Rattle.sheet.specs.declared.check.Check.the-variants.{Clear}
 use Rattle.sheet.specs.declared.record.Record.{Record}
 use Rattle.sheet.specs.Check.{refusal_with_if_, _else_, first}
 use Rattle.sheet.specs.Check.Laws.{absent, clear-absent, else-clear, both-clear, first-clear, first-clear-at}
+use Rattle.sheet.specs.Check.Laws.{first-same}
 use Rattle.sheet.specs.Format.{header, offset}
 use Rattle.sheet.specs.Format.Laws.{offset-is}
+use Rattle.sheet.specs.Reader.Bounds.{Bytes}
 use Rattle.machine.specs.Limits.{mostStates, mostCommands, mostEntries, entries-few}
-use Rattle.machine.specs.Machine.{pairAt, Commands}
-use Rattle.machine.specs.Causes.{outside, cause3, cause4, byteCause, commandsCause}
+use Rattle.machine.specs.Machine.{noAnswer, pairAt, Commands}
+use Rattle.machine.specs.Causes.{outside, cause3, cause4, cause12, byteCause, commandsCause}
 
 -- cause 3, of the bytes and tests as the code has them
 pub cause3-is : (r : Record) (p : List ℕ) {n k : ℕ} → n ≡ getD p 0 0 → k ≡ getD p 1 0 → {a b : Bool}
@@ -43,6 +46,24 @@ cause4-is r p =
     let n = getD p 0 0 in
     ap (first (n * getD p 1 0))
     (fun-ext (λ e. ap (λ (x : ℕ). refusal 4 with x if leb n (getD p (pairAt e) 0)) (sym (offset-is r (pairAt e)))))
+
+-- a byte that is not below the highest one is that one
+highest-is : (b : ℕ) → b < 256 → leb noAnswer b ≡ eqb b noAnswer
+highest-is b l = go (leb noAnswer b) refl
+  where
+    go : (t : Bool) → leb noAnswer b ≡ t → leb noAnswer b ≡ eqb b noAnswer
+    go true e = let h = leb-true noAnswer b e in e ∙ sym (eq-eqb b noAnswer (omega arith))
+    go false e = let h = leb-false noAnswer b e in e ∙ sym (ne-eqb b noAnswer (λ q. omega arith))
+
+-- cause 12, of a payload of bytes, looks at every second byte from 3 on
+pub cause12-is : (r : Record) (p : List ℕ) → Bytes p
+    → first (getD p 0 0 * getD p 1 0) (byteCause 12 (r .start + header) p 3 2 noAnswer) ≡ cause12 r p
+unfolding cause12 byteCause
+cause12-is r p bytes =
+    first-same (getD p 0 0 * getD p 1 0) _ _
+    (λ e l.
+    let at : 3 + 2 * e ≡ pairAt e + 1 = omega arith in
+    rw (at, offset-is r (pairAt e + 1), highest-is (getD p (pairAt e + 1) 0) (bytes (pairAt e + 1))) refl)
 
 -- causes 5 and 7 look at every byte
 pub commands-cause-is : (number most k : ℕ) (r : Record) (w : List ℕ)
@@ -94,6 +115,15 @@ unfolding cause4
 clear-next r p e s c sl cl =
     let i = s * getD p 1 0 + c in
     leb-false _ _ (clear-absent 4 (offset r (pairAt i)) _
+    (first-clear-at _ i _ e (digits-lt {q = s} {m = getD p 0 0} {r = c} {c = getD p 1 0} sl cl)))
+
+-- no answer of the table is the byte for no answer
+pub clear-answers : (r : Record) (p : List ℕ) → cause12 r p ≡ Clear → (s c : ℕ) → s < getD p 0 0 → c < getD p 1 0
+    → getD p (pairAt (s * getD p 1 0 + c) + 1) 0 ≡ noAnswer → ⊥
+unfolding cause12
+clear-answers r p e s c sl cl =
+    let i = s * getD p 1 0 + c in
+    eqb-false _ _ (clear-absent 12 (offset r (pairAt i + 1)) _
     (first-clear-at _ i _ e (digits-lt {q = s} {m = getD p 0 0} {r = c} {c = getD p 1 0} sl cl)))
 
 -- the commands of a word or a sequence

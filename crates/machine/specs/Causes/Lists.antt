@@ -1,32 +1,37 @@
--- The laws of causes 1 to 6 in order, and what a sheet shows where they are clear.
+-- The laws of the causes of loading in order, and what a sheet shows where they are clear.
 use Prim.Native.Nat.{ℕ}
 use mathlib.Core.Path.{_≡_, refl, sym, ap, ap₂, _∙_}
 use mathlib.Core.Bool.{Bool, true, false}
-use mathlib.Core.List.{List, List·Memᴰ}
+use mathlib.Core.List.{List, [], _∷_, List·Memᴰ}
 use native.Mathlib.Omega.{arith}
 use lib.ListN.{take}
 use lib.Seq.{take-all}
+use Rattle.sheet.specs.declared.check.Check.{Check}
 use Rattle.sheet.specs.declared.check.Check.the-variants.{Clear}
 use Rattle.sheet.specs.declared.record.Record.{Record}
 use Rattle.sheet.specs.declared.record.Found.the-variants.{At}
 use Rattle.sheet.specs.declared.reader.Needs.{Needs}
 use Rattle.sheet.specs.Check.{_else_, firstCause}
-use Rattle.sheet.specs.Check.Laws.{else-clear, both-clear, cause-none, cause-two, cause-append}
+use Rattle.sheet.specs.Check.Laws.{else-clear, both-clear, cause-none, cause-cons, cause-two, cause-append}
 use Rattle.sheet.specs.Format.{parsed, find}
 use Rattle.sheet.specs.Reader.{sheetCauses, needed, refusalOf, recordOf, content, Reads}
 use Rattle.sheet.specs.Reader.Laws.{needed-without-answers, needed-machine, needed-word, needed-clear, clear-reads}
 use Rattle.sheet.specs.Reader.Laws.{record-found}
 use Rattle.machine.specs.Limits.{mostMachine, mostWord}
-use Rattle.machine.specs.Machine.{Mealy, machineOf, Proper, Distinguishes}
-use Rattle.machine.specs.Causes.{cause3, cause4, cause5, cause6, machineIn, held, tableCauses, machineCauses}
-use Rattle.machine.specs.Causes.{wordCauses, loadCauses}
-use Rattle.machine.specs.Causes.Laws.{Shape, clear-shape, shape-entries, clear-next, clear-commands}
+use Rattle.machine.specs.Machine.{Mealy, machineOf, Proper, AlwaysAnswers, Distinguishes}
+use Rattle.machine.specs.Causes.{cause3, cause4, cause12, cause5, cause6, machineIn, held, tableCauses}
+use Rattle.machine.specs.Causes.{machineCauses, wordCauses, loadCauses}
+use Rattle.machine.specs.Causes.Laws.{Shape, clear-shape, shape-entries, clear-next, clear-answers}
+use Rattle.machine.specs.Causes.Laws.{clear-commands}
 use Rattle.machine.specs.Causes.Separation.{clear-separates}
 
 -- ---- the lists, written out
-pub table-causes-are : (r : Record) (p : List ℕ) → firstCause (tableCauses r p) ≡ (cause3 r p else cause4 r p)
+pub table-causes-are : (r : Record) (p : List ℕ)
+    → firstCause (tableCauses r p) ≡ (cause3 r p else (cause4 r p else cause12 r p))
 unfolding tableCauses
-table-causes-are r p = cause-two (cause3 r p) (cause4 r p)
+table-causes-are r p =
+    cause-cons (cause3 r p) (cause4 r p ∷ cause12 r p ∷ [])
+    ∙ ap (λ (c : Check). cause3 r p else c) (cause-two (cause4 r p) (cause12 r p))
 
 pub machine-causes-are : (n : Needs) (s : List ℕ) → firstCause (machineCauses n s)
     ≡ (firstCause (sheetCauses (needed n) s) else firstCause (tableCauses (recordOf 1 s) (content 1 s)))
@@ -69,7 +74,8 @@ table-same s t found one e =
 
 -- ---- where they are clear
 module _ (n : Needs) (s : List ℕ) (e : firstCause (machineCauses n s) ≡ Clear) where
-  table-clear : (cause3 (recordOf 1 s) (content 1 s) ≡ Clear) × (cause4 (recordOf 1 s) (content 1 s) ≡ Clear)
+  table-clear : (cause3 (recordOf 1 s) (content 1 s) ≡ Clear)
+      × ((cause4 (recordOf 1 s) (content 1 s) else cause12 (recordOf 1 s) (content 1 s)) ≡ Clear)
   table-clear =
       both-clear _ _
       (sym (table-causes-are (recordOf 1 s) (content 1 s)) ∙ both-clear _ _ (sym (machine-causes-are n s) ∙ e) .1)
@@ -101,8 +107,12 @@ machine-proper n s e =
       some-commands = h .some-commands;
       few-commands = h .few-commands;
       starts = h .some-states;
-      stays = clear-next (recordOf 1 s) (content 1 s) (table-clear n s e .1);
+      stays = clear-next (recordOf 1 s) (content 1 s) (both-clear _ _ (table-clear n s e .1) .0);
     }
+
+pub machine-answers : (n : Needs) (s : List ℕ) → firstCause (machineCauses n s) ≡ Clear → AlwaysAnswers (machineIn s)
+unfolding machineIn machineOf
+machine-answers n s e = clear-answers (recordOf 1 s) (content 1 s) (both-clear _ _ (table-clear n s e .1) .1)
 
 pub clear-table : (n : Needs) (s : List ℕ) → firstCause (loadCauses n s) ≡ Clear
     → firstCause (machineCauses n s) ≡ Clear
@@ -111,6 +121,10 @@ clear-table n s e = both-clear _ _ (sym (load-causes-are n s) ∙ e) .0
 -- the machine of a loaded sheet is within the limits, and reading the machine or a needed word is not refused
 pub load-proper : (n : Needs) (s : List ℕ) → firstCause (loadCauses n s) ≡ Clear → Proper (machineIn s)
 load-proper n s e = machine-proper n s (clear-table n s e)
+
+-- and each of its entries specifies an answer
+pub load-answers : (n : Needs) (s : List ℕ) → firstCause (loadCauses n s) ≡ Clear → AlwaysAnswers (machineIn s)
+load-answers n s e = machine-answers n s (clear-table n s e)
 
 pub load-machine : (n : Needs) (s : List ℕ) → firstCause (loadCauses n s) ≡ Clear → refusalOf 1 s ≡ Clear
 load-machine n s e = kind-clear n s (clear-table n s e) 1 (needed-machine n)

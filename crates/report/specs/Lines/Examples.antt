@@ -2,13 +2,14 @@
 use mathlib.Core.Path.{_≡_, refl}
 use mathlib.Core.List.{[], _∷_}
 use Rattle.facts.specs.Decimal.{bytes, decimalWithin, decimal}
-use Rattle.judge.specs.declared.answer.Answer.the-variants.{Pass, Wrong, Unfinished, Refused as RefusedJudgement}
+use Rattle.judge.specs.declared.answer.Answer.the-variants.{Pass, Wrong, Unheard, Unfinished}
+use Rattle.judge.specs.declared.answer.Answer.the-variants.{Refused as RefusedJudgement}
 use Rattle.certify.specs.declared.answer.Answer.the-variants.{Certified, Open, Refused as RefusedCertification}
 use Rattle.desk.specs.declared.desk.Order.the-variants.{Command, Home, Stranger}
 use Rattle.report.specs.Phrases.{phrases, phrase}
-use Rattle.report.specs.Lines.{refusalLine, passLine, wrongLine, unfinishedLine, judgeLine, certifiedLine}
-use Rattle.report.specs.Lines.{openLine, certifyLine, listed, wordLine, noneLine, commandLine, homeLine}
-use Rattle.report.specs.Lines.{strangerLine, orderLine}
+use Rattle.report.specs.Lines.{refusalLine, passLine, wrongLine, unheardLine, unfinishedLine, judgeLine}
+use Rattle.report.specs.Lines.{certifiedLine, openLine, certifyLine, listed, wordLine, noneLine, commandLine}
+use Rattle.report.specs.Lines.{homeLine, strangerLine, orderLine}
 
 pub pass : judgeLine (Pass 12 0) ≡ bytes "PASS 12 end 0\n"
 unfolding passLine decimal decimalWithin
@@ -17,6 +18,10 @@ pass = refl
 pub wrong : judgeLine (Wrong 6 5 6) ≡ bytes "WRONG at 6 want 5 got 6\n"
 unfolding wrongLine decimal decimalWithin
 wrong = refl
+
+pub unheard : judgeLine (Unheard 3) ≡ bytes "UNHEARD at 3\n"
+unfolding unheardLine decimal decimalWithin
+unheard = refl
 
 pub unfinished : judgeLine (Unfinished 4) ≡ bytes "UNFINISHED 4\n"
 unfolding unfinishedLine decimal decimalWithin
@@ -27,7 +32,7 @@ unfolding refusalLine phrase phrases decimal decimalWithin
 refused = refl
 
 -- a number without a phrase
-pub refused-later : judgeLine (RefusedJudgement 12 8) ≡ bytes "REFUSED 12 at 8\n"
+pub refused-later : judgeLine (RefusedJudgement 12 9) ≡ bytes "REFUSED 12 at 9\n"
 unfolding refusalLine phrase phrases decimal decimalWithin
 refused-later = refl
 

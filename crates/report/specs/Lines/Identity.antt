@@ -9,12 +9,12 @@ use Rattle.facts.specs.Decimal.{bytes}
 use Rattle.sheet.specs.Reader.{content}
 use Rattle.machine.specs.Causes.{machineIn}
 use Rattle.judge.specs.declared.answer.Answer.{Answer}
-use Rattle.judge.specs.declared.answer.Answer.the-variants.{Pass, Wrong, Unfinished, Refused}
+use Rattle.judge.specs.declared.answer.Answer.the-variants.{Pass, Wrong, Unheard, Unfinished, Refused}
 use Rattle.machine.specs.Unit.{Unit, ownAnswers}
 use Rattle.judge.specs.Renaming.{Renaming}
 use Rattle.judge.specs.Judging.{judgement}
 use Rattle.judge.specs.Judging.Laws.{pass-identity}
-use Rattle.report.specs.Lines.{refusalLine, passLine, wrongLine, unfinishedLine, judgeLine}
+use Rattle.report.specs.Lines.{refusalLine, passLine, wrongLine, unheardLine, unfinishedLine, judgeLine}
 
 -- the line's first byte is that of the word PASS
 abbrev pub Passing : List ℕ → Type 0
@@ -25,9 +25,10 @@ unfolding passLine
 pass-passing size end = refl
 
 pub passing-pass : (a : Answer) → Passing (judgeLine a) → (size : ℕ) × (end : ℕ) × (a ≡ Pass size end)
-unfolding refusalLine wrongLine unfinishedLine
+unfolding refusalLine wrongLine unheardLine unfinishedLine
 passing-pass (Pass size end) e = (size, end, refl)
 passing-pass (Wrong place specified given) e = let z : ⊥ = omega (arith, e) in absurd z
+passing-pass (Unheard place) e = let z : ⊥ = omega (arith, e) in absurd z
 passing-pass (Unfinished number) e = let z : ⊥ = omega (arith, e) in absurd z
 passing-pass (Refused number place) e = let z : ⊥ = omega (arith, e) in absurd z
 

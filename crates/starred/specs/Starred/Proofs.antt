@@ -14,9 +14,9 @@ use Rattle.sheet.specs.Format.{recordAt, offset, end, kindOf, cause1, cause2, c
 use Rattle.sheet.specs.Format.{parsed, ofKind, _or_, find}
 use Rattle.sheet.specs.Reader.{sheetCauses, when, needed, refusalOf, recordOf, part, partBytes, content}
 use Rattle.sheet.specs.Writing.{headerOf}
-use Rattle.machine.specs.Machine.{Mealy, machineOf, run, answers, stateAt}
-use Rattle.machine.specs.Causes.{cause3, cause4, commandsCause, cause6, machineIn, tableCauses, machineCauses}
-use Rattle.machine.specs.Causes.{wordCauses, loadCauses}
+use Rattle.machine.specs.Machine.{Mealy, noAnswer, machineOf, run, answers, stateAt}
+use Rattle.machine.specs.Causes.{cause3, cause4, cause12, commandsCause, cause6, machineIn, tableCauses}
+use Rattle.machine.specs.Causes.{machineCauses, wordCauses, loadCauses}
 use Rattle.certify.specs.declared.answer.Answer.{Answer}
 use Rattle.certify.specs.declared.answer.Answer.the-variants.{Certified}
 use Rattle.certify.specs.Marks.Twin.{twin as twinMachine, single as singleMachine}
@@ -28,7 +28,7 @@ use Rattle.build.specs.Building.Service.{building-refused}
 use Rattle.build.specs.Building.Twin as buildings
 use Rattle.judge.specs.declared.answer.Answer.{Answer as Judgement}
 use Rattle.judge.specs.declared.answer.Answer.the-variants.{Pass, Wrong, Unfinished}
-use Rattle.judge.specs.Judging.{cause10, judgeCauses, resultAt, verdict, judgement}
+use Rattle.judge.specs.Judging.{cause10, judgeCauses, difference, resultAt, verdict, judgement}
 use Rattle.judge.specs.Judging.Laws.{certifying-clear, judgement-refused, judgement-verdict}
 use Rattle.report.specs.Lines.{judgeLine}
 use Rattle.report.specs.Lines.Examples as lines
@@ -79,10 +79,10 @@ record Computed : Type 0 where
   one : Reads 2 (0 ∷ [])
   late : Reads 4 (1 ∷ 0 ∷ 0 ∷ [])
   three : Reads 4 (0 ∷ 0 ∷ 0 ∷ [])
-  pair : (answer room : ℕ) → 3 ≤ room
+  pair : (answer room : ℕ) → (answer ≡ noAnswer → ⊥) → 3 ≤ room
       → Sheet room (sequenceSheet (singleTable answer) (0 ∷ []) (0 ∷ 0 ∷ [])) (singleMachine answer) (0 ∷ [])
       (0 ∷ 0 ∷ [])
-  short : (answer room : ℕ) → 2 ≤ room
+  short : (answer room : ℕ) → (answer ≡ noAnswer → ⊥) → 2 ≤ room
       → Sheet room (sequenceSheet (singleTable answer) (0 ∷ []) (0 ∷ [])) (singleMachine answer) (0 ∷ []) (0 ∷ [])
   passes : Verdict (0 ∷ 1 ∷ 0 ∷ 1 ∷ 0 ∷ 1 ∷ 5 ∷ 0 ∷ 1 ∷ 0 ∷ 5 ∷ 1 ∷ []) (Pass 12 0)
   wrong-at : Verdict (0 ∷ 1 ∷ 0 ∷ 1 ∷ 0 ∷ 1 ∷ 6 ∷ 0 ∷ 1 ∷ 0 ∷ 5 ∷ 1 ∷ []) (Wrong 6 5 6)
@@ -104,9 +104,9 @@ record Computed : Type 0 where
 computed : Computed
 unfolding twinMachine singleMachine headerOf refusal_with_if_ _else_ firstCause first recordAt offset end kindOf cause1
     cause2 causeAt parseStep parseFrom parse parsed ofKind _or_ find sheetCauses when needed refusalOf recordOf part
-    partBytes content machineOf run answers cause3 cause4 commandsCause cause6 machineIn tableCauses machineCauses
-    wordCauses loadCauses connectedCauses buildCauses cause9 sequenceCauses cause10 judgeCauses verdict resultAt agreed
-    stateAt
+    partBytes content machineOf run answers cause3 cause4 cause12 commandsCause cause6 machineIn tableCauses
+    machineCauses wordCauses loadCauses connectedCauses buildCauses cause9 sequenceCauses cause10 judgeCauses verdict
+    difference resultAt agreed stateAt
 computed = record {
   built = λ room l. reads-as (buildings.nine-clear room 13 l) refl refl refl;
   each-other = λ room l. reads-as (buildings.nine-clear room 7 l) refl refl refl;
@@ -114,8 +114,10 @@ computed = record {
   one = λ room l. reads-as (buildings.nine-clear room 2 l) refl refl refl;
   late = λ room l. reads-as (buildings.nine-clear room 4 l) refl refl refl;
   three = λ room l. reads-as (buildings.nine-clear room 4 l) refl refl refl;
-  pair = λ answer room l. reads-as (buildings.nine-clear room 3 l) refl refl refl;
-  short = λ answer room l. reads-as (buildings.nine-clear room 2 l) refl refl refl;
+  pair = λ answer room some l.
+      reads-as (buildings.twelve-clear answer 9 some (buildings.nine-clear room 3 l)) refl refl refl;
+  short = λ answer room some l.
+      reads-as (buildings.twelve-clear answer 9 some (buildings.nine-clear room 2 l)) refl refl refl;
   passes = (λ room l. judged-as (buildings.nine-clear room 13 l) refl refl refl refl, refl);
   wrong-at = (λ room l. judged-as (buildings.nine-clear room 13 l) refl refl refl refl, refl);
   unfinished-run = (λ room l. judged-as (buildings.nine-clear room 13 l) refl refl refl refl, refl);
@@ -169,6 +171,7 @@ starred = record {
   not-connected = buildings.disconnected-building;
   single-built = buildings.single-building;
   single-bytes = buildings.single-buffer;
-  single-pair = λ answer room l. answered room (computed .pair answer room l) (outcomes.single-pair answer);
-  single-short = λ answer room l. answered room (computed .short answer room l) (outcomes.single-short answer);
+  single-pair = λ answer room some l. answered room (computed .pair answer room some l) (outcomes.single-pair answer);
+  single-short = λ answer room some l.
+      answered room (computed .short answer room some l) (outcomes.single-short answer);
 }

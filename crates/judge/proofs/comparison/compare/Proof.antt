@@ -7,7 +7,7 @@ use mathlib.Core.Path.{refl}
 use Prim.Native.Nat.{_-_}
 use lib.ListN.{length}
 use Rattle.machine.specs.Machine.{meaning}
-use Rattle.judge.proofs.Comparing.{Compared, compared-start, entry-inside, compared-wrong, compared-next}
+use Rattle.judge.proofs.Comparing.{Compared, compared-start, entry-inside, compared-differs, compared-next}
 use Rattle.judge.proofs.Comparing.{compared-unfinished, compared-passed}
 use Rattle.judge.proofs.comparison.compare.Statement.{statement}
 use Rattle.judge.proofs.comparison.compare.Tie as tie
@@ -42,12 +42,17 @@ shared-slice-read-given : tie.Need-shared-slice-read-given Inv-loop μ-loop
 shared-slice-read-given c =
     search needs
 
+difference-requires : tie.Need-difference-requires Inv-loop μ-loop
+difference-requires c κs =
+    search needs
+
 returns : tie.Need-returns Inv-loop μ-loop
 returns c =
-    let start = c .before .before .before .before .before .before .before .before .before .before in
-    compared-wrong (start .args .m) (now (start .args .xs)) (now (start .args .ys)) (start .pre)
-    (c .before .before .before .before .before .loop .inv) (c .before .before .before .before .loop-test .taken)
-    (c .before .before .entry-at .ensures) refl refl (c .if1 .taken)
+    let start = c .before .before .before .before .before .before .before .before .before .before .before in
+    compared-differs (start .args .m) (now (start .args .xs)) (now (start .args .ys)) (start .pre)
+    (c .before .before .before .before .before .before .loop .inv)
+    (c .before .before .before .before .before .loop-test .taken) (c .before .before .before .entry-at .ensures)
+    refl refl (c .before .if1 .taken) (c .difference .ensures)
 
 array-read-s : tie.Need-array-read-s Inv-loop μ-loop
 array-read-s c =
@@ -94,6 +99,7 @@ compare-spec =
     entry-at-requires
     array-read-specified
     shared-slice-read-given
+    difference-requires
     returns
     array-read-s
     add-i

@@ -1,6 +1,8 @@
--- `machine::checks::table` meets its contract: cause 3, then cause 4.
+-- `machine::checks::table` meets its contract: cause 3, then 4, then 12, since the payload is of bytes.
 -- Assumes nothing.
+use native.Mathlib.Omega.{arith}
 use borrow.Author.Needs.{needs}
+use denote.Ref.{now}
 use Rattle.machine.proofs.LoadChecks.{payload-are}
 use Rattle.machine.proofs.checks.table.Statement.{statement}
 use Rattle.machine.proofs.checks.table.Tie as tie
@@ -14,14 +16,32 @@ byte-requires c κs = search needs
 scan-pairs-requires : tie.Need-scan-pairs-requires
 scan-pairs-requires c κs = search needs
 
+scan-pairs-requires-2 : tie.Need-scan-pairs-requires-2
+scan-pairs-requires-2 c κs = search needs
+
 first-of-requires : tie.Need-first-of-requires
 first-of-requires c κs = search needs
 
+first-of-requires-2 : tie.Need-first-of-requires-2
+first-of-requires-2 c κs = search needs
+
 returns : tie.Need-returns
 returns c =
-    payload-are _ _ (c .before .before .before .shape .ensures) (c .before .before .byte .ensures)
-    (c .before .scan-pairs .ensures) (c .first-of .ensures)
+    let entry = c .before .before .before .before .before .before in
+    payload-are (entry .before .args .r) (now (entry .before .args .p))
+    (λ i. omega (arith, entry .shared-slice-known .given i))
+    (c .before .before .before .before .before .shape .ensures) (c .before .before .before .before .byte .ensures)
+    (c .before .before .before .scan-pairs .ensures) (c .before .before .scan-pairs2 .ensures)
+    (c .before .first-of .ensures) (c .first-of2 .ensures)
 
 pub table-spec : {M : Type 1} → statement M
 table-spec =
-    tie.close (tie.spec shape-requires byte-requires scan-pairs-requires first-of-requires returns)
+    tie.close
+    (tie.spec
+    shape-requires
+    byte-requires
+    scan-pairs-requires
+    scan-pairs-requires-2
+    first-of-requires
+    first-of-requires-2
+    returns)
