@@ -16,7 +16,7 @@ use Rattle.machine.specs.declared.loading.Loaded.{Loaded}
 use Rattle.machine.specs.Machine.{Mealy}
 use Rattle.machine.specs.Machine.Laws.{meaning-commands}
 use Rattle.machine.specs.Causes.{commandsCause, machineIn, held, loadCauses}
-use Rattle.machine.specs.Causes.Lists.{held-is, clear-table}
+use Rattle.machine.specs.Causes.Lists.{held-is, clear-machine}
 use Rattle.machine.specs.Loading.{LoadedFrom}
 use Rattle.certify.specs.Certification.{sequenceNeeds, cause7, cause9, markBytes, sequenceCauses}
 use Rattle.certify.specs.Certification.Laws.{cause9-is, sequence-causes-are, load-clear, sequence-commands}
@@ -32,7 +32,7 @@ module _ (answers : Bool) (room : ℕ) (s : List ℕ) where
       ≡ (c else later (cause7 (machineIn s .k) (recordOf 3 s) (content 3 s)))
   checks-by Clear e =
       ap (λ (M : Mealy). Clear else later (cause7 (M .k) (recordOf 3 s) (content 3 s)))
-      (held-is (sequenceNeeds answers) s (clear-table (sequenceNeeds answers) s e))
+      (held-is (sequenceNeeds answers) s (clear-machine (sequenceNeeds answers) s e))
   checks-by (Refused n p) e = else-refused n p _ ∙ sym (else-refused n p _)
 
   checks-are : {k : ℕ} {xs : List ℕ} {earlier seven nine inner c : Check}

@@ -1,4 +1,5 @@
-// The causes of loading, 7 and 9 of a sheet, and its machine: what every service that certifies begins with.
+// The causes of loading, 7 and 9 of a sheet, and its machine: what every service that certifies
+// begins with.
 ghost use Rattle.certify.specs.Loading.{SequenceLoaded};
 use machine::Loaded;
 use machine::Machine;

@@ -1,5 +1,6 @@
 -- The desk (§13): what it orders, of a machine, a word and the list of all answers so far. `Ordered` says it and
--- `orderOf` computes it; Desk.Agreement shows that both agree, by the laws of Desk.Laws. Desk.Ends has those of ends.
+-- `orderOf` computes it; Desk.Agreement shows that both agree, by the laws of Desk.Laws. Desk.Ends has those of ends,
+-- Desk.NoAnswer those of the byte for no answer.
 use Prim.Native.Nat.{ℕ, _-_, _≤_, _<_}
 use mathlib.Core.Path.{_≡_}
 use mathlib.Core.Bool.{Bool, true, false, cond}
@@ -20,6 +21,7 @@ use Rattle.desk.specs.declared.desk.Phase.the-variants.{Stranger as Stra
 pub mod Laws
 pub mod Agreement
 pub mod Ends
+pub mod NoAnswer
 
 -- ---- as the specification says it
 -- the commands for a unit that began in state s (§13.1): the word, and the transfer from the state to which the word

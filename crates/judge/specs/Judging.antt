@@ -54,8 +54,8 @@ cause11 (RefusedCertification number place) = Refused number place
 unfoldable pub difference : ℕ → ℕ → ℕ → Answer
 difference place specified given = cond (eqb given noAnswer) (Unheard place) (Wrong place specified given)
 
--- the result (§7), by how many answers from the front are the specified ones: wrong or unheard where an answer at that
--- place was given, unfinished where none was and the sequence goes on, otherwise pass with N and the state of place N
+-- the result (§7), by how many answers from the front are the specified ones: wrong or unheard where there are more
+-- answers, unfinished where there are not and the sequence goes on, otherwise pass with N and the state of place N
 unfoldable pub resultAt : Mealy → List ℕ → List ℕ → ℕ → Answer
 resultAt M xs ys right =
     cond (ltb right (length ys)) (difference right (getD (answers M (M .start) xs) right 0) (getD ys right 0))

@@ -24,7 +24,7 @@ use Rattle.machine.specs.Causes.{tableCauses, machineCauses, wordCauses,
 use Rattle.machine.specs.Causes.Laws.{cause4-is, cause12-is, commands-cause-is}
 use Rattle.machine.specs.Causes.Lists.{table-causes-are, machine-causes-are, word-causes-are, word-causes-none}
 use Rattle.machine.specs.Causes.Lists.{load-causes-are}
-use Rattle.machine.specs.Causes.Lists.{clear-table, kind-reads, held-is, load-proper, word-distinguishes}
+use Rattle.machine.specs.Causes.Lists.{clear-machine, kind-reads, held-is, load-proper, word-distinguishes}
 use Rattle.machine.specs.declared.loading.Loaded.{Loaded}
 use Rattle.machine.specs.Loading.{LoadedFrom}
 
@@ -50,12 +50,12 @@ pub pairs-are : (p : List ℕ) (f : ℕ → Check) {n k : ℕ} {c : Check} → n
 pairs-are p f ne ke ce = ce ∙ ap₂ (λ (n k : ℕ). first (n * k) f) ne ke
 
 -- the causes of the table, of bytes: 4 and 12 as the scans find them
-pub payload-are : (r : Record) (p : List ℕ) → Bytes p → {n : ℕ} {three four twelve inner c : Check}
+pub table-are : (r : Record) (p : List ℕ) → Bytes p → {n : ℕ} {three four twelve inner c : Check}
     → three ≡ cause3 r p → n ≡ getD p 0 0
     → four ≡ first (getD p 0 0 * getD p 1 0) (byteCause 4 (r .start + header) p 2 2 n)
     → twelve ≡ first (getD p 0 0 * getD p 1 0) (byteCause 12 (r .start + header) p 3 2 noAnswer)
     → inner ≡ (four else twelve) → c ≡ (three else inner) → c ≡ firstCause (tableCauses r p)
-payload-are r p bytes te ne fe we ie ce =
+table-are r p bytes te ne fe we ie ce =
     let four-is =
     fe
     ∙ ap (λ (x : ℕ). first (getD p 0 0 * getD p 1 0) (byteCause 4 (r .start + header) p 2 2 x)) ne
@@ -63,10 +63,10 @@ payload-are r p bytes te ne fe we ie ce =
     ce ∙ ap₂ _else_ te (ie ∙ ap₂ _else_ four-is (we ∙ cause12-is r p bytes)) ∙ sym (table-causes-are r p)
 
 -- the causes of the machine
-pub table-are : (n : Needs) (s : List ℕ) {r : Record} {p : List ℕ} {kinds table c : Check}
+pub machine-are : (n : Needs) (s : List ℕ) {r : Record} {p : List ℕ} {kinds table c : Check}
     → kinds ≡ firstCause (sheetCauses (needed n) s) → r ≡ recordOf 1 s → p ≡ content 1 s
     → table ≡ firstCause (tableCauses r p) → c ≡ (kinds else table) → c ≡ firstCause (machineCauses n s)
-table-are n s ke re pe te ce =
+machine-are n s ke re pe te ce =
     ce
     ∙ ap₂ _else_ ke (te ∙ ap₂ (λ (x : Record) (y : List ℕ). firstCause (tableCauses x y)) re pe)
     ∙ sym (machine-causes-are n s)
@@ -125,8 +125,8 @@ pub loaded-from : (n : Needs) (s : List ℕ) (l : Loaded) → l .check ≡ first
     → meaning (l .machine) ≡ held s → LoadedFrom n s l
 loaded-from n s l ce he = record {
   check = ce;
-  reads = λ k m e. kind-reads n s (clear-table n s (sym ce ∙ e)) k m;
-  machine = λ e. he ∙ held-is n s (clear-table n s (sym ce ∙ e));
+  reads = λ k m e. kind-reads n s (clear-machine n s (sym ce ∙ e)) k m;
+  machine = λ e. he ∙ held-is n s (clear-machine n s (sym ce ∙ e));
   proper = λ e. load-proper n s (sym ce ∙ e);
   distinguishes = λ t e. word-distinguishes n s t (sym ce ∙ e);
   holds = he;

@@ -84,7 +84,7 @@ machineIn s = machineOf (content 1 s)
 unfoldable pub held : List ℕ → Mealy
 held s = machineOf (take mostMachine (content 1 s))
 
--- the causes of a machine's payload in order (§4.1), by its record: 12 comes straight after 4
+-- the causes of a machine's payload in order (§4.1), by its record: 12 stands behind 4
 unfoldable pub tableCauses : Record → List ℕ → List Check
 tableCauses r p = cause3 r p ∷ cause4 r p ∷ cause12 r p ∷ []
 

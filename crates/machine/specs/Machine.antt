@@ -18,7 +18,7 @@ pub record Mealy : Type 0 where
   pub next : ℕ → ℕ → ℕ
   pub answer : ℕ → ℕ → ℕ
 
--- the byte that stands for no answer (§2.2): the capture cable writes it where none came, and no entry specifies it. In
+-- the byte that stands for no answer (§2.2), in a recording of a unit's answers; a table may not specify it (§4.2). In
 -- the literature the absence of an output is called quiescence
 abbrev pub noAnswer : ℕ
 noAnswer = 255

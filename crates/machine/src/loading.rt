@@ -24,7 +24,7 @@ pub struct Loaded {
 }
 
 // The causes of the machine.
-fn table_check(sheet: &[u8], needs: Needs) -> Check
+fn machine_check(sheet: &[u8], needs: Needs) -> Check
     ensures { λ r. ⌜ r ≡ firstCause (machineCauses needs (now (sheet .entry))) ⌝ }
 {
     let kinds = checks(sheet, needs);
@@ -57,7 +57,7 @@ fn all_checks(sheet: &[u8], needs: Needs, m: Machine) -> Check
     requires { ⌜ meaning m ≡ held (now sheet) ⌝ }
     ensures { λ r. ⌜ r ≡ firstCause (loadCauses needs (now (sheet .entry))) ⌝ }
 {
-    let table = table_check(sheet, needs);
+    let table = machine_check(sheet, needs);
     if let Check::Refused {
         number: _,
         place: _,

@@ -58,7 +58,7 @@ abbrev pub recordOr : Found → Record
 recordOr (At r) = r
 recordOr Missing = record { start = 0; size = 0; kind = 0 }
 
--- the record of a kind in a sheet: the places of causes 3, 4, 5, 7 and 10 are its start or offsets in it (§4.2)
+-- the record of a kind in a sheet: the places of the causes of its payload are its start or offsets in it (§4.2)
 unfoldable pub recordOf : ℕ → List ℕ → Record
 recordOf k s = recordOr (find k (parsed s .records))
 

@@ -18,7 +18,7 @@ use Rattle.machine.specs.Machine.{Mealy, run, Proper, Commands}
 use Rattle.machine.specs.Causes.{cause6, machineIn, wordCauses, loadCauses}
 use Rattle.machine.specs.Causes.Laws.{clear-commands}
 use Rattle.machine.specs.Causes.Separation.{separates-clear}
-use Rattle.machine.specs.Causes.Lists.{word-causes-are, load-causes-are, machine-proper, load-proper, clear-table}
+use Rattle.machine.specs.Causes.Lists.{word-causes-are, load-causes-are, machine-proper, load-proper, clear-machine}
 use Rattle.machine.specs.Causes.Lists.{word-distinguishes}
 use Rattle.certify.specs.declared.answer.Answer.the-variants.{Certified as CertifiedAnswer}
 use Rattle.certify.specs.Recognition.{Certified}
@@ -131,7 +131,7 @@ module _ (room : ℕ) (s : List ℕ) where
       both-clear _ _ (sym (load-causes-are buildNeeds s) ∙ load) .1 in
       let d = word-distinguishes buildNeeds s refl load in
       record {
-        machine = clear-table buildNeeds s load;
+        machine = clear-machine buildNeeds s load;
         word = both-clear _ _ (sym (word-causes-are s) ∙ word) .0;
         separates = d .separates;
         connected =

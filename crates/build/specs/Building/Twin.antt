@@ -75,7 +75,7 @@ twin-built-sequence = ap₂ sequence twin-machine twin-word ∙ twin-sequence
 pub nine-clear : (room size : ℕ) → size ≤ room → ((refusal 9 with size if ltb room size) else Clear) ≡ Clear
 nine-clear room size l = else-end _ ∙ absent 9 size (le-ltb room size l)
 
--- and so is cause 12 before it, where the answer in the table is one
+-- and so is cause 12 before it, where the table specifies another answer than the byte for none
 pub twelve-clear : (answer place : ℕ) → (answer ≡ noAnswer → ⊥) → {c : Check} → c ≡ Clear
     → ((refusal 12 with place if eqb answer noAnswer) else c) ≡ Clear
 twelve-clear answer place some e =

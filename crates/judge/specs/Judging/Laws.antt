@@ -4,7 +4,6 @@ use Prim.Native.Nat.{ℕ, _≤_}
 use mathlib.Core.Path.{_≡_, refl, sym, ap, ap₂, subst, _∙_}
 use mathlib.Core.Bool.{true}
 use mathlib.Core.List.{List, [], _∷_}
-use native.Mathlib.Omega.{arith}
 use borrow.Author.Tests.{ltb-false}
 use lib.Dec.{ltb}
 use lib.ListN.{length, drop}
@@ -16,7 +15,7 @@ use Rattle.sheet.specs.Check.{refusal_with_if_, _else_, firstCause, refusedOr, 
 use Rattle.sheet.specs.Check.Laws.{clear-refused, clear-absent, both-clear, cause-one, cause-append}
 use Rattle.sheet.specs.Reader.{recordOf, content}
 use Rattle.machine.specs.Limits.{mostSequence}
-use Rattle.machine.specs.Machine.{Mealy, answers, stateAt, Separates, Proper, Commands}
+use Rattle.machine.specs.Machine.{answers, stateAt, Separates, Proper, Commands}
 use Rattle.machine.specs.Causes.{machineIn, loadCauses}
 use Rattle.machine.specs.Causes.Lists.{load-proper, word-distinguishes}
 use Rattle.machine.specs.Unit.{Unit, tableOf, begunIn, ownAnswers, presentState}

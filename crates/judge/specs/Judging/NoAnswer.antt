@@ -1,6 +1,6 @@
--- The byte for no answer in judging. Where judging refuses nothing, no specified answer is that byte; so answers with
--- it among them never pass, wrong carries it neither as the specified answer nor as the given one, and unheard is the
--- result exactly where it is the first given answer that is not the specified one.
+-- The byte for no answer in judging. Where none of judging's causes but 11 is present, no specified answer is that byte.
+-- So answers with it among them never pass, wrong carries it neither as the specified answer nor as the given one, and
+-- unheard is the result exactly where it is the first of the answers that is not the specified one.
 use Prim.Native.Nat.{ℕ, _<_}
 use mathlib.Core.Path.{_≡_, sym, ap, subst, _∙_}
 use mathlib.Core.Bool.{true}
@@ -10,8 +10,8 @@ use lib.ListN.{length, getD}
 use Rattle.sheet.specs.declared.check.Check.the-variants.{Clear}
 use Rattle.sheet.specs.Check.{firstCause}
 use Rattle.sheet.specs.Reader.{content}
-use Rattle.machine.specs.Machine.{noAnswer, answers, stateAt, AlwaysAnswers}
-use Rattle.machine.specs.Machine.Laws.{answer-at, state-stays}
+use Rattle.machine.specs.Machine.{noAnswer, answers, AlwaysAnswers}
+use Rattle.machine.specs.Machine.Laws.{answers-always}
 use Rattle.machine.specs.Causes.{machineIn}
 use Rattle.machine.specs.Causes.Lists.{load-answers}
 use Rattle.certify.specs.Recognition.{Certified}
@@ -23,42 +23,41 @@ use Rattle.judge.specs.Judging.Verdict.{Right, wrong, unheard}
 use Rattle.judge.specs.Judging.Laws.{marking-clear, few-answers, judged-proper, judged-commands, pass-passes}
 use Rattle.judge.specs.Judging.Laws.{Result, judged, judgement-result, result-judgement}
 
--- ---- where judging refuses nothing
+-- ---- the specified answers
 module _ (room : ℕ) (s : List ℕ) (e : firstCause (judgeCauses room s) ≡ Clear) where
   -- every entry of the machine specifies an answer
   pub judged-answers : AlwaysAnswers (machineIn s)
   judged-answers = load-answers (sequenceNeeds true) s (load-clear true room s (marking-clear room s e))
 
-  -- so every specified answer is one
-  pub specified-some : (i : ℕ) → i < length (content 3 s)
+  -- so no specified answer is the byte for none
+  pub specified-always : (i : ℕ) → i < length (content 3 s)
       → getD (answers (machineIn s) (machineIn s .start) (content 3 s)) i 0 ≡ noAnswer → ⊥
-  specified-some i l q =
-      let commands = judged-commands room s e in
-      judged-answers (stateAt (machineIn s) (content 3 s) i) (getD (content 3 s) i 0)
-      (state-stays (machineIn s) (judged-proper room s e) (content 3 s) (commands .low) i) (commands .low i l)
-      (sym (answer-at (machineIn s) (content 3 s) i l) ∙ q)
+  specified-always =
+      let proper = judged-proper room s e in
+      answers-always (machineIn s) proper judged-answers (machineIn s .start) (content 3 s) (proper .starts)
+      (judged-commands room s e .low)
 
--- ---- pass: no answer is missing
-pub pass-answered : (room : ℕ) (s : List ℕ) {size end : ℕ} → judgement room s ≡ Pass size end → (i : ℕ)
+-- ---- pass: the byte is not among the answers
+pub pass-heard : (room : ℕ) (s : List ℕ) {size end : ℕ} → judgement room s ≡ Pass size end → (i : ℕ)
     → i < length (content 4 s) → getD (content 4 s) i 0 ≡ noAnswer → ⊥
-pass-answered room s p i l q =
+pass-heard room s p i l q =
     let h = pass-passes room s p in
-    specified-some room s (h .clear) i (omega (arith, few-answers room s (h .clear)))
+    specified-always room s (h .clear) i (omega (arith, few-answers room s (h .clear)))
     (ap (λ (ys : List ℕ). getD ys i 0) (sym (h .complete)) ∙ q)
 
--- ---- wrong: both answers that it carries are answers
+-- ---- wrong: it is neither of the two answers
 module _ (room : ℕ) (s : List ℕ) {place specified given : ℕ} where
-  result-answered : Result room s (Wrong place specified given) → (specified ≡ noAnswer → ⊥) × (given ≡ noAnswer → ⊥)
-  result-answered (judged e c (wrong l r d n x y)) =
-      (λ m. specified-some room s e place (omega (arith, few-answers room s e)) (sym x ∙ m), n)
+  result-heard : Result room s (Wrong place specified given) → (specified ≡ noAnswer → ⊥) × (given ≡ noAnswer → ⊥)
+  result-heard (judged e c (wrong l r d n x y)) =
+      (λ m. specified-always room s e place (omega (arith, few-answers room s e)) (sym x ∙ m), n)
 
-  pub wrong-answered : judgement room s ≡ Wrong place specified given
+  pub wrong-heard : judgement room s ≡ Wrong place specified given
       → (specified ≡ noAnswer → ⊥) × (given ≡ noAnswer → ⊥)
-  wrong-answered e = result-answered (subst (Result room s) e (judgement-result room s))
+  wrong-heard e = result-heard (subst (Result room s) e (judgement-result room s))
 
 -- ---- unheard
--- what it shows: the answers before the place are right, and at the place no answer came
-pub record Unanswered (room : ℕ) (s : List ℕ) (place : ℕ) : Type 0 where
+-- what it shows: the answers before the place are right, and the byte stands there
+pub record FirstUnheard (room : ℕ) (s : List ℕ) (place : ℕ) : Type 0 where
   pub clear : firstCause (judgeCauses room s) ≡ Clear
   pub certified : Certified (machineIn s) (content 2 s) (content 3 s)
   pub given : place < length (content 4 s)
@@ -66,15 +65,15 @@ pub record Unanswered (room : ℕ) (s : List ℕ) (place : ℕ) : Type 0 where
   pub here : getD (content 4 s) place 0 ≡ noAnswer
 
 module _ (room : ℕ) (s : List ℕ) (place : ℕ) where
-  result-unanswered : Result room s (Unheard place) → Unanswered room s place
-  result-unanswered (judged e c (unheard l r n y)) =
+  result-unheard : Result room s (Unheard place) → FirstUnheard room s place
+  result-unheard (judged e c (unheard l r n y)) =
       record { clear = e; certified = c; given = l; before = r; here = y }
 
-  pub unheard-unanswered : judgement room s ≡ Unheard place → Unanswered room s place
-  unheard-unanswered e = result-unanswered (subst (Result room s) e (judgement-result room s))
+  pub unheard-first : judgement room s ≡ Unheard place → FirstUnheard room s place
+  unheard-first e = result-unheard (subst (Result room s) e (judgement-result room s))
 
-  pub unanswered-unheard : Unanswered room s place → judgement room s ≡ Unheard place
-  unanswered-unheard h =
+  pub first-unheard : FirstUnheard room s place → judgement room s ≡ Unheard place
+  first-unheard h =
       sym (result-judgement room s (judged (h .clear) (h .certified)
       (unheard (h .given) (h .before)
-      (specified-some room s (h .clear) place (omega (arith, h .given, few-answers room s (h .clear)))) (h .here))))
+      (specified-always room s (h .clear) place (omega (arith, h .given, few-answers room s (h .clear)))) (h .here))))

@@ -25,11 +25,11 @@ pub data Judged (M : Mealy) (xs ys : List ℕ) : Answer → Type 0 where
   -- pass: every answer was given, and each is the specified one
   passed : {size end : ℕ} → ys ≡ answers M (M .start) xs → size ≡ length xs → end ≡ stateAt M xs (length xs)
       → Judged M xs ys (Pass size end)
-  -- wrong: the answers before the place are right, and the one there is not, and is one
+  -- wrong: the answers before the place are right; the one there is not, and it is not the byte for no answer
   wrong : {place specified given : ℕ} → place < length ys → Right M xs ys place → (specified ≡ given → ⊥)
       → (given ≡ noAnswer → ⊥) → specified ≡ getD (answers M (M .start) xs) place 0 → given ≡ getD ys place 0
       → Judged M xs ys (Wrong place specified given)
-  -- unheard: the answers before the place are right, and no answer came there, where one is specified
+  -- unheard: the answers before the place are right; the byte there is that for no answer, and another is specified
   unheard : {place : ℕ} → place < length ys → Right M xs ys place
       → (getD (answers M (M .start) xs) place 0 ≡ noAnswer → ⊥) → getD ys place 0 ≡ noAnswer
       → Judged M xs ys (Unheard place)

@@ -9,7 +9,7 @@ use lib.Dec.{leb}
 use lib.ListN.{length, getD}
 use Rattle.sheet.specs.declared.check.Check.the-variants.{Clear}
 use Rattle.sheet.specs.declared.reader.Needs.{Needs}
-use Rattle.sheet.specs.Check.{refusal_with_if_, _else_, firstCause, first}
+use Rattle.sheet.specs.Check.{refusal_with_if_, firstCause, first}
 use Rattle.sheet.specs.Check.Laws.{both-clear}
 use Rattle.sheet.specs.Check.Bounds.{WhereRefused, place-clear, place-of, place-cause, place-else, place-first}
 use Rattle.sheet.specs.Format.{longest, offset}
@@ -22,7 +22,7 @@ use Rattle.machine.specs.Causes.{outside, cause3, cause4, cause12, comma
 use Rattle.machine.specs.Causes.{tableCauses, machineCauses, wordCauses, loadCauses}
 use Rattle.machine.specs.Causes.Laws.{Shape, clear-shape}
 use Rattle.machine.specs.Causes.Lists.{table-causes-are, machine-causes-are, word-causes-are, word-causes-none}
-use Rattle.machine.specs.Causes.Lists.{load-causes-are, machine-proper, clear-table}
+use Rattle.machine.specs.Causes.Lists.{load-causes-are, machine-proper, clear-machine}
 
 -- ---- each cause, on a sheet that is not too long
 module _ (s : List ℕ) (short : length s ≤ longest) where
@@ -110,7 +110,7 @@ module _ (n : Needs) (s : List ℕ) where
 
   -- a sheet that is loaded is no longer than the longest
   pub load-short : firstCause (loadCauses n s) ≡ Clear → length s ≤ longest
-  load-short e = machine-short (clear-table n s e)
+  load-short e = machine-short (clear-machine n s e)
 
 -- ---- answers
 -- an answer in the table is a byte

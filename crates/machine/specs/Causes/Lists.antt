@@ -114,23 +114,23 @@ pub machine-answers : (n : Needs) (s : List ℕ) → firstCause (machineCauses n
 unfolding machineIn machineOf
 machine-answers n s e = clear-answers (recordOf 1 s) (content 1 s) (both-clear _ _ (table-clear n s e .1) .1)
 
-pub clear-table : (n : Needs) (s : List ℕ) → firstCause (loadCauses n s) ≡ Clear
+pub clear-machine : (n : Needs) (s : List ℕ) → firstCause (loadCauses n s) ≡ Clear
     → firstCause (machineCauses n s) ≡ Clear
-clear-table n s e = both-clear _ _ (sym (load-causes-are n s) ∙ e) .0
+clear-machine n s e = both-clear _ _ (sym (load-causes-are n s) ∙ e) .0
 
 -- the machine of a loaded sheet is within the limits, and reading the machine or a needed word is not refused
 pub load-proper : (n : Needs) (s : List ℕ) → firstCause (loadCauses n s) ≡ Clear → Proper (machineIn s)
-load-proper n s e = machine-proper n s (clear-table n s e)
+load-proper n s e = machine-proper n s (clear-machine n s e)
 
 -- and each of its entries specifies an answer
 pub load-answers : (n : Needs) (s : List ℕ) → firstCause (loadCauses n s) ≡ Clear → AlwaysAnswers (machineIn s)
-load-answers n s e = machine-answers n s (clear-table n s e)
+load-answers n s e = machine-answers n s (clear-machine n s e)
 
 pub load-machine : (n : Needs) (s : List ℕ) → firstCause (loadCauses n s) ≡ Clear → refusalOf 1 s ≡ Clear
-load-machine n s e = kind-clear n s (clear-table n s e) 1 (needed-machine n)
+load-machine n s e = kind-clear n s (clear-machine n s e) 1 (needed-machine n)
 
 pub load-word : (n : Needs) (s : List ℕ) → n .word ≡ true → firstCause (loadCauses n s) ≡ Clear → refusalOf 2 s ≡ Clear
-load-word n s t e = kind-clear n s (clear-table n s e) 2 (needed-word n t)
+load-word n s t e = kind-clear n s (clear-machine n s e) 2 (needed-word n t)
 
 pub word-distinguishes : (n : Needs) (s : List ℕ) → n .word ≡ true → firstCause (loadCauses n s) ≡ Clear
     → Distinguishes (machineIn s) (content 2 s)

@@ -7,10 +7,10 @@ use native.Mathlib.Numerals.{add-one}
 use lib.Arith.{digits-lt}
 use lib.ListN.{length, getD, take, drop}
 use lib.Seq.{take-append-seam, take-suc, take-add, take-all, drop-cons}
-use Rattle.facts.specs.Lists.{low-take}
+use Rattle.facts.specs.Lists.{Below, below-head, below-tail, low-take}
 use Rattle.machine.specs.declared.machine.Machine.{Machine}
 use Rattle.machine.specs.Limits.{mostEntries, entries-few}
-use Rattle.machine.specs.Machine.{Mealy, tabled, meaning, run, answers, stateAt, Proper}
+use Rattle.machine.specs.Machine.{Mealy, noAnswer, tabled, meaning, run, answers, stateAt, Proper, AlwaysAnswers}
 
 -- two machines are equal where they have the same states, commands, start and entries
 pub mealy-same : (a b : Mealy) → a .n ≡ b .n → a .k ≡ b .k → a .start ≡ b .start
@@ -209,6 +209,16 @@ run-stays M h = run-closed M (h .stays)
 pub state-stays : (M : Mealy) → Proper M → (xs : List ℕ) → ((i : ℕ) → i < length xs → getD xs i 0 < M .k) → (p : ℕ)
     → stateAt M xs p < M .n
 state-stays M h = state-closed M (h .stays) (h .starts)
+
+-- where every entry specifies an answer, no state answers a command with the byte for no answer
+pub answers-always : (M : Mealy) → Proper M → AlwaysAnswers M → (s : ℕ) (w : List ℕ) → s < M .n → Below (M .k) w
+    → (i : ℕ) → i < length w → getD (answers M s w) i 0 ≡ noAnswer → ⊥
+unfolding answers
+answers-always M h always s [] sl low i l = absurd (omega arith)
+answers-always M h always s (c ∷ w) sl low zero l = always s c sl (low 0 l)
+answers-always M h always s (c ∷ w) sl low (suc i) l =
+    answers-always M h always (M .next s c) w (h .stays s c sl (below-head (M .k) c w low)) (below-tail (M .k) c w low) i
+    (omega arith)
 
 -- it has few entries, and entry (s, c) stands among them
 pub proper-entries : (M : Mealy) → Proper M → M .n * M .k ≤ mostEntries

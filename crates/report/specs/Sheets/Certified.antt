@@ -24,7 +24,7 @@ use Rattle.machine.specs.Causes.{cause5, cause6, machineIn, tableCauses, loadCa
 use Rattle.machine.specs.Causes.Laws.{shape-entries, commands-clear}
 use Rattle.machine.specs.Causes.Lists.{machine-same, machine-causes-are, word-causes-are, load-causes-are, shape-of}
 use Rattle.machine.specs.Causes.Lists.{table-same}
-use Rattle.machine.specs.Causes.Lists.{clear-table, load-machine, load-word, word-distinguishes}
+use Rattle.machine.specs.Causes.Lists.{clear-machine, load-machine, load-word, word-distinguishes}
 use Rattle.certify.specs.declared.answer.Answer.the-variants.{Certified}
 use Rattle.certify.specs.Marks.{count, marks}
 use Rattle.certify.specs.Certification.{sequenceNeeds, cause7, certification}
@@ -51,7 +51,7 @@ record Source (s : List ℕ) : Type 0 where
 
 source-of : (s : List ℕ) → firstCause (loadCauses buildNeeds s) ≡ Clear → Source s
 source-of s load =
-    let rows = clear-table buildNeeds s load in
+    let rows = clear-machine buildNeeds s load in
     let parts = both-clear _ _ (sym (machine-causes-are buildNeeds s) ∙ rows) in
     let one = load-machine buildNeeds s load in
     let two = load-word buildNeeds s refl load in

@@ -116,7 +116,7 @@ word-carries s e =
     subst (Carries s (h .word)) (extended-is 1 s (h .word))
     (parts-carry s (h .word) (source-of s (h .clear)) (h .found) (h .sought .has .commands .few))
 
--- building succeeds on it, or refuses it with 8 or 9: causes 8 and 9 are those of the machine and the word
+-- building succeeds on it, or refuses it with 8 or 9, as this machine and this word give them
 pub word-builds : (room : ℕ) (s : List ℕ) {n : ℕ} (e : searching s ≡ Found n) →
     let w = found-answered s e .word in
     firstCause (buildCauses room (wordSheet s w))

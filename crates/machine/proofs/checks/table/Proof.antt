@@ -3,7 +3,7 @@
 use native.Mathlib.Omega.{arith}
 use borrow.Author.Needs.{needs}
 use denote.Ref.{now}
-use Rattle.machine.proofs.LoadChecks.{payload-are}
+use Rattle.machine.proofs.LoadChecks.{table-are}
 use Rattle.machine.proofs.checks.table.Statement.{statement}
 use Rattle.machine.proofs.checks.table.Tie as tie
 
@@ -28,7 +28,7 @@ first-of-requires-2 c κs = search needs
 returns : tie.Need-returns
 returns c =
     let entry = c .before .before .before .before .before .before in
-    payload-are (entry .before .args .r) (now (entry .before .args .p))
+    table-are (entry .before .args .r) (now (entry .before .args .p))
     (λ i. omega (arith, entry .shared-slice-known .given i))
     (c .before .before .before .before .before .shape .ensures) (c .before .before .before .before .byte .ensures)
     (c .before .before .before .scan-pairs .ensures) (c .before .before .scan-pairs2 .ensures)

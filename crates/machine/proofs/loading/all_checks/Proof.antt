@@ -8,8 +8,8 @@ use Rattle.machine.proofs.LoadChecks.{load-stops, load-goes-on}
 use Rattle.machine.proofs.loading.all_checks.Statement.{statement}
 use Rattle.machine.proofs.loading.all_checks.Tie as tie
 
-table-check-requires : tie.Need-table-check-requires
-table-check-requires c κs = search needs
+machine-check-requires : tie.Need-machine-check-requires
+machine-check-requires c κs = search needs
 
 enum-told : tie.Need-enum-told
 enum-told c = search needs
@@ -17,7 +17,7 @@ enum-told c = search needs
 returns : tie.Need-returns
 returns c =
     let start = c .before .before .before .before in
-    load-stops (start .args .needs) (now (start .args .sheet)) (c .before .before .table-check .ensures)
+    load-stops (start .args .needs) (now (start .args .sheet)) (c .before .before .machine-check .ensures)
     (c .enum-told .given .1)
 
 enum-told-2 : tie.Need-enum-told-2
@@ -28,16 +28,16 @@ word-check-requires c κs =
     let start = c .before .before .before .before in
     start .pre
     ∙ held-is (start .args .needs) (now (start .args .sheet))
-    (sym (c .before .before .table-check .ensures) ∙ c .enum-told2 .given .1)
+    (sym (c .before .before .machine-check .ensures) ∙ c .enum-told2 .given .1)
 
 returns-2 : tie.Need-returns-2
 returns-2 c =
     let start = c .before .before .before .before .before in
-    load-goes-on (start .args .needs) (now (start .args .sheet)) (c .before .before .before .table-check .ensures)
+    load-goes-on (start .args .needs) (now (start .args .sheet)) (c .before .before .before .machine-check .ensures)
     (c .before .enum-told2 .given .1)
     (c .word-check .ensures)
 
 pub all-checks-spec : {M : Type 1} → statement M
 all-checks-spec =
     tie.close
-    (tie.spec table-check-requires enum-told returns enum-told-2 word-check-requires returns-2)
+    (tie.spec machine-check-requires enum-told returns enum-told-2 word-check-requires returns-2)

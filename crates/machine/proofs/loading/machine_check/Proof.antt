@@ -1,12 +1,12 @@
--- `machine::loading::table_check` meets its contract: causes 1 and 2, then those of the table.
+-- `machine::loading::machine_check` meets its contract: causes 1 and 2, then those of the table.
 -- Assumes nothing.
 use native.Mathlib.Omega.{arith}
 use borrow.Author.Needs.{needs}
 use denote.Ref.{now}
 use Rattle.sheet.specs.Reader.Laws.{handed-content}
-use Rattle.machine.proofs.LoadChecks.{read-inside, table-are}
-use Rattle.machine.proofs.loading.table_check.Statement.{statement}
-use Rattle.machine.proofs.loading.table_check.Tie as tie
+use Rattle.machine.proofs.LoadChecks.{read-inside, machine-are}
+use Rattle.machine.proofs.loading.machine_check.Statement.{statement}
+use Rattle.machine.proofs.loading.machine_check.Tie as tie
 
 checks-requires : tie.Need-checks-requires
 checks-requires c κs = search needs
@@ -32,12 +32,12 @@ first-of-requires c κs = search needs
 returns : tie.Need-returns
 returns c =
     let start = c .before .before .before .before .before .before in
-    table-are (start .args .needs) (now (start .args .sheet)) (c .before .before .before .before .checks .ensures)
+    machine-are (start .args .needs) (now (start .args .sheet)) (c .before .before .before .before .checks .ensures)
     (c .before .before .before .record-of .ensures)
     (handed-content _ (start .args .sheet) (c .before .before .read .result) (c .before .before .read .ensures))
     (c .before .table .ensures) (c .first-of .ensures)
 
-pub table-check-spec : {M : Type 1} → statement M
-table-check-spec =
+pub machine-check-spec : {M : Type 1} → statement M
+machine-check-spec =
     tie.close
     (tie.spec checks-requires record-of-requires read-requires table-requires first-of-requires returns)
