@@ -2,12 +2,15 @@
 
 use crate::building::{bound, build, build_into, build_sheet};
 use crate::certifying::{Certificate, Certifier};
+use crate::checks::load;
+use crate::desk::Desk;
 use crate::known::{doubling, house, house_sheet, ring, twin, LONG_WORD, TWIN_ANSWERS, TWIN_BUILT};
 use crate::lines;
-use crate::machine::{Machine, LONGEST_SEQUENCE};
+use crate::machine::{Machine, LONGEST_SEQUENCE, SILENCE};
 use crate::naive;
 use crate::random::Random;
 use crate::refusal::Refusal;
+use crate::searching::search;
 use crate::sheet::{record, sheet_of, LONGEST_SHEET};
 
 fn certificate(machine: &Machine, word: &[u8], sequence: &[u8]) -> (usize, Option<usize>) {
@@ -74,6 +77,83 @@ fn twin_is_refused() {
     assert_eq!(build(&stuck, &[0]), Err(Refusal::new(8, 1)));
     let sheet = sheet_of(&stuck, &[0], None, None);
     assert_eq!(build_sheet(&sheet), Err(Refusal::new(8, 1)));
+}
+
+/// The twin's right answers but for these.
+fn twin_given(changes: &[(usize, u8)]) -> String {
+    let mut answers = TWIN_ANSWERS;
+    changes.iter().for_each(|&(place, it)| answers[place] = it);
+    twin_bench(&answers)
+}
+
+#[test]
+fn twin_is_unheard() {
+    for place in [0, 3, 11] {
+        let line = format!("UNHEARD at {place}\n");
+        assert_eq!(twin_given(&[(place, SILENCE)]), line);
+    }
+    assert_eq!(twin_bench(&[SILENCE; 12]), "UNHEARD at 0\n");
+    assert_eq!(twin_bench(&[0, 1, SILENCE]), "UNHEARD at 2\n");
+    assert_eq!(twin_given(&[(5, SILENCE), (6, 6)]), "UNHEARD at 5\n");
+    let wrong = "WRONG at 6 want 5 got 6\n";
+    assert_eq!(twin_given(&[(6, 6), (7, SILENCE)]), wrong);
+    assert_eq!(twin_given(&[(3, 254)]), "WRONG at 3 want 1 got 254\n");
+    let answers = "REFUSED 10 at 41 answers\n";
+    assert_eq!(twin_bench(&[SILENCE; 13]), answers);
+    let open = [0, 0, 1, 0, 1, 0];
+    let sheet = sheet_of(&twin(), &[0], Some(&open), Some(&[SILENCE; 6]));
+    assert_eq!(bench(&sheet), "REFUSED 11 at 2 not certified\n");
+    let sheet = sheet_of(&twin(), &[0], Some(&TWIN_BUILT), Some(&[0, 1, 0, SILENCE]));
+    let number = Certifier::new().judge(&sheet, &mut [7; 14]);
+    assert_eq!(number, (103 << 40) + (3 << 16));
+}
+
+/// What every service that reads the table says of a sheet; the sheet has all records.
+fn said_of_table(sheet: &[u8]) -> Vec<Refusal> {
+    let (mut marks, mut certifier) = ([7; 13], Certifier::new());
+    let said = vec![
+        load(sheet).map(drop),
+        search(sheet).map(drop),
+        build_into(sheet, &mut []).map(drop),
+        build_sheet(sheet).map(drop),
+        Desk::open(sheet).map(drop),
+        certifier.certificate(sheet, &mut marks).map(drop),
+        certifier.verdict(sheet, &mut marks).map(drop),
+    ];
+    assert_eq!(marks, [7; 13]);
+    said.into_iter().filter_map(Result::err).collect()
+}
+
+#[test]
+fn silence_is_never_specified() {
+    let refused = |machine: &Machine, word: &[u8]| {
+        let sheet = sheet_of(machine, word, Some(&[9]), Some(&[SILENCE; 3]));
+        let said = said_of_table(&sheet);
+        assert_eq!(said.len(), 7);
+        assert!(said.iter().all(|it| *it == said[0]));
+        said[0]
+    };
+    for entry in 0..4 {
+        let mut machine = twin();
+        machine.answer[entry] = SILENCE;
+        // Before the word and its commands, whether it separates or not.
+        for word in [&[0][..], &[1], &[2], &[]] {
+            let place = 9 + 2 * entry;
+            assert_eq!(refused(&machine, word), Refusal::new(12, place));
+        }
+        // The first of two; behind any next state.
+        machine.answer[3] = SILENCE;
+        assert_eq!(refused(&machine, &[0]), Refusal::new(12, 9 + 2 * entry));
+        machine.next[3] = 2;
+        assert_eq!(refused(&machine, &[0]), Refusal::new(4, 14));
+        machine.next[3] = 255;
+        assert_eq!(refused(&machine, &[0]), Refusal::new(4, 14));
+    }
+    assert_eq!(lines::refused(Refusal::new(12, 9)), "REFUSED 12 at 9\n");
+    // With one state the unit whose plug is out would have passed.
+    let single = Machine::from_pairs(1, 1, &[(0, SILENCE)]);
+    let sheet = sheet_of(&single, &[0], Some(&[0; 4]), Some(&[SILENCE; 4]));
+    assert_eq!(bench(&sheet), "REFUSED 12 at 9\n");
 }
 
 #[test]

@@ -36,7 +36,7 @@ impl Certifier {
         Ok(self.certify_checked(&checked, marks))
     }
 
-    /// Checks 1 to 7 and 9.
+    /// Checks 1 to 7, 12 and 9.
     pub(crate) fn check<'a>(
         &mut self,
         sheet: &'a [u8],

@@ -1,6 +1,9 @@
-// Checks 1 to 7 in the specification's order (§4.1), as far as a service needs them.
+// Checks 1 to 7 in the specification's order (§4.1), 12 straight after 4, as far as
+// a service needs them.
 
-use crate::machine::{Machine, LONGEST_SEQUENCE, LONGEST_WORD, MOST_COMMANDS, MOST_STATES};
+use crate::machine::{
+    Machine, LONGEST_SEQUENCE, LONGEST_WORD, MOST_COMMANDS, MOST_STATES, SILENCE,
+};
 use crate::refusal::Refusal;
 use crate::sheet::{read, Part};
 
@@ -60,7 +63,8 @@ pub fn check<'a>(
     })
 }
 
-/// The machine of a sheet, record 1 alone being needed: checks 1 to 4.
+/// The machine of a sheet, record 1 alone being needed: checks 1 to 4
+/// and 12.
 pub fn load(sheet: &[u8]) -> Result<Machine, Refusal> {
     let parts = read(sheet, 1)?;
     let mut machine = Machine::default();
@@ -68,19 +72,23 @@ pub fn load(sheet: &[u8]) -> Result<Machine, Refusal> {
     Ok(machine)
 }
 
-/// Checks 3 and 4.
+/// Checks 3, 4 and 12: every next state comes before the first answer.
 fn read_machine(part: Part, machine: &mut Machine) -> Result<(), Refusal> {
     let (n, k, pairs) = shape(part.payload).ok_or(Refusal::new(3, part.start))?;
     machine.n = n;
     machine.k = k;
     machine.next.clear();
     machine.answer.clear();
-    for (index, pair) in pairs.chunks_exact(2).enumerate() {
-        if usize::from(pair[0]) >= n {
-            return Err(Refusal::new(4, part.offset(2 + 2 * index)));
-        }
+    for pair in pairs.chunks_exact(2) {
         machine.next.push(pair[0]);
         machine.answer.push(pair[1]);
+    }
+    let outside = |&next: &u8| usize::from(next) >= n;
+    if let Some(entry) = machine.next.iter().position(outside) {
+        return Err(Refusal::new(4, part.offset(2 + 2 * entry)));
+    }
+    if let Some(entry) = machine.answer.iter().position(|&it| it == SILENCE) {
+        return Err(Refusal::new(12, part.offset(2 + 2 * entry + 1)));
     }
     Ok(())
 }

@@ -41,7 +41,7 @@ struct Way {
 }
 
 impl Desk {
-    /// Checks 1 to 6, then building's 8 (§4.2).
+    /// Checks 1 to 6 and 12, then building's 8 (§4.2).
     pub fn open(sheet: &[u8]) -> Result<Desk, Refusal> {
         let mut machine = Machine::default();
         let checked = check(sheet, Service::Desk, &mut machine)?;

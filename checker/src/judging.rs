@@ -2,6 +2,7 @@
 
 use crate::certifying::Certifier;
 use crate::checks::Service;
+use crate::machine::SILENCE;
 use crate::number;
 use crate::refusal::Refusal;
 
@@ -9,6 +10,7 @@ use crate::refusal::Refusal;
 pub enum Verdict {
     Pass { length: usize, end: usize },
     Wrong { place: usize, want: u8, got: u8 },
+    Unheard { place: usize },
     Unfinished { answers: usize },
 }
 
@@ -31,6 +33,7 @@ impl Certifier {
         let wanted = self.machine.answers(0, sequence);
         let differs = (0..given.len()).find(|&place| given[place] != wanted[place]);
         Ok(match differs {
+            Some(place) if given[place] == SILENCE => Verdict::Unheard { place },
             Some(place) => Verdict::Wrong {
                 place,
                 want: wanted[place],

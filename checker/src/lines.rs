@@ -9,7 +9,7 @@ use crate::words::Mistake;
 
 /// What `bench help` writes.
 pub const HELP: &str = "\
-bench, bench judge      judge the sheet on standard input: PASS, WRONG, UNFINISHED or REFUSED
+bench, bench judge      judge the sheet on standard input: PASS, WRONG, UNHEARD, UNFINISHED or REFUSED
 bench certify           certify the sequence of the sheet on standard input: CERTIFIED, OPEN or REFUSED
 bench word              find a separating word for the machine of the sheet on standard input: \
                         the sheet with it as record 2; WORD, NONE or REFUSED on standard error
@@ -44,6 +44,7 @@ pub fn judged(outcome: Result<Verdict, Refusal>) -> String {
         Ok(Verdict::Wrong { place, want, got }) => {
             format!("WRONG at {place} want {want} got {got}\n")
         }
+        Ok(Verdict::Unheard { place }) => format!("UNHEARD at {place}\n"),
         Ok(Verdict::Unfinished { answers }) => format!("UNFINISHED {answers}\n"),
     }
 }

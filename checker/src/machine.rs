@@ -4,6 +4,8 @@ pub const MOST_STATES: usize = 10;
 pub const MOST_COMMANDS: usize = 8;
 pub const LONGEST_WORD: usize = 16;
 pub const LONGEST_SEQUENCE: usize = 20_355;
+/// Stands among the answers where none came; no table may specify it.
+pub const SILENCE: u8 = 255;
 
 /// A complete deterministic Mealy machine; entry (s, c) stands at `s * k + c`
 /// and state 0 is the start.

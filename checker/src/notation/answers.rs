@@ -85,6 +85,7 @@ fn judged(outcome: Result<Verdict, Refusal>) -> String {
         Ok(Verdict::Wrong { place, want, got }) => {
             format!("wrong at {place} want {want} got {got}")
         }
+        Ok(Verdict::Unheard { place }) => format!("unheard at {place}"),
         Ok(Verdict::Unfinished { answers }) => format!("unfinished {answers}"),
     }
 }

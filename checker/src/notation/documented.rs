@@ -80,6 +80,10 @@ fn judged() {
     assert_eq!(judge(right), "pass 12 end 0 | 1*13 238");
     let wrong = "0 1 0 1 0 1 6 0 1 0 5 1";
     assert_eq!(judge(wrong), "wrong at 6 want 5 got 6 | 1*13 238");
+    assert_eq!(judge("0 1 0 255 0 1 6"), "unheard at 3 | 1*13 238");
+    assert_eq!(judge("255*12"), "unheard at 0 | 1*13 238");
+    let before = "0 1 0 1 0 1 6 255";
+    assert_eq!(judge(before), "wrong at 6 want 5 got 6 | 1*13 238");
     assert_eq!(judge("0 1 0 1"), "unfinished 4 | 1*13 238");
     assert_eq!(judge("0*13"), "refused 10 at 41 | 238*14");
     let unseparated = twin("judge 1", &format!("{{2 1}}{BUILT}{{4 {right}}}"));
@@ -89,6 +93,29 @@ fn judged() {
     let outside = "judge 3 {1 2 2 2 0 0 5 0 1 1 5}{2 0}{3 0}{4}";
     assert_eq!(answer(outside), "refused 4 at 8 | 238*3");
     assert_eq!(answer("judge 0 -"), "refused 2 at 0 | -");
+}
+
+/// The twin's last answer is 255, and in the second table its last next state too.
+#[test]
+fn silent() {
+    let (silent, both) = ("{1 2 2 1 0 0 5 0 1 1 255}", "{1 2 2 1 0 0 5 0 1 255 255}");
+    let services = [
+        ("transfer 0 0", "", ""),
+        ("word", "", ""),
+        ("desk", "{2 9}", " / 0"),
+        ("build 1", "{2 9}", " | 238"),
+        ("certify 1", "{2 1}{3 9}", " | 238"),
+        ("judge 1", "{2 1}{3 9}{4 1*3}", " | 238"),
+    ];
+    for (service, records, rest) in services {
+        let (asked, answered) = match rest.starts_with(" | ") {
+            true => ("", rest),
+            false => (rest, ""),
+        };
+        let said = |table: &str| answer(&format!("{service} {table}{records}{asked}"));
+        assert_eq!(said(silent), format!("refused 12 at 15{answered}"));
+        assert_eq!(said(both), format!("refused 4 at 14{answered}"));
+    }
 }
 
 #[test]
