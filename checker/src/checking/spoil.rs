@@ -6,7 +6,7 @@ use super::driving::CasesSpoil;
 use super::process::{Printed, LIMIT};
 use super::searches::WordSpoil;
 use crate::lines::mistaken;
-use crate::number::{class, CERTIFIED, OPEN, PASS, UNFINISHED, WRONG};
+use crate::number::{class, marked, CERTIFIED, OPEN, PASS, UNFINISHED, UNHEARD, WRONG};
 use crate::words::{Mistake, Service, Word};
 use std::time::Duration;
 
@@ -16,6 +16,12 @@ pub enum Spoil {
     LowFieldChanged,
     CertifiedForOpen,
     UnfinishedForPass,
+    WrongForUnheard,
+    UnheardForWrong,
+    UnheardWithAnswer,
+    UnheardMark,
+    SilenceCause,
+    MarksOnSilence,
     MarkFlipped,
     MarkOfTwo,
     ByteBehindMarks,
@@ -25,11 +31,18 @@ pub enum Spoil {
     SheetChanged,
     WrongUnitPasses,
     RightUnitFails,
+    UnheardUnitPasses,
+    UnheardUnitWrong,
+    WrongUnitUnheard,
     LineCut,
     LineOnError,
+    LineWrongForUnheard,
+    LineUnheardForWrong,
+    LineSilencePhrase,
     BuiltByte,
     BuiltCut,
     BuildRefusalOnOutput,
+    BuildSilenceCause,
     ReadByte,
     ReadCut,
     ReadMore,
@@ -56,11 +69,17 @@ pub enum Spoil {
 const SOON: Duration = Duration::from_secs(2);
 
 /// The names on the command line.
-const NAMES: [(&str, Spoil); 35] = [
+const NAMES: [(&str, Spoil); 48] = [
     ("place-off-by-one", Spoil::PlaceOffByOne),
     ("low-field-changed", Spoil::LowFieldChanged),
     ("certified-for-open", Spoil::CertifiedForOpen),
     ("unfinished-for-pass", Spoil::UnfinishedForPass),
+    ("wrong-for-unheard", Spoil::WrongForUnheard),
+    ("unheard-for-wrong", Spoil::UnheardForWrong),
+    ("unheard-with-answer", Spoil::UnheardWithAnswer),
+    ("unheard-mark", Spoil::UnheardMark),
+    ("silence-cause", Spoil::SilenceCause),
+    ("marks-on-silence", Spoil::MarksOnSilence),
     ("mark-flipped", Spoil::MarkFlipped),
     ("mark-of-two", Spoil::MarkOfTwo),
     ("byte-behind-marks", Spoil::ByteBehindMarks),
@@ -70,11 +89,18 @@ const NAMES: [(&str, Spoil); 35] = [
     ("sheet-changed", Spoil::SheetChanged),
     ("wrong-unit-passes", Spoil::WrongUnitPasses),
     ("right-unit-fails", Spoil::RightUnitFails),
+    ("unheard-unit-passes", Spoil::UnheardUnitPasses),
+    ("unheard-unit-wrong", Spoil::UnheardUnitWrong),
+    ("wrong-unit-unheard", Spoil::WrongUnitUnheard),
     ("line-cut", Spoil::LineCut),
     ("line-on-error", Spoil::LineOnError),
+    ("line-wrong-for-unheard", Spoil::LineWrongForUnheard),
+    ("line-unheard-for-wrong", Spoil::LineUnheardForWrong),
+    ("line-silence-phrase", Spoil::LineSilencePhrase),
     ("built-byte", Spoil::BuiltByte),
     ("built-cut", Spoil::BuiltCut),
     ("build-refusal-on-output", Spoil::BuildRefusalOnOutput),
+    ("build-silence-cause", Spoil::BuildSilenceCause),
     ("read-byte", Spoil::ReadByte),
     ("read-cut", Spoil::ReadCut),
     ("read-more", Spoil::ReadMore),
@@ -130,7 +156,7 @@ impl Spoil {
     pub fn rig(self, seen: Seen) {
         let room = seen.marks.len() - 2 * seen.guard;
         let found = class(*seen.number);
-        let marked = found >= 11;
+        let marked = marked(*seen.number);
         let first = seen.guard;
         let last = seen.needed.map_or(first, |needed| first + needed - 1);
         match self {
@@ -144,6 +170,18 @@ impl Spoil {
                 *seen.number += (UNFINISHED - PASS) << 40;
                 *seen.number &= !0xff;
             }
+            Spoil::WrongForUnheard if found == UNHEARD => {
+                *seen.number -= (UNHEARD - WRONG) << 40;
+                *seen.number |= 0xff;
+            }
+            Spoil::UnheardForWrong if found == WRONG => {
+                *seen.number += (UNHEARD - WRONG) << 40;
+                *seen.number &= !0xffff;
+            }
+            Spoil::UnheardWithAnswer if found == UNHEARD => *seen.number |= 0xff,
+            Spoil::UnheardMark if found == UNHEARD => seen.marks[last] ^= 1,
+            Spoil::SilenceCause if found == 12 => *seen.number -= (12 - 4) << 40,
+            Spoil::MarksOnSilence if found == 12 && room > 0 => seen.marks[first] ^= 1,
             Spoil::MarkFlipped if marked => seen.marks[last] ^= 1,
             Spoil::MarkOfTwo if marked => seen.marks[last] |= 2,
             Spoil::ByteBehindMarks if marked && last + 1 < first + room => {
@@ -163,6 +201,9 @@ impl Spoil {
         match self {
             Spoil::WrongUnitPasses if class(*number) == WRONG => *number = PASS << 40,
             Spoil::RightUnitFails if class(*number) == PASS => *number = WRONG << 40,
+            Spoil::UnheardUnitPasses if class(*number) == UNHEARD => *number = PASS << 40,
+            Spoil::UnheardUnitWrong if class(*number) == UNHEARD => *number = WRONG << 40,
+            Spoil::WrongUnitUnheard if class(*number) == WRONG => *number = UNHEARD << 40,
             _ => {}
         }
     }
@@ -193,6 +234,15 @@ impl Spoil {
             Spoil::LineOnError if seen.output.starts_with(b"REFUSED") => {
                 seen.error.append(&mut seen.output);
             }
+            Spoil::LineWrongForUnheard => other_line(&mut seen.output, "UNHEARD at ", |place| {
+                format!("WRONG at {place} want 0 got 255\n")
+            }),
+            Spoil::LineUnheardForWrong => other_line(&mut seen.output, "WRONG at ", |place| {
+                format!("UNHEARD at {place}\n")
+            }),
+            Spoil::LineSilencePhrase => other_line(&mut seen.output, "REFUSED 12 at ", |place| {
+                format!("REFUSED 12 at {place} answer\n")
+            }),
             Spoil::ErrorNoise => seen.error.push(b'\n'),
             _ => {}
         }
@@ -209,6 +259,7 @@ impl Spoil {
             Spoil::BuiltByte => change_last(&mut seen.output),
             Spoil::BuiltCut => drop(seen.output.pop()),
             Spoil::BuildRefusalOnOutput => seen.output.append(&mut seen.error),
+            Spoil::BuildSilenceCause => silence_as_next_state(&mut seen.error),
             _ => {}
         }
     }
@@ -276,6 +327,22 @@ impl Spoil {
             last.output = b"OPEN 2 recognised 204\n".to_vec();
         }
     }
+}
+
+/// Another line for the same place, where the line begins with these words.
+fn other_line(line: &mut Vec<u8>, start: &str, other: impl Fn(&str) -> String) {
+    let text = String::from_utf8_lossy(line).into_owned();
+    let rest = text.strip_prefix(start);
+    if let Some(place) = rest.and_then(|rest| rest.split_whitespace().next()) {
+        *line = other(place).into_bytes();
+    }
+}
+
+/// The line of refusal 12 becomes that of 4 with the same place.
+pub fn silence_as_next_state(line: &mut Vec<u8>) {
+    other_line(line, "REFUSED 12 at ", |place| {
+        format!("REFUSED 4 at {place} next state\n")
+    });
 }
 
 fn change_last(bytes: &mut [u8]) {

@@ -2,6 +2,7 @@
 // line by line.
 
 use crate::checking::process::{Printed, LIMIT};
+use crate::checking::spoil::silence_as_next_state;
 use crate::checking::visitors::Visitor;
 use crate::dialogue::{ENDED, NO_ANSWER, TOO_LONG, TOO_MANY};
 use std::time::Duration;
@@ -22,6 +23,7 @@ pub enum DeskSpoil {
     ReadsOn,
     ReadsLess,
     RefusalOnError,
+    SilenceCause,
     ReasonLost,
     Status,
     TalkCommand,
@@ -32,7 +34,7 @@ pub enum DeskSpoil {
 }
 
 /// The names on the command line.
-const NAMES: [(&str, DeskSpoil); 21] = [
+const NAMES: [(&str, DeskSpoil); 22] = [
     ("desk-command", DeskSpoil::Command),
     ("desk-home-for-stranger", DeskSpoil::HomeForStranger),
     ("desk-home-count", DeskSpoil::HomeCount),
@@ -47,6 +49,7 @@ const NAMES: [(&str, DeskSpoil); 21] = [
     ("desk-reads-on", DeskSpoil::ReadsOn),
     ("desk-reads-less", DeskSpoil::ReadsLess),
     ("desk-refusal-on-error", DeskSpoil::RefusalOnError),
+    ("desk-silence-cause", DeskSpoil::SilenceCause),
     ("desk-reason-lost", DeskSpoil::ReasonLost),
     ("desk-status", DeskSpoil::Status),
     ("desk-talk-command", DeskSpoil::TalkCommand),
@@ -96,6 +99,7 @@ impl DeskSpoil {
             DeskSpoil::ReadsOn => seen.left = seen.left.map(|left| left.saturating_sub(1)),
             DeskSpoil::ReadsLess => seen.left = seen.left.map(|left| left + 1),
             DeskSpoil::RefusalOnError if output.starts_with(b"REFUSED") => error.append(output),
+            DeskSpoil::SilenceCause => silence_as_next_state(output),
             DeskSpoil::ReasonLost => replace(error, "No such file or directory", "not read"),
             DeskSpoil::Status => seen.status = Some(1),
             _ => {}

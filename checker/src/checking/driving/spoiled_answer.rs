@@ -28,6 +28,8 @@ pub enum Change {
     Moved(&'static str),
     /// The word that was found is a wrong one.
     OtherWord(Wrong),
+    /// A wrong answer is told as one that did not come.
+    Unheard,
 }
 
 impl Change {
@@ -57,6 +59,7 @@ impl Change {
                 more(answer, "from ")
             }
             Change::OtherWord(way) => other_word(asked, answer, way),
+            Change::Unheard => unheard(answer),
             Change::Byte(_) | Change::LentByte(_) | Change::Moved(_) => None,
         }
     }
@@ -110,6 +113,13 @@ fn more(answer: &str, words: &str) -> Option<String> {
     let (number, rest) = behind.split_at(digits.unwrap_or(behind.len()));
     let number = number.parse::<usize>().ok()? + 1;
     Some(format!("{before}{words}{number}{rest}"))
+}
+
+/// The same place and marks, without the answers.
+fn unheard(answer: &str) -> Option<String> {
+    let (told, marks) = answer.strip_prefix("wrong at ")?.split_once(" | ")?;
+    let place = told.split(' ').next()?;
+    Some(format!("unheard at {place} | {marks}"))
 }
 
 /// A wrong word in place of the one that was found.

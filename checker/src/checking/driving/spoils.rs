@@ -2,7 +2,7 @@
 
 use super::spoiled_answer::spoil_answer;
 use super::spoiled_answer::Change::{
-    self, Answer, Byte, Command, Dropped, LentByte, Middle, More, Moved, OtherWord, Words,
+    self, Answer, Byte, Command, Dropped, LentByte, Middle, More, Moved, OtherWord, Unheard, Words,
 };
 use super::spoiled_run::{answer_kept, comment_lost, count_more, newline_lost, too_long_taken};
 use crate::checking::process::Printed;
@@ -14,11 +14,16 @@ pub struct CasesSpoil(usize);
 
 /// A name, how the case begins, its numbers without needless zeros, and what
 /// becomes of the first answer to which the way applies.
-const ANSWERS: [(&str, &str, Change); 59] = [
+const ANSWERS: [(&str, &str, Change); 70] = [
     ("built-length", "build", More("built ")),
     ("built-byte", "build", Byte("built ")),
     ("byte-behind-built", "build", LentByte("built ")),
     ("build-cause", "build", Words("refused 8 ", "refused 6 ")),
+    (
+        "build-silence-cause",
+        "build",
+        Words("refused 12 ", "refused 4 "),
+    ),
     ("build-needs", "build", More("refused 9 at ")),
     ("refused-build-writes", "build", LentByte("refused ")),
     ("part-from", "part", Moved("")),
@@ -48,6 +53,16 @@ const ANSWERS: [(&str, &str, Change); 59] = [
         Answer("none", "commands -"),
     ),
     ("transfer-place", "transfer", More("refused 4 at ")),
+    (
+        "transfer-silence-cause",
+        "transfer",
+        Words("refused 12 ", "refused 4 "),
+    ),
+    (
+        "transfer-silence-taken",
+        "transfer",
+        Answer("refused 12 ", "commands -"),
+    ),
     ("desk-first-command", "desk", More("command ")),
     ("desk-home-count", "desk", More("home after ")),
     ("desk-stranger-place", "desk", More("stranger at ")),
@@ -71,6 +86,11 @@ const ANSWERS: [(&str, &str, Change); 59] = [
     ("desk-last-order", "desk", Dropped(" command")),
     ("desk-cause", "desk", Words("refused 8 ", "refused 6 ")),
     ("desk-place", "desk", More("refused 8 at ")),
+    (
+        "desk-silence-cause",
+        "desk",
+        Words("refused 12 ", "refused 4 "),
+    ),
     ("desk-taken", "desk", Answer("refused ", "command 0")),
     ("desk-refused", "desk", Answer("command ", "refused 2 at 0")),
     ("word-later", "word", OtherWord(Wrong::Later)),
@@ -85,6 +105,11 @@ const ANSWERS: [(&str, &str, Change); 59] = [
     ("word-invented", "word", Answer("none", "word 0")),
     ("word-cause", "word", Words("refused 3 ", "refused 4 ")),
     ("word-place", "word", More("refused 4 at ")),
+    (
+        "word-silence-cause",
+        "word",
+        Words("refused 12 ", "refused 4 "),
+    ),
     ("word-taken", "word", Answer("refused ", "none")),
     ("word-refused", "word", Answer("word ", "refused 2 at 0")),
     ("house-next", "house 3 2 ", More("next ")),
@@ -101,8 +126,18 @@ const ANSWERS: [(&str, &str, Change); 59] = [
     ("open-number", "certify", More("open ")),
     ("mark", "certify", Byte("open ")),
     ("byte-behind-marks", "certify", LentByte("certified ")),
+    ("certify-silence-place", "certify", More("refused 12 at ")),
     ("end-state", "judge", More(" end ")),
     ("wrong-given", "judge", More(" got ")),
+    (
+        "wrong-for-unheard",
+        "judge",
+        Words("unheard at ", "wrong at "),
+    ),
+    ("unheard-for-wrong", "judge", Unheard),
+    ("unheard-place", "judge", More("unheard at ")),
+    ("unheard-mark", "judge", Byte("unheard ")),
+    ("silence-writes", "judge", LentByte("refused 12 ")),
     ("unfinished", "judge", More("unfinished ")),
     ("not-certified", "judge", More("refused 11 at ")),
     ("refused-judge-writes", "judge", LentByte("refused 10 ")),

@@ -2,6 +2,7 @@
 
 use super::wrong::Wrong;
 use crate::checking::process::Printed;
+use crate::checking::spoil::silence_as_next_state;
 use crate::checks::load;
 use crate::lines::{refused, searched};
 use crate::reading::part;
@@ -25,11 +26,12 @@ pub enum WordSpoil {
     RecordMissed,
     RefusalOnOutput,
     RefusalLost,
+    SilenceCause,
     Status,
 }
 
 /// The names on the command line.
-const NAMES: [(&str, WordSpoil); 18] = [
+const NAMES: [(&str, WordSpoil); 19] = [
     ("word-later", WordSpoil::Wrong(Wrong::Later)),
     ("word-longer", WordSpoil::Wrong(Wrong::Longer)),
     ("word-shorter", WordSpoil::Wrong(Wrong::Shorter)),
@@ -50,6 +52,7 @@ const NAMES: [(&str, WordSpoil); 18] = [
     ("word-record-missed", WordSpoil::RecordMissed),
     ("word-refusal-on-output", WordSpoil::RefusalOnOutput),
     ("word-refusal-lost", WordSpoil::RefusalLost),
+    ("word-silence-cause", WordSpoil::SilenceCause),
     ("word-status", WordSpoil::Status),
 ];
 
@@ -79,6 +82,7 @@ impl WordSpoil {
         match self {
             WordSpoil::RefusalOnOutput => seen.output.append(&mut seen.error),
             WordSpoil::RefusalLost => seen.error.clear(),
+            WordSpoil::SilenceCause => silence_as_next_state(&mut seen.error),
             _ => {}
         }
     }
