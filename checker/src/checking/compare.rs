@@ -120,6 +120,7 @@ impl Comparer {
                 return Err(case.difference(&text));
             }
         }
+        self.silence(call, &case.sheet, room, number);
         Ok(number)
     }
 

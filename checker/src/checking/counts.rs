@@ -5,7 +5,8 @@ use super::compare::Call;
 use super::desks;
 use super::driving::Reached;
 use super::searches;
-use super::tally::Tally;
+use super::silence;
+use super::tally::{Group, Tally};
 use crate::number;
 use crate::words::{Mistake, Service, Word, NAMES};
 use std::collections::BTreeMap;
@@ -14,21 +15,37 @@ use std::fmt::Display;
 /// What a run of some thousands of sheets must have met: the classes of each
 /// function, and the refusals of `bench build` and `bench read`, 0 where there
 /// was none. Every service and mistake besides.
-const CERTIFY: [u64; 10] = [1, 2, 3, 4, 5, 6, 7, 9, 110, 111];
-const JUDGE: [u64; 13] = [1, 2, 3, 4, 5, 6, 7, 9, 10, 11, 100, 101, 102];
-const BUILD: [u64; 8] = [0, 1, 2, 3, 4, 5, 6, 8];
+const CERTIFY: [u64; 11] = [1, 2, 3, 4, 5, 6, 7, 9, 12, 110, 111];
+const JUDGE: [u64; 15] = [1, 2, 3, 4, 5, 6, 7, 9, 10, 11, 12, 100, 101, 102, 103];
+const BUILD: [u64; 9] = [0, 1, 2, 3, 4, 5, 6, 8, 12];
 const READ: [u64; 3] = [0, 1, 2];
+/// The same of the lines of `bench judge` and `bench certify`.
+const LINES: [Group; 2] = [
+    (
+        "judge",
+        "pass, wrong, unheard, unfinished, refused 1, refused 2, refused 3, refused 4, refused 5, refused 6, \
+         refused 7, refused 10, refused 11, refused 12",
+    ),
+    (
+        "certify",
+        "certified, open, refused 1, refused 2, refused 3, refused 4, refused 5, refused 6, refused 7, refused 12",
+    ),
+];
 /// Runs with fewer sheets, or without units, need not meet all of it.
 pub const ENOUGH: usize = 2000;
+/// The same for lines, and for all that is told of silence.
+pub const ENOUGH_SILENCE: usize = 20_000;
 /// The same for cases as text.
 pub const ENOUGH_CASES: usize = 100_000;
 /// The same for machines at the desk.
 pub const ENOUGH_DESKS: usize = 300;
 /// The same for sheets of `bench word`.
 pub const ENOUGH_SEARCHES: usize = 600;
-/// The names under which the program's dialogues and its searches are counted.
+/// The names under which the program's dialogues, its searches and lines, and
+/// calls of the C functions are counted.
 const DESK: &str = "bench desk";
 const PROGRAM: &str = "bench";
+const RIG: &str = "rig";
 
 /// The name under which judging without a word is counted.
 const NO_WORD: &str = "no word";
@@ -40,6 +57,7 @@ pub struct Counts {
     pub units: usize,
     pub units_passed: usize,
     pub units_wrong: usize,
+    pub units_unheard: usize,
     pub searched: usize,
     pub given_up: usize,
     pub program_runs: usize,
@@ -51,6 +69,10 @@ pub struct Counts {
     pub desks: Tally,
     /// Searches of `bench word`.
     pub words: Tally,
+    /// Lines of `bench judge` and `bench certify`.
+    pub lines: Tally,
+    /// What the C functions told of silence.
+    pub silence: Tally,
     /// Machines searched in every way, and those of them in which all words were tried.
     pub searches: usize,
     pub all_tried: usize,
@@ -126,10 +148,18 @@ impl Counts {
             ("house unit through the chain", self.chains, fixed),
             ("units that pass", self.units_passed, units),
             ("units told wrong", self.units_wrong, units),
+            ("units told unheard", self.units_unheard, units),
             ("sequences searched for all units", self.searched, units),
         ];
         let none = compared.iter().filter(|row| row.2 && row.1 == 0);
         missing.extend(none.map(|row| String::from(row.0)));
+        missing
+    }
+
+    /// The same for lines and for silence.
+    pub fn silence_missing(&self) -> Vec<String> {
+        let mut missing = self.lines.missing(PROGRAM, LINES.into_iter());
+        missing.extend(self.silence.missing(RIG, silence::groups()));
         missing
     }
 
@@ -153,8 +183,8 @@ impl Counts {
              certified {} and open {} in rig_certify\n\
              sheets of fixed lengths {}, built sequences checked {}, fast against naive {}\n\
              searches for a word compared {}, with all words {}\n\
-             {}{}{}units: tried {}, passed {}, told wrong {}; sequences searched for all units {}, \
-             given up {}",
+             {}{}{}{}{}units: tried {}, passed {}, told wrong {}, told unheard {}; \
+             sequences searched for all units {}, given up {}",
             row(&self.certify, ""),
             row(&self.judge, ""),
             row(&self.build, ""),
@@ -167,12 +197,15 @@ impl Counts {
             self.naive,
             self.searches,
             self.all_tried,
+            self.lines.summary(PROGRAM, LINES.into_iter()),
+            self.silence.summary(RIG, silence::groups()),
             self.desks.summary(DESK, desks::groups()),
             self.words.summary(PROGRAM, searches::groups()),
             self.reached.summary(),
             self.units,
             self.units_passed,
             self.units_wrong,
+            self.units_unheard,
             self.searched,
             self.given_up,
         )
@@ -196,6 +229,7 @@ fn row<T: Display>(classes: &BTreeMap<T, usize>, separator: &str) -> String {
 #[cfg(test)]
 mod tests {
     use super::*;
+    use crate::checking::tally::names;
     use crate::words::service;
 
     #[test]
@@ -204,7 +238,7 @@ mod tests {
         let classes = CERTIFY.len() + JUDGE.len() + BUILD.len() + READ.len();
         let words = 1 + NAMES.len() + Mistake::ALL.len();
         assert_eq!(counts.missing(false, true).len(), classes + words + 5);
-        assert_eq!(counts.missing(true, true).len(), classes + words + 8);
+        assert_eq!(counts.missing(true, true).len(), classes + words + 9);
         for class in CERTIFY {
             counts.called(Call::Certify, class << 40);
         }
@@ -229,6 +263,21 @@ mod tests {
         ask_everything(&mut counts);
         assert_eq!(counts.missing(false, true), left);
         assert_eq!(counts.program_runs, 3 + words);
+    }
+
+    #[test]
+    fn lines_and_silence_are_missed_until_they_occur() {
+        let mut counts = Counts::default();
+        let groups = || LINES.into_iter().chain(silence::groups());
+        let all: usize = groups().map(|(_, expected)| names(expected).count()).sum();
+        assert_eq!(counts.silence_missing().len(), all);
+        for (group, expected) in LINES {
+            names(expected).for_each(|name| counts.lines.meet(group, name));
+        }
+        for (group, expected) in silence::groups() {
+            names(expected).for_each(|name| counts.silence.meet(group, name));
+        }
+        assert!(counts.silence_missing().is_empty());
     }
 
     /// Every service and mistake once; `read` and `desk` alone are mistakes.

@@ -4,7 +4,7 @@ use super::compare::{needed_room, Comparer};
 use super::difference::{Case, Difference};
 use crate::building::build;
 use crate::known::{house, twin, TWIN_ANSWERS, TWIN_BUILT};
-use crate::machine::Machine;
+use crate::machine::{Machine, SILENCE};
 use crate::sheet::sheet_of;
 use std::path::Path;
 
@@ -38,8 +38,51 @@ fn sheets() -> Vec<Vec<u8>> {
             Some(&right),
         ));
     }
+    sheets.extend(unheard());
     sheets.extend(other_machines());
+    sheets.extend(silent_tables());
     sheets
+}
+
+/// The twin and the house unit with silence among the answers: at the first, a
+/// middle and the last place, behind a wrong answer, in an unfinished run, and
+/// at every place, as from the unit whose plug is out.
+fn unheard() -> Vec<Vec<u8>> {
+    let mut given: Vec<Vec<u8>> = Vec::new();
+    for place in [0, 3, 11] {
+        let mut answers = TWIN_ANSWERS.to_vec();
+        answers[place] = SILENCE;
+        given.push(answers);
+    }
+    given.push(vec![0, 1, 9, SILENCE]);
+    given.push(vec![0, 1, SILENCE, 9]);
+    given.push(vec![SILENCE; 12]);
+    given.push(vec![SILENCE; 13]);
+    let twin = |answers: &Vec<u8>| sheet_of(&twin(), &[0], Some(&TWIN_BUILT), Some(answers));
+    let mut sheets: Vec<Vec<u8>> = given.iter().map(twin).collect();
+    let built = build(&house(), &[0, 1]).expect("the house unit is connected");
+    let answers = vec![SILENCE; built.len()];
+    sheets.push(sheet_of(&house(), &[0, 1], Some(&built), Some(&answers)));
+    sheets
+}
+
+/// The twin with silence for one answer and for two, and with a next state
+/// outside behind it; one state, where the unit whose plug is out would pass.
+fn silent_tables() -> Vec<Vec<u8>> {
+    let (mut one, mut two, mut outside) = (twin(), twin(), twin());
+    one.answer[3] = SILENCE;
+    two.answer[1] = SILENCE;
+    two.answer[3] = SILENCE;
+    outside.answer[0] = SILENCE;
+    outside.next[3] = 2;
+    let machines = [one, two, outside];
+    let twins = machines.iter().map(|machine| {
+        let answers = machine.answers(0, &TWIN_BUILT[..1]);
+        sheet_of(machine, &[0], Some(&TWIN_BUILT), Some(&answers))
+    });
+    let single = Machine::from_pairs(1, 1, &[(0, SILENCE)]);
+    let passed = sheet_of(&single, &[0], Some(&[0; 4]), Some(&[SILENCE; 4]));
+    twins.chain([passed]).collect()
 }
 
 /// Next states out of range and not connected, one state only, the house unit.

@@ -1,7 +1,7 @@
 // Random machines and words: all sizes, small ones often; few and many
 // answers; strongly connected and not; words that separate and that do not.
 
-use crate::machine::{Machine, LONGEST_WORD, MOST_COMMANDS, MOST_STATES};
+use crate::machine::{Machine, LONGEST_WORD, MOST_COMMANDS, MOST_STATES, SILENCE};
 use crate::random::Random;
 
 /// Sizes: mostly small.
@@ -17,10 +17,15 @@ fn size(random: &mut Random) -> (usize, usize) {
     }
 }
 
-/// The answers that may occur: few, some or all bytes.
+/// Any byte that a table may specify.
+pub fn any_answer(random: &mut Random) -> u8 {
+    random.below(usize::from(SILENCE)) as u8
+}
+
+/// The answers that may occur: few, some or all.
 fn answer(random: &mut Random, variety: usize) -> u8 {
     match variety {
-        256 => random.byte(),
+        256 => any_answer(random),
         _ => (random.below(variety) * 37) as u8,
     }
 }
@@ -61,6 +66,21 @@ pub fn make_alike(random: &mut Random, machine: &mut Machine) {
     machine.answer.copy_within(entries, other * k);
 }
 
+/// Makes some answers of a table silent: one, several or all.
+pub fn make_silent(random: &mut Random, machine: &mut Machine) {
+    let entries = machine.answer.len();
+    match random.below(8) {
+        0 => machine.answer.fill(SILENCE),
+        1 => machine.answer[0] = SILENCE,
+        2 => machine.answer[entries - 1] = SILENCE,
+        _ => {
+            for _ in 0..random.range(1, 3) {
+                machine.answer[random.below(entries)] = SILENCE;
+            }
+        }
+    }
+}
+
 /// A random order of 0 to n-1.
 pub fn permutation(random: &mut Random, n: usize) -> Vec<usize> {
     let mut order: Vec<usize> = (0..n).collect();
@@ -86,13 +106,18 @@ fn word(random: &mut Random, k: usize, longest: usize) -> Vec<u8> {
     pattern.into_iter().cycle().take(length).collect()
 }
 
-/// A machine and a word for it, about one in ten of which does not separate.
+/// A machine and a word for it; about one word in ten does not separate, and
+/// about one table in twelve has silence among its answers.
 pub fn machine_and_word(random: &mut Random) -> (Machine, Vec<u8>) {
     let (n, k) = size(random);
-    if random.once_in(10) {
-        return (table(random, n, k), word(random, k, LONGEST_WORD));
+    let (mut machine, word) = match random.once_in(10) {
+        true => (table(random, n, k), word(random, k, LONGEST_WORD)),
+        false => separated(random, n, k),
+    };
+    if random.once_in(12) {
+        make_silent(random, &mut machine);
     }
-    separated(random, n, k)
+    (machine, word)
 }
 
 /// A machine of the size and a word that separates its states.

@@ -25,6 +25,7 @@ mod searches;
 mod self_check;
 mod sequences;
 mod sheets;
+mod silence;
 mod spoil;
 mod subjects;
 mod tally;

@@ -89,6 +89,8 @@ impl Comparer {
         let asked = service(words);
         self.counts.asked(words, asked);
         match asked {
+            Ok(Service::Judge) => self.counts.lines.meet("judge", &line_name(&got.output)),
+            Ok(Service::Certify) => self.counts.lines.meet("certify", &line_name(&got.output)),
             Ok(Service::Word) => self.counts.words.meet("word", &outcome(&got.error)),
             Ok(Service::Build) => self.counts.built_or_refused(refusal_number(&got.error)),
             Ok(Service::Read(_)) => self.counts.read_or_refused(refusal_number(&got.error)),
@@ -180,6 +182,17 @@ fn refusal_number(line: &[u8]) -> u64 {
         .strip_prefix("REFUSED ")
         .and_then(|rest| rest.split(' ').next());
     number.and_then(|digits| digits.parse().ok()).unwrap_or(0)
+}
+
+/// The name of a line: its first word, with the number of a refusal.
+fn line_name(line: &[u8]) -> String {
+    let text = String::from_utf8_lossy(line).to_lowercase();
+    let words: Vec<&str> = text.split_whitespace().collect();
+    match words[..] {
+        ["refused", number, ..] => format!("refused {number}"),
+        [first, ..] => String::from(first),
+        [] => String::from("none"),
+    }
 }
 
 /// The program's name and the words, each in quotes.

@@ -1,7 +1,7 @@
 // Damage to records: repeated, swapped, left out, of other kinds, with lying
 // lengths, and payloads at and beyond every limit.
 
-use crate::machine::LONGEST_SEQUENCE;
+use crate::machine::{LONGEST_SEQUENCE, SILENCE};
 use crate::random::Random;
 use crate::sheet::{lying_record, read};
 
@@ -132,13 +132,14 @@ fn resize(random: &mut Random, payload: &mut Vec<u8>, k: u8, lengths: &[usize]) 
     "payload resized"
 }
 
-/// n, k, the payload's length or next states outside limits.
+/// n, k, the payload's length or next states outside limits, silence among the
+/// answers.
 fn damage_machine(random: &mut Random, payload: &mut Vec<u8>) -> &'static str {
     if payload.len() < 4 {
         return "machine too short to damage";
     }
     let (n, k) = (payload[0], payload[1]);
-    match random.below(7) {
+    match random.below(10) {
         0 => payload[0] = *random.pick(&[0, 11, n.wrapping_add(1), n.wrapping_sub(1), 255]),
         1 => payload[1] = *random.pick(&[0, 9, k.wrapping_add(1), k.wrapping_sub(1), 255]),
         2 => {
@@ -152,10 +153,35 @@ fn damage_machine(random: &mut Random, payload: &mut Vec<u8>) -> &'static str {
             payload.truncate(length);
         }
         4 => payload.push(random.byte()),
-        _ => {
-            let entry = random.below((payload.len() - 2) / 2);
-            payload[2 + 2 * entry] = *random.pick(&[n, n, n.wrapping_add(1), 10, 255]);
-        }
+        5..=6 => next_outside(random, payload),
+        7..=8 => answer_silent(random, payload),
+        _ => both_outside(random, payload),
     }
     "machine damaged"
+}
+
+/// The place of an entry's next state in the payload.
+fn entry(random: &mut Random, payload: &[u8]) -> usize {
+    2 + 2 * random.below((payload.len() - 2) / 2)
+}
+
+fn next_outside(random: &mut Random, payload: &mut [u8]) {
+    let (n, entry) = (payload[0], entry(random, payload));
+    payload[entry] = *random.pick(&[n, n, n.wrapping_add(1), 10, 255]);
+}
+
+fn answer_silent(random: &mut Random, payload: &mut [u8]) {
+    let entry = entry(random, payload);
+    payload[entry + 1] = SILENCE;
+}
+
+/// A next state and an answer, in one entry or anywhere.
+fn both_outside(random: &mut Random, payload: &mut [u8]) {
+    if random.once_in(2) {
+        let entry = entry(random, payload);
+        payload[entry..entry + 2].fill(SILENCE);
+        return;
+    }
+    answer_silent(random, payload);
+    next_outside(random, payload);
 }

@@ -2,7 +2,7 @@
 // lengths, cases as text, the desk and searches for a word.
 
 use super::compare::Comparer;
-use super::counts::{Counts, ENOUGH, ENOUGH_CASES, ENOUGH_DESKS, ENOUGH_SEARCHES};
+use super::counts::{Counts, ENOUGH, ENOUGH_CASES, ENOUGH_DESKS, ENOUGH_SEARCHES, ENOUGH_SILENCE};
 use super::difference::{Case, Difference};
 use super::exhaustive::agreeing_units;
 use super::options::Options;
@@ -44,6 +44,9 @@ fn missing(counts: &Counts, options: &Options) -> Vec<String> {
     let mut missing = Vec::new();
     if options.count >= ENOUGH {
         missing.extend(counts.missing(options.units >= ENOUGH, fixed));
+    }
+    if options.count >= ENOUGH_SILENCE {
+        missing.extend(counts.silence_missing());
     }
     if options.cases >= ENOUGH_CASES {
         missing.extend(counts.reached.missing(fixed));

@@ -1,6 +1,7 @@
 // Sequences of every kind, and answers to them.
 
 use super::machines::commands;
+use super::silence::silent;
 use crate::building::{build, transfer};
 use crate::certifying::Certifier;
 use crate::machine::{Machine, LONGEST_SEQUENCE};
@@ -150,7 +151,7 @@ pub fn answers(
     sequence: &[u8],
 ) -> (&'static str, Option<Vec<u8>>) {
     let mut right = machine.answers(0, sequence);
-    match random.below(12) {
+    match random.below(15) {
         0 => ("no answers", None),
         1 => ("empty answers", Some(Vec::new())),
         2..=3 => {
@@ -171,6 +172,10 @@ pub fn answers(
             let more = random.range(1, 3);
             right.extend((0..more).map(|_| random.byte()));
             ("too many answers", Some(right))
+        }
+        8..=10 => {
+            let (kind, answers) = silent(random, right);
+            (kind, Some(answers))
         }
         _ => ("answers right", Some(right)),
     }

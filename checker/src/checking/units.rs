@@ -6,8 +6,8 @@ use super::difference::{Case, Difference};
 use super::isomorphism::{renaming, Unit};
 use super::machines::{permutation, table};
 use super::subjects::Subject;
-use crate::machine::Machine;
-use crate::number::{class, PASS, WRONG};
+use crate::machine::{Machine, SILENCE};
+use crate::number::{class, PASS, UNHEARD, WRONG};
 use crate::random::Random;
 use crate::sheet::sheet_of;
 use std::path::Path;
@@ -28,6 +28,10 @@ pub fn units(random: &mut Random, machine: &Machine) -> Vec<(&'static str, Unit)
             units.push(("start moved", moved(random, machine)));
         }
     }
+    for _ in 0..4 {
+        units.push(("silent entries", silent_entries(random, machine)));
+    }
+    units.push(("plug out", plug_out(random, machine)));
     for (kept, gone) in pairs(machine.n) {
         units.push(("quotient", quotient(machine, kept, gone)));
     }
@@ -39,13 +43,15 @@ fn faithful(machine: &Machine) -> Unit {
     Unit { table, start: 0 }
 }
 
-/// The machine's answers, each once, and one that it never gives, if any.
+/// The machine's answers, each once, and two that it never gives: any other, if
+/// there is one, and silence.
 fn known_answers(machine: &Machine) -> Vec<u8> {
     let mut answers = machine.answer.clone();
     answers.sort_unstable();
     answers.dedup();
-    let other = (0..=255).find(|answer| !answers.contains(answer));
+    let other = (0..SILENCE).find(|answer| !answers.contains(answer));
     answers.extend(other);
+    answers.push(SILENCE);
     answers
 }
 
@@ -104,6 +110,38 @@ pub fn random_unit(random: &mut Random, machine: &Machine) -> Unit {
     }
     let start = random.below(states);
     Unit { table, start }
+}
+
+/// The machine, with a command, a state or a few entries to which no answer
+/// comes; maybe it stands elsewhere or has another fault besides.
+pub fn silent_entries(random: &mut Random, machine: &Machine) -> Unit {
+    let mut unit = match random.below(4) {
+        0 => several_entries(random, machine),
+        1 if machine.n > 1 => moved(random, machine),
+        _ => renamed(random, machine),
+    };
+    let k = unit.table.k;
+    let (state, command) = (random.below(unit.table.n), random.below(k));
+    let chance = random.range(2, 6);
+    let way = random.below(3);
+    for (entry, answer) in unit.table.answer.iter_mut().enumerate() {
+        let silent = match way {
+            0 => entry % k == command,
+            1 => entry / k == state,
+            _ => random.once_in(chance),
+        };
+        if silent {
+            *answer = SILENCE;
+        }
+    }
+    unit
+}
+
+/// Any table of at most n states to which no answer comes at all.
+pub fn plug_out(random: &mut Random, machine: &Machine) -> Unit {
+    let mut unit = random_unit(random, machine);
+    unit.table.answer.fill(SILENCE);
+    unit
 }
 
 /// The machine under other names, the start renamed with them.
@@ -203,7 +241,8 @@ impl Comparer {
         self.counts.units += 1;
         self.counts.units_passed += usize::from(class(got) == PASS);
         self.counts.units_wrong += usize::from(class(got) == WRONG);
-        if let Err(text) = claim(subject, unit, got) {
+        self.counts.units_unheard += usize::from(class(got) == UNHEARD);
+        if let Err(text) = claim(subject, unit, &answers, got) {
             return Err(case.difference(&text));
         }
         match directory {
@@ -213,17 +252,26 @@ impl Comparer {
     }
 }
 
-/// The third demand, for one verdict: pass exactly if there is a renaming, and
-/// then the end state is assigned the unit's present state.
-fn claim(subject: &Subject, unit: &Unit, verdict: u64) -> Result<(), String> {
+/// The third demand, for one verdict on the unit's answers: pass exactly if there
+/// is a renaming, and then the end state is assigned the unit's present state.
+/// Otherwise the first answer that differs says whether it was heard.
+fn claim(subject: &Subject, unit: &Unit, answers: &[u8], verdict: u64) -> Result<(), String> {
     let end = subject.machine.after(0, &subject.sequence);
     let stands = unit.table.after(unit.start, &subject.sequence);
+    let right = subject.machine.answers(0, &subject.sequence);
+    let mut pairs = answers.iter().zip(&right);
+    let first = pairs.find(|(given, right)| given != right);
+    let told = match first {
+        None => PASS,
+        Some((&SILENCE, _)) => UNHEARD,
+        Some(_) => WRONG,
+    };
     match (class(verdict), renaming(&subject.machine, unit)) {
-        (WRONG, None) => Ok(()),
+        (WRONG | UNHEARD, None) if class(verdict) == told => Ok(()),
         (PASS, Some(image)) if image[end] == stands && verdict & 0xff == end as u64 => Ok(()),
         (_, image) => Err(format!(
-            "Judge gives {verdict:#x}; renaming by the tables: {image:?}, \
-             end state {end}, unit stands in {stands}"
+            "Judge gives {verdict:#x}; renaming by the tables: {image:?}, end state {end}, \
+             unit stands in {stands}, first other answer and right one: {first:?}"
         )),
     }
 }

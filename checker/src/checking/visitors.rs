@@ -3,13 +3,15 @@
 
 use super::isomorphism::Unit;
 use super::machines::{permutation, separated};
-use super::units::{left_out, random_unit, renamed_by};
+use super::units::{left_out, plug_out, random_unit, renamed_by, silent_entries};
 use crate::desk::{Desk, Order};
 use crate::machine::{Machine, MOST_COMMANDS, MOST_STATES};
 use crate::random::Random;
 
 /// The kinds, and the states of the sheet in which copies begin.
-pub const UNITS: &str = "renamed copy, changed answer, changed next state, fewer states, any table";
+pub const UNITS: &str =
+    "renamed copy, changed answer, changed next state, fewer states, any table, \
+     silent entries, plug out";
 pub const STATES: &str = "0, 1, 2, 3, 4, 5, 6, 7, 8, 9";
 
 pub struct Visitor {
@@ -76,6 +78,10 @@ pub fn visitors(random: &mut Random, machine: &Machine) -> Vec<Visitor> {
     }
     let unit = random_unit(random, machine);
     visitors.push(anywhere(random, "any table", unit));
+    let unit = silent_entries(random, machine);
+    visitors.push(anywhere(random, "silent entries", unit));
+    let unit = plug_out(random, machine);
+    visitors.push(anywhere(random, "plug out", unit));
     visitors
 }
 

@@ -7,7 +7,7 @@ use crate::checking::visitors::{STATES, UNITS};
 const ENDS: &str = "home with the word, home later, stranger in the word, stranger later, \
      input ended, line too long, too many lines";
 const REFUSALS: &str =
-    "refused 1, refused 2, refused 3, refused 4, refused 5, refused 6, refused 8";
+    "refused 1, refused 2, refused 3, refused 4, refused 5, refused 6, refused 8, refused 12";
 
 const GROUPS: [Group; 10] = [
     ("talks", ENDS),

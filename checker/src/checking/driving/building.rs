@@ -5,7 +5,7 @@ use super::sheets;
 use crate::building::build_into;
 use crate::checking::damage::{bytes_damaged, damaged};
 use crate::checking::difference::Difference;
-use crate::checking::machines::{permutation, separated};
+use crate::checking::machines::{any_answer, permutation, separated};
 use crate::known::{ring, LONG_WORD};
 use crate::machine::{Machine, LONGEST_SEQUENCE, MOST_COMMANDS, MOST_STATES};
 use crate::notation::{Question, MOST_BYTES};
@@ -65,7 +65,7 @@ fn large(random: &mut Random) -> (Machine, Vec<u8>) {
 fn ring_with_answers(random: &mut Random) -> Machine {
     let mut machine = ring();
     loop {
-        random.fill(&mut machine.answer);
+        machine.answer.fill_with(|| any_answer(random));
         if machine.unseparated(&LONG_WORD).is_none() {
             return machine;
         }

@@ -5,7 +5,7 @@
 use super::driver::Driver;
 use crate::checking::difference::Difference;
 use crate::known::{doubling, house, ring, LONG_WORD};
-use crate::machine::Machine;
+use crate::machine::{Machine, SILENCE};
 use crate::notation::{part, written, Reader, LENT};
 use crate::sheet::machine_payload;
 
@@ -79,7 +79,7 @@ impl Chain {
         self.expect(driver, &line, &want)
     }
 
-    /// The machine's own answers, and answers that are not.
+    /// The machine's own answers, answers that are not, and silence.
     fn judge(&self, driver: &mut Driver, sequence: &[u8]) -> Result<(), Difference> {
         let right = self.machine.answers(0, sequence);
         let last = right[self.length - 1];
@@ -87,6 +87,7 @@ impl Chain {
         let mut wrong = right.clone();
         wrong[self.length - 1] = last ^ 1;
         let fewer = &right[..self.length - 1];
+        let unheard = [fewer, &[SILENCE]].concat();
         let place = self.length - 1;
         let mut cases = vec![
             (right.clone(), format!("pass {} end {end}", self.length)),
@@ -95,6 +96,8 @@ impl Chain {
                 format!("wrong at {place} want {last} got {}", last ^ 1),
             ),
             (fewer.to_vec(), format!("unfinished {place}")),
+            (unheard, format!("unheard at {place}")),
+            (vec![SILENCE; self.length], String::from("unheard at 0")),
         ];
         cases.extend(self.faulty(sequence));
         for (answers, want) in cases {

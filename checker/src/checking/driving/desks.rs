@@ -7,6 +7,7 @@ use crate::checking::difference::Difference;
 use crate::checking::visitors::{connected, promised, received, visitors};
 use crate::desk::Desk;
 use crate::known::{ring, LONG_WORD};
+use crate::machine::SILENCE;
 use crate::notation::{written, Question, MOST_BYTES};
 use crate::random::Random;
 use crate::sheet::{machine_payload, sheet_of};
@@ -63,6 +64,7 @@ fn any_bytes(random: &mut Random, known: &[u8]) -> Vec<u8> {
     let length = random.below(30);
     let strange = random.below(4);
     let mut byte = |_| match random.below(8) < strange {
+        true if random.once_in(4) => SILENCE,
         true => random.byte(),
         false => *random.pick(known),
     };

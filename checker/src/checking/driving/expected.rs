@@ -5,10 +5,11 @@ use crate::checking::searches;
 use crate::checking::tally::Group;
 use crate::checking::visitors::{STATES, UNITS};
 
-const GROUPS: [Group; 24] = [
+const GROUPS: [Group; 25] = [
     (
         "build",
-        "built, refused 1, refused 2, refused 3, refused 4, refused 5, refused 6, refused 8, refused 9",
+        "built, refused 1, refused 2, refused 3, refused 4, refused 5, refused 6, refused 8, refused 9, \
+         refused 12",
     ),
     (
         "rooms for building",
@@ -17,12 +18,12 @@ const GROUPS: [Group; 24] = [
     (
         "certify",
         "certified, open, refused 1, refused 2, refused 3, refused 4, refused 5, refused 6, refused 7, \
-         refused 9",
+         refused 9, refused 12",
     ),
     (
         "judge",
-        "pass, wrong, unfinished, refused 1, refused 2, refused 3, refused 4, refused 5, refused 6, \
-         refused 7, refused 9, refused 10, refused 11",
+        "pass, wrong, unheard, unfinished, refused 1, refused 2, refused 3, refused 4, refused 5, \
+         refused 6, refused 7, refused 9, refused 10, refused 11, refused 12",
     ),
     ("refusal", "none, refused 1, refused 2"),
     ("refusal, kinds", KINDS),
@@ -30,16 +31,16 @@ const GROUPS: [Group; 24] = [
     ("part, kinds", KINDS),
     (
         "transfer",
-        "commands, empty, none, refused 1, refused 2, refused 3, refused 4",
+        "commands, empty, none, refused 1, refused 2, refused 3, refused 4, refused 12",
     ),
     (
         "transfer, sheets",
-        "record 1 alone, nonsense behind it, any sheet, next state outside, damaged",
+        "record 1 alone, nonsense behind it, any sheet, next state outside, answer silent, damaged",
     ),
     ("transfer, states", "both, one outside, both outside"),
     (
         "desk",
-        "orders, refused 1, refused 2, refused 3, refused 4, refused 5, refused 6, refused 8",
+        "orders, refused 1, refused 2, refused 3, refused 4, refused 5, refused 6, refused 8, refused 12",
     ),
     (
         "desk, ends",
@@ -52,6 +53,10 @@ const GROUPS: [Group; 24] = [
     (
         "desk, answers",
         "none, too few, as many as needed, more",
+    ),
+    (
+        "desk, first silence",
+        "in the word, behind the word, behind the end",
     ),
     ("desk, units", UNITS),
     ("desk, any bytes", "asked"),

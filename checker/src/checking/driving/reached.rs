@@ -4,6 +4,7 @@ use super::expected::{groups, KINDS};
 use crate::checking::searches::{meet_asked, Asked};
 use crate::checking::tally::{names, Tally};
 use crate::desk::{Desk, Order};
+use crate::machine::SILENCE;
 use crate::notation::{lines, part, Line, Question, Reader, Unreadable, MOST_INPUT};
 
 /// The name of what comes from the program.
@@ -59,6 +60,16 @@ impl Reached {
         );
         if needed.is_some_and(|needed| needed < answers.len()) {
             self.meet("desk, ends repeated", ending(&desk, end));
+        }
+        if let Some(place) = answers.iter().position(|&it| it == SILENCE) {
+            self.meet(
+                "desk, first silence",
+                match needed {
+                    Some(needed) if place >= needed => "behind the end",
+                    _ if place >= desk.word.len() => "behind the word",
+                    _ => "in the word",
+                },
+            );
         }
     }
 

@@ -1,7 +1,7 @@
 // Sheets for the program's cases.
 
 use crate::checking::damage::{bytes_damaged, damaged};
-use crate::checking::machines::{machine_and_word, make_alike, separated};
+use crate::checking::machines::{machine_and_word, make_alike, make_silent, separated};
 use crate::checking::sheets::case;
 use crate::machine::Machine;
 use crate::random::Random;
@@ -55,11 +55,12 @@ pub fn building(random: &mut Random) -> Vec<u8> {
 pub fn maybe_refused(random: &mut Random) -> Vec<u8> {
     let names = &mut String::new();
     let sound = building(random);
-    match random.below(7) {
+    match random.below(8) {
         0..=1 => sound,
         2 => bytes_damaged(random, &sound, names),
         3 => alike(random),
         4 => outside(random),
+        5 => silent(random),
         _ => damaged(random, &sound, names),
     }
 }
@@ -70,6 +71,16 @@ fn alike(random: &mut Random) -> Vec<u8> {
     let (n, k) = (random.range(2, 6), random.range(1, 3));
     let (mut machine, word) = separated(random, n, k);
     make_alike(random, &mut machine);
+    for_building(random, &machine, &word)
+}
+
+/// Silence in the table, and maybe a command of the word that there is not.
+fn silent(random: &mut Random) -> Vec<u8> {
+    let (mut machine, mut word) = small(random);
+    make_silent(random, &mut machine);
+    if random.once_in(3) {
+        word.push(machine.k as u8);
+    }
     for_building(random, &machine, &word)
 }
 

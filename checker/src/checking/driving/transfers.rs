@@ -6,6 +6,7 @@ use crate::checking::damage::damaged;
 use crate::checking::difference::Difference;
 use crate::checking::machines::machine_and_word;
 use crate::checks::load;
+use crate::machine::SILENCE;
 use crate::notation::Question;
 use crate::random::Random;
 use crate::sheet::{machine_payload, record, HEADER};
@@ -37,7 +38,8 @@ pub fn transfers(driver: &mut Driver, random: &mut Random) -> Result<(), Differe
 fn sheet(random: &mut Random) -> (&'static str, Vec<u8>) {
     let (machine, _) = machine_and_word(random);
     let mut sheet = record(1, &machine_payload(&machine));
-    match random.below(6) {
+    let entry = HEADER + 2 + 2 * random.below(machine.next.len());
+    match random.below(7) {
         0 => ("record 1 alone", sheet),
         1 => {
             for kind in 2..=random.range(2, 4) as u16 {
@@ -47,9 +49,12 @@ fn sheet(random: &mut Random) -> (&'static str, Vec<u8>) {
         }
         2 => ("any sheet", sheets::any(random)),
         3 => {
-            let entry = random.below(machine.next.len());
-            sheet[HEADER + 2 + 2 * entry] = random.range(machine.n, 255) as u8;
+            sheet[entry] = random.range(machine.n, 255) as u8;
             ("next state outside", sheet)
+        }
+        4 => {
+            sheet[entry + 1] = SILENCE;
+            ("answer silent", sheet)
         }
         _ => ("damaged", damaged(random, &sheet, &mut String::new())),
     }

@@ -6,7 +6,7 @@ use crate::checking::tally::Group;
 
 /// What a search may give.
 const OUTCOMES: &str = "word of 1, word of 2, word of 3, word of 4, word of 5, word of 6, none, \
-     refused 1, refused 2, refused 3, refused 4";
+     refused 1, refused 2, refused 3, refused 4, refused 12";
 /// What stands behind the machine.
 const RECORDS: &str =
     "nothing, a word that separates, a word that does not separate, no word, any records";

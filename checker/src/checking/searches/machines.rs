@@ -1,7 +1,7 @@
 // Machines for the search of a word: with words of every length and with none,
 // with states that meet and with commands by which no two states meet.
 
-use crate::checking::machines::{make_alike, permutation, table};
+use crate::checking::machines::{any_answer, make_alike, permutation, table};
 use crate::checking::tally::names;
 use crate::machine::{Machine, MOST_COMMANDS, MOST_STATES};
 use crate::random::Random;
@@ -39,7 +39,7 @@ pub fn searched(random: &mut Random) -> Searched {
         "permutations and two states alike" => twins(random, n.max(3), k),
         "permutations and equal answers" => {
             let mut machine = permutations(random, n.max(2), k);
-            machine.answer.fill(random.byte());
+            machine.answer.fill(any_answer(random));
             machine
         }
         "two states alike" => {

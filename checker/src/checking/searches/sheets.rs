@@ -5,7 +5,7 @@ use super::machines::{searched, Searched};
 use crate::checking::damage::{bytes_damaged, damaged};
 use crate::checking::driving::nonsense;
 use crate::checking::machines::commands;
-use crate::machine::Machine;
+use crate::machine::{Machine, SILENCE};
 use crate::random::Random;
 use crate::searching::by_halves;
 use crate::sheet::{machine_payload, record, HEADER};
@@ -64,10 +64,14 @@ pub fn maybe_refused(random: &mut Random) -> Vec<u8> {
         ..
     } = asked(random);
     let names = &mut String::new();
-    match random.below(6) {
+    let entry = HEADER + 2 + 2 * random.below(searched.machine.next.len());
+    match random.below(7) {
         0 => {
-            let entry = random.below(searched.machine.next.len());
-            sheet[HEADER + 2 + 2 * entry] = random.range(searched.machine.n, 255) as u8;
+            sheet[entry] = random.range(searched.machine.n, 255) as u8;
+            sheet
+        }
+        3 => {
+            sheet[entry + 1] = SILENCE;
             sheet
         }
         1 => bytes_damaged(random, &sheet, names),
