@@ -1,6 +1,6 @@
 // The machines of the workloads: the one of the longest built sequence, and random ones.
 
-use checker::machine::Machine;
+use checker::machine::{Machine, SILENCE};
 use checker::random::Random;
 
 /// The machine whose built sequence is as long as any: its last command leads to the next state,
@@ -20,9 +20,13 @@ pub fn separated(n: usize, k: usize, length: usize, random: &mut Random) -> (Mac
 }
 
 /// A random machine, strongly connected, whose states the word separates. Longer words get few
-/// different answers, so that all of the word counts.
+/// different answers, so that all of the word counts; none is silence, which is refused.
 pub fn separated_by(word: &[u8], n: usize, k: usize, random: &mut Random) -> Machine {
-    let answers = if word.len() < 3 { 256 } else { 3 };
+    let answers = if word.len() < 3 {
+        usize::from(SILENCE)
+    } else {
+        3
+    };
     loop {
         let mut pair = |_| (random.below(n) as u8, random.below(answers) as u8);
         let pairs: Vec<(u8, u8)> = (0..n * k).map(&mut pair).collect();
