@@ -121,6 +121,8 @@ HOUSE = Machine([
     [(2, 31), (2, 21), (2, 21), (0, 6)],
     [(3, 2), (3, 21), (3, 21), (1, 6)],
 ])
+# Stands where no answer came, and is no answer that a table may have.
+SILENCE = 255
 # The last command leads to the next state, all others stay: the longest sequence that there is.
 RING = Machine([[((8 * s + c + 1) // 8 % 10, (8 * s + c) % 9) for c in range(8)] for s in range(10)])
 RING_WORD = list(range(8)) * 2
@@ -160,9 +162,16 @@ def unit(name, m, word):
     put(f"{name}-refused", sheet(*front, xs, ys + [0]), "judge", f"REFUSED 10 at {start4} answers")
 
 
+def unheard(name, m, word, ys, place):
+    """ys are the answers to the built sequence, the first that did not come at this place."""
+    put(f"{name}-unheard", sheet(m.payload(), bytes(word), build(m, word), ys), "judge", f"UNHEARD at {place}")
+
+
 unit("twin", TWIN, [0])
 row("read 3", "twin-built", listed(build(TWIN, [0])))
 row("read 4", "twin-refused", listed(TWIN.answers(0, build(TWIN, [0])) + [0]))
+unheard("twin", TWIN, [0], TWIN.answers(0, build(TWIN, [0]))[:3] + [SILENCE], 3)
+row("read 4", "twin-unheard", "0 1 0 255")
 for kind in "3", "0", "7", "65535":
     row(f"read {kind}", "twin", f"REFUSED 2 at {len(sheet(TWIN.payload(), [0]))} record kind")
 put("twin-word", sheet(TWIN.payload(), [1], [0], []), "judge", "REFUSED 6 at 1 word does not separate")
@@ -173,9 +182,16 @@ put("twin-open", sheet(TWIN.payload(), [0], [0, 0, 1, 0, 1, 0], []), "certify", 
 row("judge", "twin-open", "REFUSED 11 at 2 not certified")
 DISCONNECTED = Machine([[(1, 0), (0, 5)], [(1, 1), (1, 5)]])  # entry (1, 0) leads to 1
 put("twin-split", sheet(DISCONNECTED.payload(), [0]), "build", "REFUSED 8 at 1 not connected")
+SILENT = Machine([[(1, 0), (0, SILENCE)], [(0, 1), (1, SILENCE)]])  # command 1 is specified to have no answer
+xs = build(TWIN, [0])
+put("twin-silent", sheet(SILENT.payload(), [0], xs, SILENT.answers(0, xs)), "judge", "REFUSED 12 at 11")
+for service in "certify", "build":
+    row(service, "twin-silent", "REFUSED 12 at 11")
+row("read 1", "twin-silent", listed(SILENT.payload()))
 put("twin-cut", sheet(TWIN.payload(), [0])[:-1], "certify", "REFUSED 1 at 16 sheet cut or too long")
 row("read 1", "twin-cut", "REFUSED 1 at 16 sheet cut or too long")
 unit("house", HOUSE, [0, 1])
+unheard("house", HOUSE, [0, 1], [SILENCE] * len(build(HOUSE, [0, 1])), 0)  # its plug is out
 row("house", "none", "house")
 ring = build(RING, RING_WORD)
 put("longest", sheet(RING.payload(), RING_WORD, ring, RING.answers(0, ring)), "judge", f"PASS {len(ring)} end {RING.run(0, ring)}")
