@@ -139,7 +139,7 @@ fn damage_machine(random: &mut Random, payload: &mut Vec<u8>) -> &'static str {
         return "machine too short to damage";
     }
     let (n, k) = (payload[0], payload[1]);
-    match random.below(10) {
+    match random.below(11) {
         0 => payload[0] = *random.pick(&[0, 11, n.wrapping_add(1), n.wrapping_sub(1), 255]),
         1 => payload[1] = *random.pick(&[0, 9, k.wrapping_add(1), k.wrapping_sub(1), 255]),
         2 => {
@@ -148,13 +148,13 @@ fn damage_machine(random: &mut Random, payload: &mut Vec<u8>) -> &'static str {
             let entries = usize::from(payload[0]) * usize::from(payload[1]);
             payload.resize(2 + 2 * entries, 0);
         }
-        3 => {
+        3..=4 => {
             let length = payload.len() - random.range(1, 2);
             payload.truncate(length);
         }
-        4 => payload.push(random.byte()),
-        5..=6 => next_outside(random, payload),
-        7..=8 => answer_silent(random, payload),
+        5..=6 => payload.push(random.byte()),
+        7..=8 => next_outside(random, payload),
+        9 => answer_silent(random, payload),
         _ => both_outside(random, payload),
     }
     "machine damaged"

@@ -55,7 +55,7 @@ pub fn building(random: &mut Random) -> Vec<u8> {
 pub fn maybe_refused(random: &mut Random) -> Vec<u8> {
     let names = &mut String::new();
     let sound = building(random);
-    match random.below(8) {
+    match random.below(9) {
         0..=1 => sound,
         2 => bytes_damaged(random, &sound, names),
         3 => alike(random),
