@@ -22,7 +22,7 @@
  *     100  pass           place: N;  b: the end state
  *     101  wrong          place: that of the first wrong answer;  a: the answer that was specified;  b: that was given
  *     102  unfinished     place: the number of answers, which are right but fewer than N
- *     103  unheard        place: that of the first answer that is not the specified one; it is 255, so none came
+ *     103  unheard        place: that of the first answer that is not the specified one, and 255: no answer came there
  * Classes of both: refusals. The first cause that is present counts; place: the refusal's place (section 4.2)
  *       1  sheet cut or too long         2  record kind           3  machine shape       4  next state
  *       5  word                          6  word does not separate                       7  sequence

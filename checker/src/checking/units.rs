@@ -254,7 +254,7 @@ impl Comparer {
 
 /// The third demand, for one verdict on the unit's answers: pass exactly if there
 /// is a renaming, and then the end state is assigned the unit's present state.
-/// Otherwise the first answer that differs says whether it was heard.
+/// Otherwise wrong or unheard, by the first answer that differs.
 fn claim(subject: &Subject, unit: &Unit, answers: &[u8], verdict: u64) -> Result<(), String> {
     let end = subject.machine.after(0, &subject.sequence);
     let stands = unit.table.after(unit.start, &subject.sequence);
