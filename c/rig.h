@@ -22,14 +22,14 @@
  *     100  pass           place: N;  b: the end state
  *     101  wrong          place: that of the first wrong answer;  a: the answer that was specified;  b: that was given
  *     102  unfinished     place: the number of answers, which are right but fewer than N
- *     103  unheard        place: that of the first answer that is not the specified one, and 255: no answer came there
+ *     103  unheard        place: that of the first answer that is not the specified one, where it is 255: none came
  * Classes of both: refusals. The first cause that is present counts; place: the refusal's place (section 4.2)
  *       1  sheet cut or too long         2  record kind           3  machine shape       4  next state
  *       5  word                          6  word does not separate                       7  sequence
  *       8  is building's and does not occur
  *       9  room: place is the number of bytes that the marks need, N + 1
  *      10  answers, rig_judge only      11  not certified, rig_judge only: place is the open number
- *      12  an answer of the table is 255, checked straight after 4: place is the offset of the first such byte
+ *      12  an answer of the table is 255, checked between 4 and 5: place is the offset of the first such byte
  * Later versions may add refusals below 100 and results above. Only 100 is a pass, and only 110 is certified.
  *
  * What 100 means is proved: a unit that gave the answers in record 4, and is as section 9.1 says, is the sheet's machine

@@ -4,9 +4,9 @@ ghost use Rattle.judge.specs.Judging.{valuesOf};
 use sheet::Values;
 use sheet::refusal_values;
 
-// Pass with the number of commands and the end state; wrong with the place of the first wrong
-// answer, what was specified there and what was given; unheard with that place, where no answer
-// came; unfinished with the number of answers; refused with number and place.
+// Pass with the number of commands and the end state; wrong with the place of the first answer that
+// is not the specified one, what was specified there and what was given; unheard with that place
+// where no answer came there; unfinished with the number of answers; refused with number and place.
 pub enum Answer {
     Pass {
         size: usize,

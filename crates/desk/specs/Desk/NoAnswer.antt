@@ -1,29 +1,53 @@
--- The byte for no answer at the desk (§13.1): a byte like any other there, and no state gives it. Where it is among the
--- answers to the word the unit is a stranger, and where home is told it is not among the answers to the course.
+-- The byte for no answer at the desk (§13.1): a byte like any other there, and on a sheet that starting does not refuse
+-- no state gives it. Where it is among the answers to the word the unit is a stranger, and where home is told it is not
+-- among the answers to the course.
 use Prim.Native.Nat.{ℕ, _-_, _≤_, _<_}
 use mathlib.Core.Path.{_≡_, refl, sym, ap, _∙_}
 use mathlib.Core.List.{List}
 use lib.ListN.{length, getD}
 use lib.Seq.{getD-take}
-use Rattle.facts.specs.Lists.{low-append}
-use Rattle.machine.specs.Machine.{Mealy, noAnswer, AlwaysAnswers}
+use Rattle.facts.specs.Lists.{Below, low-append}
+use Rattle.sheet.specs.declared.check.Check.the-variants.{Clear}
+use Rattle.sheet.specs.Check.{firstCause}
+use Rattle.sheet.specs.Reader.{content}
+use Rattle.machine.specs.Machine.{Mealy, noAnswer, answers}
 use Rattle.machine.specs.Machine.Laws.{answers-always}
+use Rattle.machine.specs.Causes.{machineIn}
+use Rattle.machine.specs.Causes.Lists.{load-answers}
+use Rattle.build.specs.Building.{buildNeeds, connectedCauses}
+use Rattle.build.specs.Building.Connection.{clear-load}
 use Rattle.desk.specs.declared.desk.Order.the-variants.{Home, Stranger}
 use Rattle.desk.specs.Desk.{Ordered, home, strange, no-state, orderOf}
-use Rattle.desk.specs.Desk.Agreement.{Suited, ordered-order}
+use Rattle.desk.specs.Desk.Agreement.{Suited, clear-suited, ordered-order}
 
-module _ (M : Mealy) (w : List ℕ) (suited : Suited M w) (always : AlwaysAnswers M) (ys : List ℕ) where
-  -- among the answers to the word: stranger, told with the last of them
-  pub word-unheard : length w ≤ length ys → (i : ℕ) → i < length w → getD ys i 0 ≡ noAnswer
-      → orderOf M w ys ≡ Stranger (length w - 1)
-  word-unheard l i il q =
-      sym (ordered-order M w suited ys (strange (no-state l refl (λ s sl e.
-      answers-always M (suited .proper) always s w sl (suited .word .commands .low) i il
-      (ap (λ (x : List ℕ). getD x i 0) e ∙ getD-take (length w) ys i 0 il ∙ q)))))
+module _ (s : List ℕ) (clear : firstCause (connectedCauses s) ≡ Clear) where
+  abbrev M : Mealy
+  M = machineIn s
 
-  -- where home is told, it is not among the answers to the course
-  pub home-heard : {n : ℕ} → Ordered M w ys (Home n) → (i : ℕ) → i < n → getD ys i 0 ≡ noAnswer → ⊥
-  home-heard (home s xs c l r e) i il q =
-      answers-always M (suited .proper) always s xs (c .state)
-      (rw (c .commands) (low-append (M .k) w (c .homeward) (suited .word .commands .low) (c .drives .is .has .commands)))
-      i (rw (← e) il) (r i (rw (← e) il) ∙ q)
+  abbrev word : List ℕ
+  word = content 2 s
+
+  abbrev suited : Suited M word
+  suited = clear-suited s clear
+
+  -- no state gives it to any commands
+  pub state-answers : (b : ℕ) (xs : List ℕ) → b < M .n → Below (M .k) xs → (i : ℕ) → i < length xs
+      → getD (answers M b xs) i 0 ≡ noAnswer → ⊥
+  state-answers = answers-always M (suited .proper) (load-answers buildNeeds s (clear-load s clear))
+
+  module _ (ys : List ℕ) where
+    -- among the answers to the word: stranger, told with the last of them
+    pub word-unheard : length word ≤ length ys → (i : ℕ) → i < length word → getD ys i 0 ≡ noAnswer
+        → orderOf M word ys ≡ Stranger (length word - 1)
+    word-unheard l i il q =
+        sym (ordered-order M word suited ys (strange (no-state l refl (λ b bl e.
+        state-answers b word bl (suited .word .commands .low) i il
+        (ap (λ (x : List ℕ). getD x i 0) e ∙ getD-take (length word) ys i 0 il ∙ q)))))
+
+    -- where home is told, it is not among the answers to the course
+    pub home-heard : {n : ℕ} → Ordered M word ys (Home n) → (i : ℕ) → i < n → getD ys i 0 ≡ noAnswer → ⊥
+    home-heard (home b xs c l r e) i il q =
+        state-answers b xs (c .state)
+        (rw (c .commands) (low-append (M .k) word (c .homeward) (suited .word .commands .low)
+        (c .drives .is .has .commands)))
+        i (rw (← e) il) (r i (rw (← e) il) ∙ q)
