@@ -23,8 +23,8 @@ use Rattle.machine.specs.Causes.{outside, cause3, byteCause, cause5, com
 use Rattle.machine.specs.Causes.{tableCauses, machineCauses, wordCauses, loadCauses}
 use Rattle.machine.specs.Causes.Laws.{cause4-is, cause12-is, commands-cause-is}
 use Rattle.machine.specs.Causes.Lists.{table-causes-are, machine-causes-are, word-causes-are, word-causes-none}
-use Rattle.machine.specs.Causes.Lists.{load-causes-are}
-use Rattle.machine.specs.Causes.Lists.{clear-machine, kind-reads, held-is, load-proper, word-distinguishes}
+use Rattle.machine.specs.Causes.Lists.{load-causes-are, clear-machine, kind-reads, held-is, load-proper}
+use Rattle.machine.specs.Causes.Lists.{word-distinguishes}
 use Rattle.machine.specs.declared.loading.Loaded.{Loaded}
 use Rattle.machine.specs.Loading.{LoadedFrom}
 

@@ -105,8 +105,7 @@ unfolding building disconnectedSheet refusal_with_if_ _else_ firstCause first re
     causeAt parseStep parseFrom parse parsed ofKind _or_ find sheetCauses when needed refusalOf recordOf part partBytes
     content machineOf run answers cause3 cause4 cause12 commandsCause cause6 machineIn tableCauses machineCauses
     wordCauses loadCauses cause9 guard orElse firstOf firstString firstPath transfer following T nthState firstBlocks
-    opening
-    approach test stateTests tests sequence cause8 connectedCauses buildCauses
+    opening approach test stateTests tests sequence cause8 connectedCauses buildCauses
 disconnected-building room = refl
 
 -- ---- the sequence of one state and one command

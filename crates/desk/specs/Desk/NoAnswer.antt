@@ -1,6 +1,6 @@
 -- The byte for no answer at the desk (§13.1): a byte like any other there, and on a sheet that starting does not refuse
--- no state gives it. Where it is among the answers to the word the unit is a stranger, and where home is told it is not
--- among the answers to the course.
+-- no state gives it. So it makes the unit a stranger: among the answers to the word, and as the first answer to the
+-- transfer that is not right.
 use Prim.Native.Nat.{ℕ, _-_, _≤_, _<_}
 use mathlib.Core.Path.{_≡_, refl, sym, ap, _∙_}
 use mathlib.Core.List.{List}
@@ -16,8 +16,8 @@ use Rattle.machine.specs.Causes.{machineIn}
 use Rattle.machine.specs.Causes.Lists.{load-answers}
 use Rattle.build.specs.Building.{buildNeeds, connectedCauses}
 use Rattle.build.specs.Building.Connection.{clear-load}
-use Rattle.desk.specs.declared.desk.Order.the-variants.{Home, Stranger}
-use Rattle.desk.specs.Desk.{Ordered, home, strange, no-state, orderOf}
+use Rattle.desk.specs.declared.desk.Order.the-variants.{Stranger}
+use Rattle.desk.specs.Desk.{Course, RightFrom, strange, no-state, differing, orderOf}
 use Rattle.desk.specs.Desk.Agreement.{Suited, clear-suited, ordered-order}
 
 module _ (s : List ℕ) (clear : firstCause (connectedCauses s) ≡ Clear) where
@@ -44,10 +44,12 @@ module _ (s : List ℕ) (clear : firstCause (connectedCauses s) ≡ Clear) where
         state-answers b word bl (suited .word .commands .low) i il
         (ap (λ (x : List ℕ). getD x i 0) e ∙ getD-take (length word) ys i 0 il ∙ q)))))
 
-    -- where home is told, it is not among the answers to the course
-    pub home-heard : {n : ℕ} → Ordered M word ys (Home n) → (i : ℕ) → i < n → getD ys i 0 ≡ noAnswer → ⊥
-    home-heard (home b xs c l r e) i il q =
-        state-answers b xs (c .state)
-        (rw (c .commands) (low-append (M .k) word (c .homeward) (suited .word .commands .low)
-        (c .drives .is .has .commands)))
-        i (rw (← e) il) (r i (rw (← e) il) ∙ q)
+    -- as the first answer to the transfer that is not right: stranger, told with this answer
+    pub course-unheard : (b : ℕ) (xs : List ℕ) → Course M word b xs → (i : ℕ) → length word ≤ i → i < length ys
+        → i < length xs → RightFrom M b xs ys i → getD ys i 0 ≡ noAnswer → orderOf M word ys ≡ Stranger i
+    course-unheard b xs c i l yl xl r q =
+        let low : Below (M .k) xs =
+        rw (c .commands) (low-append (M .k) word (c .homeward) (suited .word .commands .low)
+        (c .drives .is .has .commands)) in
+        sym (ordered-order M word suited ys (strange (differing b xs c l yl xl r (λ e.
+        state-answers b xs (c .state) low i xl (e ∙ q)))))

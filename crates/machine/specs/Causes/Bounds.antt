@@ -32,23 +32,28 @@ module _ (s : List ℕ) (short : length s ≤ longest) where
       place-cause Small 3 (recordOf 1 s .start) _
       (λ t. record { number = omega arith; place = omega (arith, record-inside 1 s) })
 
-  -- an offset in the payload
-  payload-small : (number i : ℕ) → number < 100 → i < length (content 1 s) → Small number (offset (recordOf 1 s) i)
-  payload-small number i low l = record { number = low; place = omega (arith, offset-inside 1 s i l) }
+  -- an offset in a payload
+  offset-small : (number kind i : ℕ) → number < 100 → i < length (content kind s)
+      → Small number (offset (recordOf kind s) i)
+  offset-small number kind i low l = record { number = low; place = omega (arith, offset-inside kind s i l) }
+
+  -- a cause at the first or the second byte of a pair
+  pairs-small : Shape (content 1 s) → (number : ℕ) → number < 100 → (at : ℕ → ℕ) → ((e : ℕ) → at e ≤ pairAt e + 1)
+      → (test : ℕ → Bool)
+      → WhereRefused Small (first (getD (content 1 s) 0 0 * getD (content 1 s) 1 0)
+      (λ e. refusal number with offset (recordOf 1 s) (at e) if test e))
+  pairs-small h number low at inside test =
+      place-first Small (getD (content 1 s) 0 0 * getD (content 1 s) 1 0) _
+      (λ e l. place-cause Small number (offset (recordOf 1 s) (at e)) (test e)
+      (λ t. offset-small number 1 (at e) low (omega (arith, h .long, inside e))))
 
   cause4-small : Shape (content 1 s) → WhereRefused Small (cause4 (recordOf 1 s) (content 1 s))
   unfolding cause4
-  cause4-small h =
-      place-first Small (getD (content 1 s) 0 0 * getD (content 1 s) 1 0) _
-      (λ e l. place-cause Small 4 (offset (recordOf 1 s) (pairAt e)) _
-      (λ t. payload-small 4 (pairAt e) (omega arith) (omega (arith, h .long))))
+  cause4-small h = pairs-small h 4 (omega arith) pairAt (λ e. omega arith) _
 
   cause12-small : Shape (content 1 s) → WhereRefused Small (cause12 (recordOf 1 s) (content 1 s))
   unfolding cause12
-  cause12-small h =
-      place-first Small (getD (content 1 s) 0 0 * getD (content 1 s) 1 0) _
-      (λ e l. place-cause Small 12 (offset (recordOf 1 s) (pairAt e + 1)) _
-      (λ t. payload-small 12 (pairAt e + 1) (omega arith) (omega (arith, h .long))))
+  cause12-small h = pairs-small h 12 (omega arith) (λ e. pairAt e + 1) (λ e. omega arith) _
 
   table-small : WhereRefused Small (firstCause (tableCauses (recordOf 1 s) (content 1 s)))
   table-small =
@@ -70,8 +75,7 @@ module _ (s : List ℕ) (short : length s ≤ longest) where
       (place-cause Small number (recordOf kind s .start) _
       (λ t. record { number = low; place = omega (arith, record-inside kind s) }))
       (λ q. place-first Small (length (content kind s)) _
-      (λ i l. place-cause Small number (offset (recordOf kind s) i) _
-      (λ t. record { number = low; place = omega (arith, offset-inside kind s i l) })))
+      (λ i l. place-cause Small number (offset (recordOf kind s) i) _ (λ t. offset-small number kind i low l)))
 
 -- 16i+j of two states
 cause6-small : (M : Mealy) (w : List ℕ) → M .n ≤ mostStates → WhereRefused Small (cause6 M w)

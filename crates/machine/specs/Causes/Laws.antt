@@ -109,22 +109,28 @@ clear-shape r p e =
 pub shape-entries : (p : List ℕ) → Shape p → getD p 0 0 * getD p 1 0 ≤ mostEntries
 shape-entries p h = entries-few (getD p 0 0) (getD p 1 0) (h .few-states) (h .few-commands)
 
+-- a cause that the pairs of a table are looked through for: where it is clear, its test fails at every entry
+entry-absent : (n k number : ℕ) (place : ℕ → ℕ) (test : ℕ → Bool)
+    → first (n * k) (λ e. refusal number with place e if test e) ≡ Clear → (s c : ℕ) → s < n → c < k
+    → test (s * k + c) ≡ false
+entry-absent n k number place test e s c sl cl =
+    clear-absent number (place (s * k + c)) _
+    (first-clear-at (n * k) (s * k + c) _ e (digits-lt {q = s} {m = n} {r = c} {c = k} sl cl))
+
 pub clear-next : (r : Record) (p : List ℕ) → cause4 r p ≡ Clear → (s c : ℕ) → s < getD p 0 0 → c < getD p 1 0
     → getD p (pairAt (s * getD p 1 0 + c)) 0 < getD p 0 0
 unfolding cause4
 clear-next r p e s c sl cl =
-    let i = s * getD p 1 0 + c in
-    leb-false _ _ (clear-absent 4 (offset r (pairAt i)) _
-    (first-clear-at _ i _ e (digits-lt {q = s} {m = getD p 0 0} {r = c} {c = getD p 1 0} sl cl)))
+    leb-false _ _ (entry-absent (getD p 0 0) (getD p 1 0) 4 (λ i. offset r (pairAt i))
+    (λ i. leb (getD p 0 0) (getD p (pairAt i) 0)) e s c sl cl)
 
 -- no answer of the table is the byte for no answer
 pub clear-answers : (r : Record) (p : List ℕ) → cause12 r p ≡ Clear → (s c : ℕ) → s < getD p 0 0 → c < getD p 1 0
     → getD p (pairAt (s * getD p 1 0 + c) + 1) 0 ≡ noAnswer → ⊥
 unfolding cause12
 clear-answers r p e s c sl cl =
-    let i = s * getD p 1 0 + c in
-    eqb-false _ _ (clear-absent 12 (offset r (pairAt i + 1)) _
-    (first-clear-at _ i _ e (digits-lt {q = s} {m = getD p 0 0} {r = c} {c = getD p 1 0} sl cl)))
+    eqb-false _ _ (entry-absent (getD p 0 0) (getD p 1 0) 12 (λ i. offset r (pairAt i + 1))
+    (λ i. eqb (getD p (pairAt i + 1) 0) noAnswer) e s c sl cl)
 
 -- the commands of a word or a sequence
 pub clear-commands : (number most k : ℕ) (r : Record) (w : List ℕ) → commandsCause number most k r w ≡ Clear
