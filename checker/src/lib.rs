@@ -20,6 +20,7 @@ pub mod reading;
 pub mod recognition;
 pub mod refusal;
 pub mod rig;
+pub mod rom;
 pub mod searching;
 pub mod sheet;
 pub mod words;

@@ -1,5 +1,7 @@
 // The house control unit, which ships inside the program.
+ghost use Prim.Native.Nat.{_≤_, _<_};
 ghost use mathlib.Core.Path.{_≡_};
+ghost use lib.ListN.{getD};
 ghost use Rattle.machine.specs.House.{houseEntry, housePayload};
 
 // An entry of a machine's table.
@@ -8,10 +10,33 @@ pub struct Entry {
     pub answer: u8,
 }
 
-// Next states and answers, four commands a state.
-const NEXT: [u8; 16] = [0, 1, 2, 0, 1, 0, 3, 1, 2, 2, 2, 0, 3, 3, 3, 1];
+// A packed entry is its next state times this, plus its answer.
+const RADIX: u8 = 64;
 
-const ANSWER: [u8; 16] = [31, 6, 6, 21, 2, 6, 6, 21, 31, 21, 21, 6, 2, 21, 21, 6];
+// The packed entries, four commands a state. In octal, the first digit is the next state and the
+// other two are the answer.
+const PACKED: [u8; 16] = [
+    // preview waiting
+    0o037,
+    0o106,
+    0o206,
+    0o025,
+    // archive waiting
+    0o102,
+    0o006,
+    0o306,
+    0o125,
+    // preview running
+    0o237,
+    0o225,
+    0o225,
+    0o006,
+    // archive running
+    0o302,
+    0o325,
+    0o325,
+    0o106,
+];
 
 // The entry of a state and a command; next state 255 and answer 0 above 3.
 pub fn house_entry(state: u8, command: u8) -> Entry
@@ -29,10 +54,10 @@ pub fn house_entry(state: u8, command: u8) -> Entry
             answer: 0,
         };
     }
-    let at = state as usize * 4 + command as usize;
+    let packed = PACKED[state as usize * 4 + command as usize];
     Entry {
-        next: NEXT[at],
-        answer: ANSWER[at],
+        next: packed / RADIX,
+        answer: packed % RADIX,
     }
 }
 
@@ -42,21 +67,33 @@ pub const HOUSE_PAYLOAD: usize = 34;
 // The house unit's word.
 pub const HOUSE_WORD: [u8; 2] = [0, 1];
 
+// A byte of the house unit's machine record behind n and k: the next state or the answer of an entry.
+fn table_byte(at: u8) -> u8
+    requires { ⌜ 2 ≤ at ⌝ }
+    requires { ⌜ at < 34 ⌝ }
+    ensures { λ r. ⌜ r ≡ getD housePayload at 0 ⌝ }
+{
+    let e = (at - 2) / 2;
+    let entry = house_entry(e / 4, e % 4);
+    if at % 2 == 0 {
+        return entry.next;
+    }
+    entry.answer
+}
+
 // The payload of the house unit's machine record: n, k, then its entries, all commands of state 0
-// first.
+// first. It is made byte by byte, since the compiler would compute a loop over the sixteen entries,
+// and the program would hold the record as it comes out, unpacked.
 pub fn house_payload() -> [u8; HOUSE_PAYLOAD]
     ensures { λ r. ⌜ r ≡ housePayload ⌝ }
 {
     let mut payload = [0u8; HOUSE_PAYLOAD];
     payload[0] = 4;
     payload[1] = 4;
-    let mut e: u8 = 0;
-    while e < 16 {
-        let entry = house_entry(e / 4, e % 4);
-        let at = 2 + 2 * (e as usize);
-        payload[at] = entry.next;
-        payload[at + 1] = entry.answer;
-        e += 1;
+    let mut at: usize = 2;
+    while at < HOUSE_PAYLOAD {
+        payload[at] = table_byte(at as u8);
+        at += 1;
     }
     payload
 }

@@ -1,0 +1,125 @@
+// A copy of a program that is changed, run and restored.
+
+use super::questions::{Question, Shown};
+use super::Place;
+use std::fs::{self, OpenOptions, Permissions};
+use std::io::{self, Read, Seek, SeekFrom, Write};
+use std::os::unix::fs::PermissionsExt;
+use std::path::PathBuf;
+use std::process::{Command, Stdio};
+
+/// The ways in which a byte is changed.
+const CHANGES: [u8; 3] = [0xff, 1, 2];
+/// As much of what a changed program writes is read.
+const READ: u64 = 16_384;
+/// Seconds after which a run is ended.
+const LIMIT: &str = "2";
+
+/// The copy stands in a directory of its own, in which it is run.
+pub struct Copy {
+    directory: PathBuf,
+    bytes: Vec<u8>,
+    question: Question,
+}
+
+impl Copy {
+    /// Fails where the program, as it is, does not give the specified entries.
+    pub fn new(bytes: Vec<u8>, question: Question) -> io::Result<Copy> {
+        let name = format!("rom-{}-{question:?}", std::process::id());
+        let directory = std::env::temp_dir().join(name);
+        fs::create_dir(&directory)?;
+        let copy = Copy {
+            directory,
+            bytes,
+            question,
+        };
+        fs::write(copy.path(), &copy.bytes)?;
+        fs::set_permissions(copy.path(), Permissions::from_mode(0o700))?;
+        match copy.run()? {
+            Shown::Specified => Ok(copy),
+            _ => Err(io::Error::other("the entries are not the specified ones")),
+        }
+    }
+
+    fn path(&self) -> PathBuf {
+        self.directory.join("program")
+    }
+
+    /// The bytes of a place on which the entries depend.
+    pub fn deciding(&self, place: &Place) -> io::Result<Vec<Place>> {
+        let all = place.offset..place.offset + place.length;
+        let mut found = Vec::new();
+        if self.changed(place.offset, place.length, CHANGES[0])? == Shown::Specified {
+            return Ok(found);
+        }
+        for offset in all {
+            if self.decides(offset)? {
+                found.push(Place {
+                    offset,
+                    length: 1,
+                    instruction: place.instruction.clone(),
+                });
+            }
+        }
+        Ok(found)
+    }
+
+    /// Whether entries are shown whichever way the byte is changed, and not always the specified.
+    fn decides(&self, offset: usize) -> io::Result<bool> {
+        let mut other = false;
+        for change in CHANGES {
+            match self.changed(offset, 1, change)? {
+                Shown::Nothing => return Ok(false),
+                Shown::Other => other = true,
+                Shown::Specified => {}
+            }
+        }
+        Ok(other)
+    }
+
+    /// What the program shows with these bytes changed.
+    fn changed(&self, offset: usize, length: usize, change: u8) -> io::Result<Shown> {
+        let before = &self.bytes[offset..offset + length];
+        let after: Vec<u8> = before.iter().map(|byte| byte ^ change).collect();
+        self.write(offset, &after)?;
+        let shown = self.run()?;
+        self.write(offset, before)?;
+        Ok(shown)
+    }
+
+    fn write(&self, offset: usize, bytes: &[u8]) -> io::Result<()> {
+        let mut file = OpenOptions::new().write(true).open(self.path())?;
+        file.seek(SeekFrom::Start(offset as u64))?;
+        file.write_all(bytes)
+    }
+
+    fn run(&self) -> io::Result<Shown> {
+        let mut child = Command::new("timeout")
+            .args(["-s", "KILL", LIMIT])
+            .arg(self.path())
+            .args(self.question.words())
+            .current_dir(&self.directory)
+            .stdin(Stdio::piped())
+            .stdout(Stdio::piped())
+            .stderr(Stdio::null())
+            .spawn()?;
+        if let Some(mut input) = child.stdin.take() {
+            // a changed program may end before it has read this
+            let _ = input.write_all(self.question.input().as_bytes());
+        }
+        let mut output = Vec::new();
+        if let Some(from) = child.stdout.take() {
+            from.take(READ).read_to_end(&mut output)?;
+        }
+        if !child.wait()?.success() {
+            return Ok(Shown::Nothing);
+        }
+        Ok(self.question.shown(&output))
+    }
+}
+
+impl Drop for Copy {
+    fn drop(&mut self) {
+        let _ = fs::remove_dir_all(&self.directory);
+    }
+}
