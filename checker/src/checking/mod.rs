@@ -16,7 +16,7 @@ mod kinds;
 mod lengths;
 mod machines;
 mod options;
-mod process;
+pub(crate) mod process;
 mod program;
 mod readings;
 mod records;

@@ -96,10 +96,20 @@ pub fn on_pipe(
     limit: Duration,
     open: bool,
 ) -> io::Result<Printed> {
+    piped(&mut command(program, words), input, limit, open)
+}
+
+/// The same, of a command that was made before.
+pub fn piped(
+    command: &mut Command,
+    input: &[u8],
+    limit: Duration,
+    open: bool,
+) -> io::Result<Printed> {
     let (mut reader, mut writer) = io::pipe()?;
     writer.write_all(input)?;
     let kept = open.then_some(writer);
-    let mut child = command(program, words).stdin(reader.try_clone()?).spawn()?;
+    let mut child = command.stdin(reader.try_clone()?).spawn()?;
     wait(&mut child, limit)?;
     drop(kept);
     let mut left = Vec::new();

@@ -14,7 +14,7 @@ pub use questions::Question;
 
 use std::io;
 use std::path::Path;
-use trials::Copy;
+use trials::Trials;
 
 /// Bytes of a program that are changed: data, or the constant of an instruction.
 #[derive(Clone, Debug, PartialEq, Eq)]
@@ -45,10 +45,10 @@ pub fn measure(program: &Path, question: Question) -> io::Result<Vec<Place>> {
 
 /// Those of some places, of a program with these bytes.
 pub fn deciding(bytes: Vec<u8>, places: &[Place], question: Question) -> io::Result<Vec<Place>> {
-    let copy = Copy::new(bytes, question)?;
+    let trials = Trials::new(bytes, question)?;
     let mut found = Vec::new();
     for place in places {
-        found.extend(copy.deciding(place)?);
+        found.extend(trials.deciding(place)?);
     }
     Ok(widened(found))
 }

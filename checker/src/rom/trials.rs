@@ -2,41 +2,40 @@
 
 use super::questions::{Question, Shown};
 use super::Place;
+use crate::checking::process::{command, piped};
 use std::fs::{self, OpenOptions, Permissions};
-use std::io::{self, Read, Seek, SeekFrom, Write};
+use std::io::{self, ErrorKind, Seek, SeekFrom, Write};
 use std::os::unix::fs::PermissionsExt;
 use std::path::PathBuf;
-use std::process::{Command, Stdio};
+use std::time::Duration;
 
 /// The ways in which a byte is changed.
 const CHANGES: [u8; 3] = [0xff, 1, 2];
-/// As much of what a changed program writes is read.
-const READ: u64 = 16_384;
-/// Seconds after which a run is ended.
-const LIMIT: &str = "2";
+/// A run that takes longer is ended.
+const LIMIT: Duration = Duration::from_secs(1);
 
 /// The copy stands in a directory of its own, in which it is run.
-pub struct Copy {
+pub struct Trials {
     directory: PathBuf,
     bytes: Vec<u8>,
     question: Question,
 }
 
-impl Copy {
+impl Trials {
     /// Fails where the program, as it is, does not give the specified entries.
-    pub fn new(bytes: Vec<u8>, question: Question) -> io::Result<Copy> {
+    pub fn new(bytes: Vec<u8>, question: Question) -> io::Result<Trials> {
         let name = format!("rom-{}-{question:?}", std::process::id());
         let directory = std::env::temp_dir().join(name);
         fs::create_dir(&directory)?;
-        let copy = Copy {
+        let trials = Trials {
             directory,
             bytes,
             question,
         };
-        fs::write(copy.path(), &copy.bytes)?;
-        fs::set_permissions(copy.path(), Permissions::from_mode(0o700))?;
-        match copy.run()? {
-            Shown::Specified => Ok(copy),
+        fs::write(trials.path(), &trials.bytes)?;
+        fs::set_permissions(trials.path(), Permissions::from_mode(0o700))?;
+        match trials.run()? {
+            Shown::Specified => Ok(trials),
             _ => Err(io::Error::other("the entries are not the specified ones")),
         }
     }
@@ -94,31 +93,29 @@ impl Copy {
     }
 
     fn run(&self) -> io::Result<Shown> {
-        let mut child = Command::new("timeout")
-            .args(["-s", "KILL", LIMIT])
-            .arg(self.path())
-            .args(self.question.words())
-            .current_dir(&self.directory)
-            .stdin(Stdio::piped())
-            .stdout(Stdio::piped())
-            .stderr(Stdio::null())
-            .spawn()?;
-        if let Some(mut input) = child.stdin.take() {
-            // a changed program may end before it has read this
-            let _ = input.write_all(self.question.input().as_bytes());
+        let words: Vec<_> = self
+            .question
+            .words()
+            .iter()
+            .map(|word| word.as_bytes().to_vec())
+            .collect();
+        let mut command = command(&self.path(), &words);
+        let input = self.question.input();
+        match piped(
+            command.current_dir(&self.directory),
+            input.as_bytes(),
+            LIMIT,
+            false,
+        ) {
+            Ok(printed) if printed.status == Some(0) => Ok(self.question.shown(&printed.output)),
+            Ok(_) => Ok(Shown::Nothing),
+            Err(error) if error.kind() == ErrorKind::TimedOut => Ok(Shown::Nothing),
+            Err(error) => Err(error),
         }
-        let mut output = Vec::new();
-        if let Some(from) = child.stdout.take() {
-            from.take(READ).read_to_end(&mut output)?;
-        }
-        if !child.wait()?.success() {
-            return Ok(Shown::Nothing);
-        }
-        Ok(self.question.shown(&output))
     }
 }
 
-impl Drop for Copy {
+impl Drop for Trials {
     fn drop(&mut self) {
         let _ = fs::remove_dir_all(&self.directory);
     }
