@@ -16,6 +16,8 @@ use Rattle.bench.specs.declared.words.Service.the-variants.{Wrong, OnShe
 use Rattle.bench.specs.declared.words.SheetService.the-variants.{Judge}
 use Rattle.bench.specs.Words.{mostArgument, unlessUnfit, services, foundOr, named, counted, serviceOf}
 use Rattle.bench.specs.Words.{behindFirst, wordsOf}
+use Rattle.facts.specs.Tests.{true-or-false}
+use mathlib.Core.Logic.{inl, inr}
 
 -- ---- one word
 module _ (w : List ℕ) (service : Service) where
@@ -35,11 +37,10 @@ module _ (w : List ℕ) (service : Service) where
 -- what comparing two words tells
 told-same : (r : Bool) (a b : List ℕ) → (r ≡ true → a ≡ b) × (a ≡ b → r ≡ true) → same a b ≡ r
 told-same true a b h = ap (same a) (sym (h .0 refl)) ∙ same-refl a
-told-same false a b h = go (same a b) refl
-  where
-    go : (t : Bool) → same a b ≡ t → same a b ≡ false
-    go false e = e
-    go true e = let z : false ≡ true = h .1 (same-equal a b e) in sym (cc)
+told-same false a b h = elim (true-or-false (same a b)) [
+  | inl e ↦ (let z : false ≡ true = h .1 (same-equal a b e) in sym (cc))
+  | inr e ↦ e
+]
 
 module _ (w name : List ℕ) (behind : ℕ) (service : Service) (other : Lookup) {r : Bool}
     (h : (r ≡ true → w ≡ name) × (w ≡ name → r ≡ true)) where

@@ -14,7 +14,7 @@ use Rattle.sheet.specs.declared.check.Check.the-variants.{Clear, Refused}
 use Rattle.sheet.specs.Check.{refusal_with_if_, firstCause}
 use Rattle.sheet.specs.Check.Laws.{clear-absent}
 use Rattle.sheet.specs.Values.Laws.{returns-specified}
-use Rattle.sheet.specs.Reader.{content}
+use Rattle.sheet.specs.Reader.{wordIn}
 use Rattle.sheet.specs.Writing.{written}
 use Rattle.machine.specs.Limits.{mostWord}
 use Rattle.machine.specs.declared.loading.Loaded.{Loaded}
@@ -49,7 +49,7 @@ module _ (s before : List ℕ) (l : Loaded) (h : ConnectedFrom s l) where
   pub early-refused : {a b : ℕ} → l .check ≡ Refused a b → Builds s before before (RefusedAnswer a b)
   early-refused e = refused-builds s before (refused-early (length before) s (sym (h .check) ∙ e)) refl
 
-  module _ (clear : l .check ≡ Clear) (w : List ℕ) (we : w ≡ content 2 s) where
+  module _ (clear : l .check ≡ Clear) (w : List ℕ) (we : w ≡ wordIn s) where
     connected : firstCause (connectedCauses s) ≡ Clear
     connected = sym (h .check) ∙ clear
 
@@ -62,12 +62,12 @@ module _ (s before : List ℕ) (l : Loaded) (h : ConnectedFrom s l) where
     commands : Commands mostWord (meaning (l .machine) .k) w
     commands = rw (machine-is, we) (clear-distinguishes s connected .commands)
 
-    sequence-same : sequence (meaning (l .machine)) w ≡ sequence (machineIn s) (content 2 s)
+    sequence-same : sequence (meaning (l .machine)) w ≡ sequence (machineIn s) (wordIn s)
     sequence-same = ap₂ sequence machine-is we
 
     -- all that writing needs
     pub write-required : (rows : List ℕ)
-        → Filled (meaning (l .machine)) (content 2 s) (meaning (l .machine) .n) rows
+        → Filled (meaning (l .machine)) (wordIn s) (meaning (l .machine) .n) rows
         → WriteRequires (meaning (l .machine)) w rows
     write-required rows f = record {
       blocks =
@@ -80,7 +80,7 @@ module _ (s before : List ℕ) (l : Loaded) (h : ConnectedFrom s l) where
     -- cause 9, of the length that writing into an empty part tells, after which the buffer is as it was
     module _ {size : ℕ} (size-is : size ≡ 0 + length (sequence (meaning (l .machine)) w)) {middle : List ℕ}
         (me : middle ≡ before) {nine : Check} (ne : nine ≡ (refusal 9 with size if ltb (length middle) size)) where
-      size-same : size ≡ length (sequence (machineIn s) (content 2 s))
+      size-same : size ≡ length (sequence (machineIn s) (wordIn s))
       size-same =
           let z : size ≡ length (sequence (meaning (l .machine)) w) = omega arith in
           z ∙ ap length sequence-same

@@ -9,7 +9,7 @@ use native.Mathlib.Omega.{arith}
 use native.Mathlib.Numerals.{add-one}
 use native.Mathlib.Nat.{sub-zero}
 use lib.ListN.{length, getD, set, take, length-set}
-use lib.Seq.{take-suc-set}
+use Rattle.facts.specs.Lists.{take-stored}
 use Rattle.facts.specs.FirstOf.{some-none, guard, guard-true, guard-false}
 use Rattle.machine.specs.Machine.{Mealy, tabled}
 use Rattle.machine.specs.Machine.Laws.{tabled-states, tabled-commands, tabled-cells}
@@ -46,7 +46,7 @@ module _ {next : List ℕ} {k : ℕ} {distance : List ℕ} {from m : ℕ} where
         few = omega arith;
         long = length-set commands i c ∙ h .long;
         goes = λ xs d.
-            rw (add-one, take-suc-set commands i c inside, append-assoc)
+            rw (take-stored commands i c inside, append-assoc)
             (h .goes (c ∷ xs) (rw (← more) (down f (rw (lower, cell) at d))));
       }
 

@@ -26,13 +26,6 @@ use Rattle.build.specs.Writing.{mostApproach, mostTest, mostStateTests, 
 use Rattle.build.specs.Writing.{BlockRequires, PartRequires}
 use Rattle.build.proofs.Writes.{writes-none, writes-append}
 
--- a number that the program has by another name
-pub below : {a b d : ℕ} → b ≡ d → a < b → a < d
-below e l = omega arith
-
-pub not-below : {a b d : ℕ} → b ≡ d → b ≤ a → d ≤ a
-not-below e l = omega arith
-
 -- two parts, the second from the state that the first leads to
 moves-append : {M : Mealy} {before middle after : List ℕ} {at state : ℕ} {q r : Position} (xs : List ℕ) (f : ℕ → List ℕ)
     → Moves M before at state xs middle q → Moves M middle (q .at) (q .state) (f (q .state)) after r

@@ -4,14 +4,16 @@ use Prim.Native.Nat.{ℕ, suc, _+_, _*_, _-_, _≤_, _<_}
 use mathlib.Core.Path.{_≡_, refl, sym, ap, _∙_}
 use mathlib.Core.List.{List, []}
 use mathlib.Core.Option.{none}
-use mathlib.Core.Logic.{⊎-elim}
+use mathlib.Core.Logic.{inl, inr}
 use native.Mathlib.Omega.{arith}
 use native.Mathlib.Numerals.{add-one}
 use lib.ListN.{length, getD, set, replicate, length-set, length-replicate, getD-replicate}
-use lib.Seq.{getD-set-same, getD-set-other}
+use lib.Seq.{getD-set-other}
 use borrow.Author.Count.{below-more}
-use Rattle.facts.specs.Numbers.{equal-or-not, less-or-not}
-use Rattle.facts.specs.FirstOf.{Seen, nothing, value, seen}
+use Rattle.facts.specs.Bytes.{Bytes}
+use Rattle.facts.specs.Lists.{set-cell, set-more}
+use Rattle.facts.specs.Numbers.{less-or-not}
+use Rattle.facts.specs.FirstOf.{nothing, value, seen}
 use Rattle.machine.specs.Machine.{Mealy, tabled}
 use Rattle.machine.specs.Machine.Laws.{tabled-states, tabled-commands, tabled-cells}
 use Rattle.build.specs.Transfer.{firstPath}
@@ -47,10 +49,10 @@ module _ {next : List ℕ} {n k : ℕ} {before : List ℕ} {d : ℕ} where
 
   same-at : {distance : List ℕ} {s : ℕ} → d + 1 < unreached → Widening next n k before d distance s → (x : ℕ)
       → (getD distance x 0 ≡ d → getD before x 0 ≡ d) × (getD before x 0 ≡ d → getD distance x 0 ≡ d)
-  same-at {distance} {s} l h x =
-      ⊎-elim (λ (k : x < s). widened-same l (h .done x k))
-      (λ (k : s ≤ x). (λ q. omega (arith, h .later x k), λ q. omega (arith, h .later x k)))
-      (less-or-not x s)
+  same-at {distance} {s} l h x = elim (less-or-not x s) [
+    | inl k ↦ widened-same l (h .done x k)
+    | inr k ↦ (λ q. omega (arith, h .later x k), λ q. omega (arith, h .later x k))
+  ]
 
   -- so a state's distance after the round does not depend on what the round did with other states
   widened-before : {distance : List ℕ} {s w : ℕ} → d + 1 < unreached → Widening next n k before d distance s
@@ -73,35 +75,28 @@ module _ {next : List ℕ} {n k : ℕ} {before : List ℕ} {d : ℕ} where
       record {
         few = omega arith;
         long = length-set distance s w ∙ h .long;
-        done =
-            below-more (λ x. Widened next k before d x (getD (set distance s w) x 0)) s
-            (λ x q. rw (getD-set-other distance s x w 0 (λ y. omega arith)) (h .done x q))
-            (rw (getD-set-same distance s w 0 inside) (widened-before l h e));
+        done = set-more (Widened next k before d) distance s w inside (h .done) (widened-before l h e);
         later = λ x xl. getD-set-other distance s x w 0 (λ y. omega arith) ∙ h .later x (omega arith);
       }
 
 -- ---- what a round is for
 module _ (M : Mealy) (b d : ℕ) (few : M .n ≤ 255) (small : d + 1 < unreached) (next : List ℕ)
-    (cells : (s c : ℕ) → M .next s c ≡ getD next (s * M .k + c) 0) (bytes : (i : ℕ) → getD next i 0 < 256)
+    (cells : (s c : ℕ) → M .next s c ≡ getD next (s * M .k + c) 0) (bytes : Bytes next)
     {distance : List ℕ} (table : Distances M b d distance) where
   -- no path of d + 1 commands leads from a state that is still unreached
   still-none : (s : ℕ) → s < M .n → ((m : ℕ) → m ≤ d → firstPath M b m s ≡ none)
       → ((c : ℕ) → c < M .k → getD distance (getD next (s * M .k + c) 0) 0 ≡ d → ⊥) → firstPath M b (suc d) s ≡ none
-  still-none s sl lacks h = none-path M b d s (λ c cl. go c cl (seen (firstPath M b d (M .next s c))))
-    where
-      go : (c : ℕ) → c < M .k → Seen (firstPath M b d (M .next s c)) → firstPath M b d (M .next s c) ≡ none
-      go c cl (nothing e) = e
-      go c cl (value t e) =
-          absurd (h c cl (ap (λ (x : ℕ). getD distance x 0) (sym (cells s c))
-          ∙ exact M b d few table d s c (omega arith) sl cl lacks e))
+  still-none s sl lacks h = none-path M b d s (λ c cl. elim (seen (firstPath M b d (M .next s c))) [
+    | nothing e ↦ e
+    | value t e ↦ absurd (h c cl (rw (← cells s c) (exact M b d few table d s c (omega arith) sl cl lacks e)))
+  ])
 
   -- a state has its distance after the round
   widened-distance : (s : ℕ) → s < M .n → {w : ℕ} → Widened next (M .k) distance d s w → Distance M b (d + 1) s w
-  widened-distance s sl {w} (Widened.kept o e) = rw e (go (table .at s (omega arith)))
-    where
-      go : Distance M b d s (getD distance s 0) → Distance M b (d + 1) s (getD distance s 0)
-      go (Distance.near t l p q) = Distance.near t (omega arith) p q
-      go (Distance.beyond z h) = absurd (o z)
+  widened-distance s sl {w} (Widened.kept o e) = rw e (elim (table .at s (omega arith)) [
+    | Distance.near t l p q ↦ Distance.near t (omega arith) p q
+    | Distance.beyond z h ↦ absurd (o z)
+  ])
   widened-distance s sl {w} (Widened.reached c cl z e we) =
       let lacks = unreached-none M b d (table .at s (omega arith)) z (omega arith) in
       let near =
@@ -125,16 +120,16 @@ module _ (M : Mealy) (b d : ℕ) (few : M .n ≤ 255) (small : d + 1 < unreached
       → Distances M b (d + 1) after
   round-distances {after} {s} h l = record {
     long = h .long;
-    at = λ x xl.
-        ⊎-elim (λ (q : x < M .n). widened-distance x q (h .done x (omega arith)))
-        (λ (q : M .n ≤ x). rw (h .later x (omega (arith, h .few)))
-        (outside-distance x (getD distance x 0) q (table .at x xl)))
-        (less-or-not x (M .n));
+    at = λ x xl. elim (less-or-not x (M .n)) [
+      | inl q ↦ widened-distance x q (h .done x (omega arith))
+      | inr q ↦ rw (h .later x (omega (arith, h .few)))
+          (outside-distance x (getD distance x 0) q (table .at x xl))
+    ];
   }
 
 -- the same, of the machine of a table
 pub widening-all : {next : List ℕ} {n k : ℕ} {before : List ℕ} {d : ℕ} {distance : List ℕ} {s : ℕ} → n ≤ 255
-    → d + 1 < unreached → ((i : ℕ) → getD next i 0 < 256) → Widening next n k before d distance s → n ≤ s
+    → d + 1 < unreached → Bytes next → Widening next n k before d distance s → n ≤ s
     → (start to : ℕ) (answer : List ℕ) → Distances (tabled n k start next answer) to d before
     → Distances (tabled n k start next answer) to (d + 1) distance
 widening-all {next} {n} {k} {before} {d} {distance} {s} few small bytes h l start to answer table =
@@ -147,11 +142,12 @@ widening-all {next} {n} {k} {before} {d} {distance} {s} few small bytes h l star
 module _ (M : Mealy) (b : ℕ) where
   -- from what is not b, or where b is no state, no path of no command leads to b
   away : (s : ℕ) → (s < M .n → s ≡ b → ⊥) → (m : ℕ) → m ≤ 0 → firstPath M b m s ≡ none
-  away s o m ml = let z : m ≡ 0 = omega arith in rw z (go (seen (firstPath M b 0 s)))
-    where
-      go : Seen (firstPath M b 0 s) → firstPath M b 0 s ≡ none
-      go (nothing e) = e
-      go (value t e) = let p = path-zero M b s e in absurd (o (p .0) (p .1))
+  away s o m ml =
+      let z : m ≡ 0 = omega arith in
+      rw z (elim (seen (firstPath M b 0 s)) [
+        | nothing e ↦ e
+        | value t e ↦ (let p = path-zero M b s e in absurd (o (p .0) (p .1)))
+      ])
 
   -- the state b is at distance 0 from itself, and the others are unreached
   first-state : b < M .n → M .n ≤ 255 → Distances M b 0 (set (replicate 256 unreached) b 0)
@@ -161,12 +157,10 @@ module _ (M : Mealy) (b : ℕ) where
       let inside : b < length l = omega arith in
       record {
         long = length-set l b 0 ∙ long;
-        at = λ s sl.
-            ⊎-elim (λ (q : s ≡ b). rw (q, getD-set-same l b 0 0 inside)
-            (Distance.near [] (omega arith) (path-here M b b refl k) (λ m y. let z : ⊥ = omega arith in absurd z)))
-            (λ (o : s ≡ b → ⊥). Distance.beyond (getD-set-other l b s 0 0 o ∙ getD-replicate 256 s unreached 0 sl)
-            (away s (λ _ q. o q)))
-            (equal-or-not s b);
+        at =
+            set-cell (λ s x. s < 256 → Distance M b 0 s x) l b 0 inside
+            (λ s o sl. Distance.beyond (getD-replicate 256 s unreached 0 sl) (away s (λ _ q. o q)))
+            (λ _. Distance.near [] (omega arith) (path-here M b b refl k) (λ m y. let z : ⊥ = omega arith in absurd z));
       }
 
   -- where b is no state all are unreached

@@ -6,7 +6,7 @@ use mathlib.Core.List.{List}
 use Rattle.sheet.specs.declared.check.Check.{Check}
 use Rattle.sheet.specs.declared.check.Check.the-variants.{Clear, Refused}
 use Rattle.sheet.specs.Check.Laws.{clear-refused, else-clear, else-refused}
-use Rattle.sheet.specs.Reader.{content}
+use Rattle.sheet.specs.Reader.{wordIn}
 use Rattle.machine.specs.declared.loading.Loaded.{Loaded}
 use Rattle.machine.specs.Machine.{meaning, Proper}
 use Rattle.machine.specs.Loading.{LoadedFrom}
@@ -29,7 +29,7 @@ module _ (s : List ℕ) (l : Loaded) (h : LoadedFrom buildNeeds s l) where
     proper = rw (h .machine clear) (h .proper clear)
 
     -- none of them: cause 8 decides
-    pub eight-connected : {w : List ℕ} → w ≡ content 2 s → {c : Check} → c ≡ cause8 (meaning (l .machine)) w
+    pub eight-connected : {w : List ℕ} → w ≡ wordIn s → {c : Check} → c ≡ cause8 (meaning (l .machine)) w
         → ConnectedFrom s (record { check = c; machine = l .machine })
     eight-connected {w} we {c} ce = record {
       check =

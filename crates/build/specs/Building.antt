@@ -14,7 +14,7 @@ use Rattle.sheet.specs.declared.check.Values.{Values}
 use Rattle.sheet.specs.declared.reader.Needs.{Needs}
 use Rattle.sheet.specs.Check.{refusal_with_if_, firstCause, first, refusedOr, unlessRefused}
 use Rattle.sheet.specs.Values.{refusalValues, Returns}
-use Rattle.sheet.specs.Reader.{recordOf, content}
+use Rattle.sheet.specs.Reader.{wordIn, wordRecord}
 use Rattle.sheet.specs.Writing.{written}
 use Rattle.machine.specs.Machine.{Mealy, Separates}
 use Rattle.machine.specs.Causes.{cause5, machineIn, machineCauses, loadCauses}
@@ -44,23 +44,23 @@ cause8 M w = first (M .n) (λ s. refusal 8 with s if noTransfer (B M w s))
 
 -- the causes of loading, then 8 (§4.1), of a service that needs a separating word and transfers
 unfoldable pub connectedCauses : List ℕ → List Check
-connectedCauses s = loadCauses buildNeeds s ++ (cause8 (machineIn s) (content 2 s) ∷ [])
+connectedCauses s = loadCauses buildNeeds s ++ (cause8 (machineIn s) (wordIn s) ∷ [])
 
 -- the causes of building in order (§4.1): these, then 9, for which the length of the sequence is needed
 unfoldable pub buildCauses : ℕ → List ℕ → List Check
-buildCauses room s = connectedCauses s ++ (cause9 room (length (sequence (machineIn s) (content 2 s))) ∷ [])
+buildCauses room s = connectedCauses s ++ (cause9 room (length (sequence (machineIn s) (wordIn s))) ∷ [])
 
 -- ---- the service
 -- what building answers to a sheet and a room: the length of the sequence (§6.4), or a refusal
 unfoldable pub building : ℕ → List ℕ → Answer
 building room s =
-    refusedOr RefusedAnswer (firstCause (buildCauses room s)) (Built (length (sequence (machineIn s) (content 2 s))))
+    refusedOr RefusedAnswer (firstCause (buildCauses room s)) (Built (length (sequence (machineIn s) (wordIn s))))
 
 -- the lent buffer after building: it begins with the sequence (§6.4); on a refusal it is as before (§4.3)
 unfoldable pub bufferAfter : List ℕ → List ℕ → List ℕ
 bufferAfter s buffer =
     unlessRefused (firstCause (buildCauses (length buffer) s))
-    (written (sequence (machineIn s) (content 2 s)) buffer) buffer
+    (written (sequence (machineIn s) (wordIn s)) buffer) buffer
 
 -- number and values of each answer: the length, for which §8.3 has no class, or a refusal's
 abbrev pub valuesOf : Answer → Values ⊎ ℕ
@@ -82,7 +82,7 @@ StronglyConnected M = (a b : ℕ) → a < M .n → b < M .n → (u : List ℕ) �
 -- connected, and there is room. It succeeds exactly then: built-buildable and buildable-built, in Building.Service
 pub record Buildable (room : ℕ) (s : List ℕ) : Type 0 where
   pub machine : firstCause (machineCauses buildNeeds s) ≡ Clear
-  pub word : cause5 (machineIn s .k) (recordOf 2 s) (content 2 s) ≡ Clear
-  pub separates : Separates (machineIn s) (content 2 s)
+  pub word : cause5 (machineIn s .k) (wordRecord s) (wordIn s) ≡ Clear
+  pub separates : Separates (machineIn s) (wordIn s)
   pub connected : StronglyConnected (machineIn s)
-  pub fits : length (sequence (machineIn s) (content 2 s)) ≤ room
+  pub fits : length (sequence (machineIn s) (wordIn s)) ≤ room

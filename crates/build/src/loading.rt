@@ -2,7 +2,7 @@
 ghost use mathlib.Core.Path.{_≡_};
 ghost use lib.ListN.{length};
 ghost use Rattle.sheet.specs.declared.check.Check.the-variants.{Clear};
-ghost use Rattle.sheet.specs.Reader.{content};
+ghost use Rattle.sheet.specs.Reader.{wordIn};
 ghost use Rattle.machine.specs.Machine.{meaning};
 ghost use Rattle.build.specs.Table.{tableSize, Filled};
 ghost use Rattle.build.specs.Loading.{ConnectedFrom};
@@ -21,7 +21,7 @@ pub fn load_table(sheet: &[u8], rows: &mut [u8]) -> Loaded
     ensures { λ r. ⌜ ConnectedFrom (now (sheet .entry)) r ⌝ }
     ensures { λ r. ⌜
         (r .check ≡ Clear
-        → Filled (meaning (r .machine)) (content 2 (now (sheet .entry))) (meaning (r .machine) .n)
+        → Filled (meaning (r .machine)) (wordIn (now (sheet .entry))) (meaning (r .machine) .n)
         (now (rows .exit))) ⌝ }
 {
     let needs = Needs {

@@ -10,7 +10,7 @@ use Rattle.facts.specs.Numbers.{digits-one}
 use Rattle.sheet.specs.declared.check.Check.{Check}
 use Rattle.sheet.specs.declared.check.Check.the-variants.{Clear, Refused}
 use Rattle.sheet.specs.Check.{firstCause}
-use Rattle.sheet.specs.Reader.{content}
+use Rattle.sheet.specs.Reader.{wordIn, sequenceIn}
 use Rattle.machine.specs.Limits.{mostSequence, mostEntries}
 use Rattle.machine.specs.declared.machine.Machine.{Machine}
 use Rattle.machine.specs.Machine.{Mealy, meaning, Proper, Commands}
@@ -100,8 +100,8 @@ certifies-refused s before ce e =
     (sym (after-refused s before (sym ce ∙ e)))
 
 pub certifies-clear : (s before : List ℕ) {c : Check} {M : Mealy} {w xs after ms : List ℕ} {a : Answer}
-    → c ≡ firstCause (certifyCauses (length before) s) → c ≡ Clear → M ≡ machineIn s → w ≡ content 2 s
-    → xs ≡ content 3 s → a ≡ outcome M w xs → ms ≡ marks M w xs → after ≡ ms ++ drop (length xs + 1) before
+    → c ≡ firstCause (certifyCauses (length before) s) → c ≡ Clear → M ≡ machineIn s → w ≡ wordIn s
+    → xs ≡ sequenceIn s → a ≡ outcome M w xs → ms ≡ marks M w xs → after ≡ ms ++ drop (length xs + 1) before
     → Certifies s before after a
 certifies-clear s before {c} {M} {w} {xs} ce e me we xe ae mse afe =
     let clear = sym ce ∙ e in

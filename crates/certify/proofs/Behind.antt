@@ -3,14 +3,15 @@
 use Prim.Native.Nat.{ℕ, _+_, _≤_, _<_}
 use mathlib.Core.Path.{_≡_, refl, _∙_}
 use mathlib.Core.List.{List}
-use mathlib.Core.Logic.{⊎-elim}
+use mathlib.Core.Logic.{inl, inr}
 use native.Mathlib.Omega.{arith}
 use borrow.Author.Count.{below-more}
 use lib.ListN.{length, getD, set, length-set, List·getD-eq-default}
+use lib.Seq.{getD-set-other}
+use Rattle.facts.specs.Lists.{set-more}
 use Rattle.facts.specs.Numbers.{less-or-not}
 use Rattle.certify.specs.Marks.Laws.{marked-inside}
 use Rattle.certify.specs.Sweep.{Behind}
-use Rattle.certify.proofs.Marking.{set-cases}
 
 -- v is 1 where some place before p is marked, and else 0
 pub record Told (ms : List ℕ) (p v : ℕ) : Type 0 where
@@ -52,25 +53,18 @@ pub seen-on : {ms ms′ : List ℕ} {seen seen′ p : ℕ} → p < length ms′ 
     → Seen ms (set ms′ p seen′) seen′ (p + 1)
 seen-on {ms} {ms′} {seen} {seen′} {p} l h t = record {
   long = length-set ms′ p seen′ ∙ h .long;
-  written = λ q ql.
-      ⊎-elim (λ (k : (q ≡ p) × (getD (set ms′ p seen′) q 0 ≡ seen′)). rw (k .1, k .0) t)
-      (λ (k : (q ≡ p → ⊥) × (getD (set ms′ p seen′) q 0 ≡ getD ms′ q 0)).
-      rw (k .1) (h .written q (omega (arith, k .0))))
-      (set-cases ms′ p seen′ q l);
-  rest = λ q ql.
-      ⊎-elim (λ (k : (q ≡ p) × (getD (set ms′ p seen′) q 0 ≡ seen′)). let z : ⊥ = omega (arith, k .0) in absurd z)
-      (λ (k : (q ≡ p → ⊥) × (getD (set ms′ p seen′) q 0 ≡ getD ms′ q 0)). k .1 ∙ h .rest q (omega arith))
-      (set-cases ms′ p seen′ q l);
+  written = set-more (λ q. Told ms (q + 1)) ms′ p seen′ l (h .written) t;
+  rest = λ q ql. getD-set-other ms′ p q seen′ 0 (λ k. omega arith) ∙ h .rest q (omega arith);
   told = t;
 }
 
 pub seen-all : {ms ms′ : List ℕ} {seen p : ℕ} → Seen ms ms′ seen p → length ms ≤ p → Behind ms ms′
 seen-all {ms} {ms′} {seen} {p} h l = record {
   long = h .long;
-  bits = λ q.
-      ⊎-elim (λ (k : q < length ms). h .written q (omega arith) .bit)
-      (λ (k : length ms ≤ q). omega (arith, List·getD-eq-default ms′ 0 {n = q} (omega (arith, h .long))))
-      (less-or-not q (length ms));
+  bits = λ q. elim (less-or-not q (length ms)) [
+    | inl k ↦ h .written q (omega arith) .bit
+    | inr k ↦ omega (arith, List·getD-eq-default ms′ 0 {n = q} (omega (arith, h .long)))
+  ];
   behind = λ r q ql rl e. h .written r (omega arith) .on q (omega arith) e;
   from = λ r e.
       let f = h .written r (omega (arith, marked-inside ms′ r e, h .long)) .from e in

@@ -7,8 +7,9 @@ use mathlib.Core.List.{List}
 use mathlib.Core.Logic.{⊎-elim}
 use native.Mathlib.Omega.{arith}
 use lib.ListN.{length, getD, take, drop, replicate, length-replicate}
-use lib.Seq.{getD-take, getD-drop}
 use Rattle.facts.specs.Tests.{true-or-false}
+use Rattle.facts.specs.Numbers.{bit-one}
+use Rattle.facts.specs.Lists.{part-at, zeros}
 use Rattle.machine.specs.Limits.{mostSequence}
 use Rattle.machine.specs.Machine.{Mealy, stateAt}
 use Rattle.machine.specs.Machine.Laws.{state-start, state-next}
@@ -17,19 +18,14 @@ use Rattle.certify.specs.Marks.Agreement.{ByRule2}
 use Rattle.certify.specs.Folding.{same, byteStates}
 use Rattle.certify.specs.Sweep.{placeEntry, Merged, SweepRequires, Swept}
 use Rattle.certify.proofs.Growing.{marking-same}
-use Rattle.certify.proofs.Marking.{bit-one}
 use Rattle.certify.proofs.Represented.{begin, Walked, folded-closed}
-use Rattle.certify.proofs.Tables.{zeros}
 use Rattle.certify.proofs.Turn.{merged-still, merged-learning, Still, Head, walked-here}
 
 -- equal parts have equal commands
 commands-at : (xs : List ℕ) (p q m : ℕ) → take m (drop p xs) ≡ take m (drop q xs) → (i : ℕ) → i < m
     → getD xs (p + i) 0 ≡ getD xs (q + i) 0
 commands-at xs p q m e i l =
-    sym (getD-take m (drop p xs) i 0 l ∙ getD-drop p xs i 0)
-    ∙ ap (λ (m : List ℕ). getD m i 0) e
-    ∙ getD-take m (drop q xs) i 0 l
-    ∙ getD-drop q xs i 0
+    sym (part-at xs p m i l) ∙ ap (λ (m : List ℕ). getD m i 0) e ∙ part-at xs q m i l
 
 module _ {M : Mealy} {apply : Bool} {xs given known₀ : List ℕ} (h : SweepRequires M apply xs given known₀) where
   -- before place 0

@@ -1,20 +1,21 @@
 -- The entries that a sweep knows to be verified: each has a place that shows it, and applying one is rule 2 with one
 -- command. Assumes nothing.
-use Prim.Native.Nat.{ℕ, _+_, _<_}
+use Prim.Native.Nat.{ℕ, _+_, _≤_, _<_}
 use mathlib.Core.Path.{_≡_, refl, sym, _∙_}
 use mathlib.Core.Bool.{Bool, true, false, true≢false}
 use mathlib.Core.List.{List}
-use mathlib.Core.Logic.{_⊎_, inl, inr, ⊎-elim}
+use mathlib.Core.Logic.{_⊎_, inl, inr}
 use native.Mathlib.Omega.{arith}
 use lib.ListN.{length, getD, set, length-set}
 use lib.Seq.{getD-set-same}
-use Rattle.facts.specs.Numbers.{digits-one}
+use Rattle.facts.specs.Numbers.{bit-one, digits-one}
+use Rattle.facts.specs.Lists.{set-cell}
 use Rattle.machine.specs.Limits.{mostSequence, mostEntries}
 use Rattle.machine.specs.Machine.{Mealy, Commands}
 use Rattle.certify.specs.Marks.{Bits}
 use Rattle.certify.specs.Folding.{From, Marking, Risen, Paired, tops, step}
 use Rattle.certify.specs.Sweep.{placeEntry, Witness, Knows, SweepRequires, Learnt}
-use Rattle.certify.proofs.Marking.{bit-one, set-cases, set-keeps, marking-more, was-zero}
+use Rattle.certify.proofs.Marking.{marking-more, was-zero}
 use Rattle.certify.proofs.Paired.{paired-carries}
 
 -- what holds of marks and known entries during a sweep that knew these at its start
@@ -48,21 +49,17 @@ module _ {M : Mealy} {apply : Bool} {xs given known₀ : List ℕ} (required : S
         record {
           marking = g;
           table = length-set known e 1 ∙ h .table;
-          knows = λ x y.
-              ⊎-elim (λ (q : (x ≡ e) × (getD (set known e 1) x 0 ≡ 1)). record {
+          knows =
+              set-cell (λ x y. (y ≡ 0 → ⊥) → Witness M xs given x) known e 1 inside (λ x o. h .knows x)
+              (λ o. record {
                 place = t;
                 inside = tl;
-                entry = at ∙ sym (q .0);
+                entry = at;
                 before = g .sound t (bit-one (g .bits t) n);
                 after = g .sound (t + 1) (bit-one (g .bits (t + 1)) n′);
-              })
-              (λ (q : (x ≡ e → ⊥) × (getD (set known e 1) x 0 ≡ getD known x 0)). h .knows x (λ z. y (q .1 ∙ z)))
-              (set-cases known e 1 x inside);
-          keeps = λ x y. set-keeps known e x inside (h .keeps x y);
-          known-bits = λ x.
-              ⊎-elim (λ (q : (x ≡ e) × (getD (set known e 1) x 0 ≡ 1)). omega (arith, q .1))
-              (λ (q : (x ≡ e → ⊥) × (getD (set known e 1) x 0 ≡ getD known x 0)). omega (arith, q .1, h .known-bits x))
-              (set-cases known e 1 x inside);
+              });
+          keeps = set-cell (λ x y. getD known₀ x 0 ≡ 1 → y ≡ 1) known e 1 inside (λ x o. h .keeps x) (λ q. refl);
+          known-bits = set-cell (λ x y. y ≤ 1) known e 1 inside (λ x o. h .known-bits x) (omega arith);
           risen = λ q.
               inr (record {
                 place = e;

@@ -1,20 +1,19 @@
 -- Where the sweep comes to t from cur and their marks differ: the one without gets its mark, and cur's is followed.
 -- Assumes nothing.
-use Prim.Native.Nat.{ℕ, _+_, _≤_, _<_}
+use Prim.Native.Nat.{ℕ, _+_, _≤_}
 use mathlib.Core.Path.{_≡_, refl, sym, _∙_}
 use mathlib.Core.Bool.{Bool, true}
 use mathlib.Core.List.{List}
-use mathlib.Core.Logic.{⊎-elim}
 use native.Mathlib.Omega.{arith}
-use native.Mathlib.Nat.{eq-or-lt-of-le}
 use lib.ListN.{length, getD, set}
 use lib.Seq.{getD-set-same}
+use Rattle.facts.specs.Numbers.{bit-one}
 use Rattle.machine.specs.Machine.{Mealy}
 use Rattle.certify.specs.Folding.{From, Marking}
 use Rattle.certify.specs.Propagation.{PropagateRequires}
 use Rattle.certify.specs.Sweep.{MergeRequires, Merged, differ}
 use Rattle.certify.proofs.Growing.{marking-same, marking-flat, folds-more}
-use Rattle.certify.proofs.Marking.{bit-one, marking-more, both-in}
+use Rattle.certify.proofs.Marking.{marking-more, both-in}
 use Rattle.certify.proofs.Paired.{paired-state}
 
 module _ {M : Mealy} {xs ms next alt root : List ℕ} {k s cur t : ℕ} (h : MergeRequires M xs ms next alt root k s cur t)
@@ -43,9 +42,7 @@ module _ {M : Mealy} {xs ms next alt root : List ℕ} {k s cur t : ℕ} (h : Mer
   -- t gets its mark
   pub merges-on : {changed : Bool} → (getD ms cur 0 ≡ 0 → ⊥) → Merged M xs ms cur t changed (set ms t 1) true
   merges-on o =
-      let unmarked : getD ms t 0 ≡ 0 =
-      ⊎-elim (λ (e : getD ms t 0 ≡ 1). absurd (n (bit-one (h .bits cur) o ∙ sym e)))
-      (λ (l : getD ms t 0 < 1). omega arith)
-      (eq-or-lt-of-le (h .bits t)) in
+      let not-one : getD ms t 0 ≡ 1 → ⊥ = λ e. n (bit-one (h .bits cur) o ∙ sym e) in
+      let unmarked : getD ms t 0 ≡ 0 = omega (arith, h .bits t) in
       differ (marking-more tl (inside .1) (marking-same long (h .bits)))
       (record { place = t; was = unmarked; is = getD-set-same ms t 1 0 (omega arith) }) refl

@@ -4,11 +4,12 @@
 use Prim.Native.Nat.{ℕ, _+_, _≤_, _<_}
 use mathlib.Core.Path.{_≡_, sym, ap, ap₂, _∙_}
 use mathlib.Core.List.{List}
-use mathlib.Core.Logic.{_⊎_, inl, inr, ⊎-elim}
+use mathlib.Core.Logic.{_⊎_, inl, inr}
 use native.Mathlib.Omega.{arith}
 use native.Mathlib.Nat.{eq-or-lt-of-le}
 use lib.ListN.{length, getD, take, drop, length-take, length-drop}
-use lib.Seq.{ext-getD, getD-take, getD-drop}
+use lib.Seq.{ext-getD}
+use Rattle.facts.specs.Lists.{part-at}
 use Rattle.machine.specs.Machine.{Mealy, stateAt}
 use Rattle.machine.specs.Machine.Laws.{state-next}
 use Rattle.certify.specs.Recognition.{rule2}
@@ -20,11 +21,7 @@ commands-equal : (xs : List ℕ) (p q m : ℕ) → p + m ≤ length xs → q + m
 commands-equal xs p q m pl ql h =
     ext-getD 0 (take m (drop p xs)) (take m (drop q xs)) (simp (length-take, length-drop) (omega arith))
     (λ i l. let k : i < m = omega (arith, simp length-take at l) in
-    getD-take m (drop p xs) i 0 k
-    ∙ getD-drop p xs i 0
-    ∙ h i k
-    ∙ sym (getD-drop q xs i 0)
-    ∙ sym (getD-take m (drop q xs) i 0 k))
+    part-at xs p m i k ∙ h i k ∙ sym (part-at xs q m i k))
 
 -- two places m commands after two of one state in the closure, the commands equal
 record Run (M : Mealy) (xs given : List ℕ) (a b : ℕ) : Type 0 where
@@ -69,10 +66,10 @@ module _ {M : Mealy} {xs given : List ℕ} where
     b-at = omega (arith, r .b-at);
     a-inside = λ z. omega arith;
     b-inside = λ z. omega arith;
-    commands = λ i l.
-        ⊎-elim (λ (k : i ≡ r .m). rw (k, ← r .a-at, ← r .b-at) e)
-        (λ (k : i < r .m). r .commands i k)
-        (eq-or-lt-of-le {n = i} {m = r .m} (omega arith));
+    commands = λ i l. elim (eq-or-lt-of-le {n = i} {m = r .m} (omega arith)) [
+      | inl k ↦ rw (k, ← r .a-at, ← r .b-at) e
+      | inr k ↦ r .commands i k
+    ];
   }
 
   paired-run : {a b : ℕ} → Paired M xs given a b → (a ≡ b) ⊎ (Run M xs given a b)
@@ -91,25 +88,22 @@ module _ {M : Mealy} {xs given : List ℕ} where
     commands = λ i l. let y : ⊥ = omega arith in absurd y;
   })
   paired-run (step p q h pl ql e ea eb) =
-      ⊎-elim (λ (s : p ≡ q). inl (omega arith)) (λ (r : Run M xs given p q). inr (run-on r pl ql e ea eb))
-      (paired-run h)
+      elim (paired-run h) [ inl s ↦ inl (omega arith) | inr r ↦ inr (run-on r pl ql e ea eb) ]
 
   run-carries : {a b : ℕ} → Run M xs given a b → From M xs given a → From M xs given b
-  run-carries {a} {b} r ha =
-      ⊎-elim (λ (z : 0 ≡ r .m). let e : b ≡ r .q = omega (arith, r .b-at) in rw e (r .q-in))
-      (λ (l : 0 < r .m).
-      let al = r .a-inside (omega arith) in
-      let bl = r .b-inside (omega arith) in
-      rule2 (r .p) (r .q) (r .m) (omega arith) (r .p-in) (r .q-in) (r .states) (rw (← r .a-at) ha)
-      (omega (arith, r .b-at))
-      (commands-equal xs (r .p) (r .q) (r .m) (omega (arith, r .a-at)) (omega (arith, r .b-at)) (r .commands))
-      (r .b-at))
-      (eq-or-lt-of-le {n = 0} {m = r .m} (omega arith))
+  run-carries {a} {b} r ha = elim (eq-or-lt-of-le {n = 0} {m = r .m} (omega arith)) [
+    | inl z ↦ (let e : b ≡ r .q = omega (arith, r .b-at) in rw e (r .q-in))
+    | inr l ↦ (let al = r .a-inside (omega arith) in
+        let bl = r .b-inside (omega arith) in
+        rule2 (r .p) (r .q) (r .m) (omega arith) (r .p-in) (r .q-in) (r .states) (rw (← r .a-at) ha)
+        (omega (arith, r .b-at))
+        (commands-equal xs (r .p) (r .q) (r .m) (omega (arith, r .a-at)) (omega (arith, r .b-at)) (r .commands))
+        (r .b-at))
+  ]
 
   -- rule 2 carries membership over
   pub paired-carries : {a b : ℕ} → Paired M xs given a b → From M xs given a → From M xs given b
-  paired-carries {a} {b} h ha =
-      ⊎-elim (λ (e : a ≡ b). rw (← e) ha) (λ (r : Run M xs given a b). run-carries r ha) (paired-run h)
+  paired-carries {a} {b} h ha = elim (paired-run h) [ inl e ↦ rw (← e) ha | inr r ↦ run-carries r ha ]
 
   pub paired-trans : {a b c : ℕ} → Paired M xs given a b → Paired M xs given b c → Paired M xs given a c
   paired-trans (same e) k = rw e k

@@ -4,7 +4,7 @@
 use Prim.Native.Nat.{ℕ, zero, suc, _+_, _≤_, _<_}
 use mathlib.Core.Path.{_≡_, refl, sym, ap, _∙_}
 use mathlib.Core.List.{List}
-use mathlib.Core.Logic.{⊎-elim}
+use mathlib.Core.Logic.{inl, inr}
 use native.Mathlib.Omega.{arith}
 use native.Mathlib.Nat.{eq-or-lt-of-le}
 use lib.ListN.{length, getD}
@@ -144,14 +144,14 @@ module _ (xs : List ℕ) (st : ℕ → ℕ) (ms alt root : List ℕ) where
       marked-on : getD ms a 0 ≡ 1 → Alike (a + 1) (b + 1)
       marked-on ma =
           let mb : getD ms b 0 ≡ 1 = sym (h .marks) ∙ ma in
-          ⊎-elim (λ (e : getD ms (a + 1) 0 ≡ 1). both-alike e (single a b al bl ma mb (h .states) c e))
-          (λ (l : getD ms (a + 1) 0 < 1).
-          let na : getD ms (a + 1) 0 ≡ 1 → ⊥ = λ q. omega arith in
-          let p = walked a al (λ x y. na y) in
-          let q = walked b bl (λ x y. na (single b a bl al mb ma (sym (h .states)) (sym c) y)) in
-          let e : getD root (st b) 0 ≡ p .r + 1 = rw (← h .states) (rep-top (p .rep) ma) in
-          walked-alike p q (omega (arith, rep-top (q .rep) mb)))
-          (eq-or-lt-of-le (bits (a + 1)))
+          elim (eq-or-lt-of-le (bits (a + 1))) [
+            | inl e ↦ both-alike e (single a b al bl ma mb (h .states) c e)
+            | inr l ↦ (let na : getD ms (a + 1) 0 ≡ 1 → ⊥ = λ q. omega arith in
+                let p = walked a al (λ x y. na y) in
+                let q = walked b bl (λ x y. na (single b a bl al mb ma (sym (h .states)) (sym c) y)) in
+                let e : getD root (st b) 0 ≡ p .r + 1 = rw (← h .states) (rep-top (p .rep) ma) in
+                walked-alike p q (omega (arith, rep-top (q .rep) mb)))
+          ]
 
       unmarked-on : getD ms a 0 ≡ 0 → Alike (a + 1) (b + 1)
       unmarked-on z =
@@ -161,9 +161,7 @@ module _ (xs : List ℕ) (st : ℕ → ℕ) (ms alt root : List ℕ) where
           walked-alike p q (rep-one (p .rep) (one .1) ∙ rep-one (one .2) (q .rep))
 
       alike-on : Alike (a + 1) (b + 1)
-      alike-on =
-          ⊎-elim (λ (e : getD ms a 0 ≡ 1). marked-on e) (λ (l : getD ms a 0 < 1). unmarked-on (omega arith))
-          (eq-or-lt-of-le (bits a))
+      alike-on = elim (eq-or-lt-of-le (bits a)) [ inl e ↦ marked-on e | inr l ↦ unmarked-on (omega arith) ]
 
     alike-along : (a b m : ℕ) → a + m ≤ length xs → b + m ≤ length xs
         → ((i : ℕ) → i < m → getD xs (a + i) 0 ≡ getD xs (b + i) 0) → Alike a b → Alike (a + m) (b + m)

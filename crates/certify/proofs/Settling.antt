@@ -4,11 +4,12 @@ use Prim.Native.Nat.{ℕ, zero, _+_, _-_, _≤_, _<_}
 use mathlib.Core.Path.{_≡_, sym, ap, _∙_}
 use mathlib.Core.Bool.{Bool, true, false, true≢false}
 use mathlib.Core.List.{List}
-use mathlib.Core.Logic.{⊎-elim}
+use mathlib.Core.Logic.{inl, inr}
 use native.Mathlib.Omega.{arith}
 use lib.ListN.{length, getD, replicate, length-replicate}
 use Rattle.facts.specs.Tests.{true-or-false}
 use Rattle.facts.specs.Numbers.{less-or-not}
+use Rattle.facts.specs.Lists.{zeros}
 use Rattle.machine.specs.Limits.{mostEntries}
 use Rattle.machine.specs.Machine.{Mealy, stateAt}
 use Rattle.certify.specs.Recognition.Laws.{closure-in, closure-more}
@@ -18,15 +19,14 @@ use Rattle.certify.specs.Marks.Agreement.{ByRule2, closed-complete}
 use Rattle.certify.specs.Folding.{MarkedIn, Marking, Risen}
 use Rattle.certify.specs.Sweep.{placeEntry, Knows, CloseRequires, SweepRequires, Swept, Closed}
 use Rattle.certify.proofs.Growing.{marking-flat, marking-same}
-use Rattle.certify.proofs.Tables.{zeros}
 
 -- a cell more has 1
 count-rises : (a b : List ℕ) → length a ≡ length b → ((p : ℕ) → getD a p 0 ≡ 1 → getD b p 0 ≡ 1) → Risen a b
     → count a < count b
-count-rises a b l h r =
-    ⊎-elim (λ (e : count a < count b). e)
-    (λ (e : count b ≤ count a). let z : ⊥ = omega (arith, r .was, count-same a b l h e (r .place) (r .is)) in absurd z)
-    (less-or-not (count a) (count b))
+count-rises a b l h r = elim (less-or-not (count a) (count b)) [
+  | inl e ↦ e
+  | inr e ↦ (let z : ⊥ = omega (arith, r .was, count-same a b l h e (r .place) (r .is)) in absurd z)
+]
 
 -- what holds between two sweeps
 pub record Settling (M : Mealy) (xs given ms known : List ℕ) (apply changed : Bool) : Type 0 where
@@ -116,17 +116,15 @@ module _ {M : Mealy} {xs given ms known : List ℕ} {apply changed : Bool}
         let cm = count-most ms′ in
         let ck = count-most known′ in
         let one : mark changed ≡ 1 = ap mark t in
-        ⊎-elim (λ (f : changed′ ≡ true).
-        let two : mark changed′ ≡ 1 = ap mark f in
-        ⊎-elim (λ (r : Risen ms ms′).
-        omega (arith, count-rises ms ms′ lm (s .marking .above) r, s .marking .long, s .table))
-        (λ (r : Risen known known′).
-        omega (arith, count-rises known known′ lk (s .keeps) r, s .marking .long, s .table))
-        (s .rises f))
-        (λ (f : changed′ ≡ false).
-        let two : mark changed′ ≡ 0 = ap mark f in
-        omega (arith, ap count (s .stays f .0), ap count (s .stays f .1)))
-        (true-or-false changed′)
+        elim (true-or-false changed′) [
+          | inl f ↦ (let two : mark changed′ ≡ 1 = ap mark f in
+              elim (s .rises f) [
+                | inl r ↦ omega (arith, count-rises ms ms′ lm (s .marking .above) r, s .marking .long, s .table)
+                | inr r ↦ omega (arith, count-rises known known′ lk (s .keeps) r, s .marking .long, s .table)
+              ])
+          | inr f ↦ (let two : mark changed′ ≡ 0 = ap mark f in
+              omega (arith, ap count (s .stays f .0), ap count (s .stays f .1)))
+        ]
 
   pub settled-closed : changed ≡ false → Closed M xs given ms known
   settled-closed f = record {

@@ -1,26 +1,20 @@
 -- The tables of a sweep: chains of alternatives and representatives of states, and what going on from place t leaves
 -- of them. Assumes nothing.
-use Prim.Native.Nat.{ℕ, zero, suc, _+_, _≤_, _<_}
+use Prim.Native.Nat.{ℕ, _+_, _≤_, _<_}
 use mathlib.Core.Path.{_≡_, refl, sym, ap, _∙_}
 use mathlib.Core.List.{List}
-use mathlib.Core.Logic.{⊎-elim}
 use native.Mathlib.Omega.{arith}
 use lib.Arith.{lt-of-le-ne}
-use lib.ListN.{length, getD, set, replicate, length-set}
+use lib.ListN.{length, getD, length-set}
 use lib.Seq.{getD-set-other}
+use Rattle.facts.specs.Numbers.{bit-one}
+use Rattle.facts.specs.Lists.{set-cell}
 use Rattle.machine.specs.Limits.{mostSequence}
 use Rattle.machine.specs.Machine.{Mealy, stateAt}
 use Rattle.certify.specs.Folding.{From, Marking, Paired, same, tops, step, Past, here, past, Rising, byteStates}
 use Rattle.certify.specs.Folding.{Rooted, Advanced, found, added, Folds}
 use Rattle.certify.specs.Sweep.{NextRepresented}
-use Rattle.certify.proofs.Marking.{bit-one, set-cases}
 use Rattle.certify.proofs.Paired.{paired-sym, paired-trans, paired-past}
-
--- ---- a table of zeros
-pub zeros : (n i : ℕ) → getD (replicate n zero) i 0 ≡ 0
-zeros zero i = refl
-zeros (suc n) zero = refl
-zeros (suc n) (suc i) = zeros n i
 
 -- ---- the tables grow
 pub roots-grow : {root root′ : List ℕ} {s t r : ℕ} → Rooted root s t root′ r → (x : ℕ) → (getD root x 0 ≡ 0 → ⊥)
@@ -100,11 +94,9 @@ module _ (M : Mealy) (xs given : List ℕ) where
         record {
           linked = rw ae (record {
             long = length-set alt v t ∙ h .long;
-            links = λ u n.
-                ⊎-elim (λ (q : (u ≡ v) × (getD (set alt v t) u 0 ≡ t)). rw (q .1, q .0) (vt, omega arith, pv))
-                (λ (q : (u ≡ v → ⊥) × (getD (set alt v t) u 0 ≡ getD alt u 0)).
-                let l = h .links u (λ y. n (q .1 ∙ y)) in rw (q .1) (l .0, omega (arith, l .1), l .2))
-                (set-cases alt v t u inside);
+            links =
+                set-cell (λ u x. (x ≡ 0 → ⊥) → (u < x) × (x < t + 1) × (Paired M xs given u x)) alt v t inside
+                (λ u q. linked-more h .links u) (λ n. (vt, omega arith, pv));
           });
           topped = g;
           low = omega arith;
@@ -124,12 +116,10 @@ module _ (M : Mealy) (xs given : List ℕ) where
       record {
         topped = rw re (record {
           long = length-set root s (t + 1) ∙ k .long;
-          tops = λ x y d.
-              ⊎-elim (λ (q : (x ≡ s) × (getD (set root s (t + 1)) x 0 ≡ t + 1)).
-              let yt : y ≡ t = omega (arith, q .1) in rw yt (omega arith, ft, sym se ∙ sym (q .0)))
-              (λ (q : (x ≡ s → ⊥) × (getD (set root s (t + 1)) x 0 ≡ getD root x 0)).
-              let l = k .tops x y (sym (q .1) ∙ d) in (omega (arith, l .0), l .1, l .2))
-              (set-cases root s (t + 1) x inside);
+          tops =
+              set-cell (λ x z. (y : ℕ) → z ≡ y + 1 → (y < t + 1) × (From M xs given y) × (stateAt M xs y ≡ x)) root s
+              (t + 1) inside (λ x q. topped-more k .tops x)
+              (λ y d. let yt : y ≡ t = omega arith in rw yt (omega arith, ft, sym se));
         });
         low = omega arith;
         pair = same e;

@@ -4,11 +4,12 @@ use Prim.Native.Nat.{ℕ, _+_, _≤_, _<_}
 use mathlib.Core.Path.{_≡_, refl, sym, ap, ap₂, _∙_}
 use mathlib.Core.Bool.{Bool, true, false, true≢false}
 use mathlib.Core.List.{List}
-use mathlib.Core.Logic.{inl, ⊎-elim}
+use mathlib.Core.Logic.{inl, inr}
 use native.Mathlib.Omega.{arith}
 use native.Mathlib.Nat.{eq-or-lt-of-le}
 use lib.ListN.{length, getD}
 use lib.Seq.{getD-set-same}
+use Rattle.facts.specs.Numbers.{bit-one}
 use Rattle.machine.specs.Limits.{mostEntries, mostSequence}
 use Rattle.machine.specs.Machine.{Mealy, stateAt}
 use Rattle.certify.specs.Folding.{Paired, Past, byteStates, Rooted, Advanced, found, added}
@@ -16,7 +17,7 @@ use Rattle.certify.specs.Sweep.{placeEntry, Merged, Learnt, NextRepresen
 use Rattle.certify.proofs.Alternatives.{past-on}
 use Rattle.certify.proofs.Entries.{Learning, learning, learnt-still}
 use Rattle.certify.proofs.Growing.{marking-flat}
-use Rattle.certify.proofs.Marking.{bit-one, was-zero}
+use Rattle.certify.proofs.Marking.{was-zero}
 use Rattle.certify.proofs.Represented.{Rep, top, Comes, from, between, comes-rep, Walked, comes-walked}
 use Rattle.certify.proofs.Represented.{past-grows, rep-grows, walked-grows}
 use Rattle.certify.proofs.Tables.{roots-grow, links-grow, below, Linked, past-low, Topped, gone}
@@ -132,11 +133,10 @@ module _ {M : Mealy} {apply : Bool} {xs given known₀ : List ℕ} (required : S
   pub walked-here : {ms known alt root : List ℕ} {cur t : ℕ} → Still M apply xs given known₀ ms known alt root cur t
       → getD given cur 0 ≡ getD given t 0 → (i : ℕ) → i + 1 < t + 1
       → (getD given i 0 ≡ 1 → getD given (i + 1) 0 ≡ 1 → ⊥) → Walked xs (stateAt M xs) given alt root i
-  walked-here {ms} {known} {alt} {root} {cur} {t} h m i l n =
-      ⊎-elim (λ (e : i + 1 ≡ t).
-      comes-walked xs (stateAt M xs) given alt root (h .comes) m i (sym e) (λ a b. n a (rw e b)))
-      (λ (k : i + 1 < t). h .walked i k n)
-      (eq-or-lt-of-le {n = i + 1} {m = t} (omega arith))
+  walked-here {ms} {known} {alt} {root} {cur} {t} h m i l n = elim (eq-or-lt-of-le {n = i + 1} {m = t} (omega arith)) [
+    | inl e ↦ comes-walked xs (stateAt M xs) given alt root (h .comes) m i (sym e) (λ a b. n a (rw e b))
+    | inr k ↦ h .walked i k n
+  ]
 
   module _ {ms known alt root ms₁ ms₂ known₂ alt′ root′ : List ℕ} {cur t s e cur′ : ℕ}
       {changed changed₁ changed₂ : Bool} (h : Head M apply xs given known₀ ms known alt root cur t s changed)
@@ -159,15 +159,14 @@ module _ {M : Mealy} {apply : Bool} {xs given known₀ : List ℕ} (required : S
           walked = λ i il n.
               walked-grows xs (stateAt M xs) given alt root alt′ root′ (represented-links on) (represented-roots on)
               (walked-here g agree i il n);
-          learnt = λ i il a b z.
-              ⊎-elim (λ (q : i ≡ t). u .learnt (rw (one, ← q) a) (rw (one, ← q) b) (rw (g .same-known, ← at, ← q) z))
-              (λ (k : i < t). g .learnt i k a b z)
-              (eq-or-lt-of-le {n = i} {m = t} (omega arith));
-          applied = λ i il o a n z.
-              ⊎-elim (λ (q : i ≡ t).
-              u .applied o (rw (one, ← q) a) (λ y. n (rw (g .same-known, ← at, ← q) at y)) (rw (one, ← q) z))
-              (λ (k : i < t). g .applied i k o a n z)
-              (eq-or-lt-of-le {n = i} {m = t} (omega arith));
+          learnt = λ i il a b z. elim (eq-or-lt-of-le {n = i} {m = t} (omega arith)) [
+            | inl q ↦ u .learnt (rw (one, ← q) a) (rw (one, ← q) b) (rw (g .same-known, ← at, ← q) z)
+            | inr k ↦ g .learnt i k a b z
+          ];
+          applied = λ i il o a n z. elim (eq-or-lt-of-le {n = i} {m = t} (omega arith)) [
+            | inl q ↦ u .applied o (rw (one, ← q) a) (λ y. n (rw (g .same-known, ← at, ← q) at y)) (rw (one, ← q) z)
+            | inr k ↦ g .applied i k o a n z
+          ];
         }
 
     pub turn : (el : e < mostEntries) {s′ : ℕ} → s′ ≡ stateAt M xs (t + 1)

@@ -4,31 +4,20 @@ use Prim.Native.Nat.{ℕ, _+_, _-_, _≤_, _<_}
 use mathlib.Core.Path.{_≡_, refl, sym, ap, _∙_}
 use mathlib.Core.Bool.{Bool, cond}
 use mathlib.Core.List.{List}
-use mathlib.Core.Logic.{_⊎_, inl, inr, ⊎-elim}
+use mathlib.Core.Logic.{_⊎_, inl, inr}
 use native.Mathlib.Omega.{arith}
 use borrow.Author.Count.{below-more}
 use borrow.Author.Tests.{eq-eqb, ne-eqb, lt-ltb, le-ltb}
-use lib.Arith.{lt-of-le-ne}
 use lib.Dec.{ltb, eqb}
 use lib.ListN.{length, getD, set, take, drop, length-set, length-take, length-drop}
-use lib.Seq.{ext-getD, getD-take, getD-drop}
+use lib.Seq.{ext-getD, getD-set-other}
+use Rattle.facts.specs.Lists.{part-at, set-more}
 use Rattle.facts.specs.Numbers.{equal-or-not, less-or-not}
 use Rattle.certify.specs.Recognition.{OccursAt}
 use Rattle.certify.specs.Marks.{mark, marksBy, occursAt}
 use Rattle.certify.specs.Marks.Laws.{marks-by-length, marks-by-at}
 use Rattle.certify.specs.Marks.Agreement.{true-occurs, occurs-fails}
 use Rattle.certify.specs.Word.{Begun, Passed}
-use Rattle.certify.proofs.Marking.{set-cases}
-
--- ---- the first places: one more is written
-pub begun-on : (marks : List ℕ) (p v count : ℕ) → p < length marks
-    → ((q : ℕ) → q < p → getD marks q 0 ≡ mark (ltb q count)) → v ≡ mark (ltb p count) → (q : ℕ) → q < p + 1
-    → getD (set marks p v) q 0 ≡ mark (ltb q count)
-begun-on marks p v count pl h ve q ql =
-    ⊎-elim (λ (k : (q ≡ p) × (getD (set marks p v) q 0 ≡ v)).
-    k .1 ∙ ve ∙ ap (λ (x : ℕ). mark (ltb x count)) (sym (k .0)))
-    (λ (k : (q ≡ p → ⊥) × (getD (set marks p v) q 0 ≡ getD marks q 0)). k .1 ∙ h q (lt-of-le-ne (omega arith) (k .0)))
-    (set-cases marks p v q pl)
 
 -- ---- a pass
 pub passed-none : (xs : List ℕ) (further c : ℕ) (marks : List ℕ) → Passed xs further c 0 marks marks
@@ -43,17 +32,10 @@ pub passed-on : {xs : List ℕ} {further c p v : ℕ} {before now : List ℕ} �
     → Passed xs further c (p + 1) before (set now p v)
 passed-on {xs} {further} {c} {p} {v} {before} {now} h l e = record {
   long = length-set now p v ∙ h .long;
-  cells = λ q ql.
-      ⊎-elim (λ (k : (q ≡ p) × (getD (set now p v) q 0 ≡ v)).
-      k .1 ∙ e ∙ ap (λ (m : ℕ). cond (eqb (getD xs (further + p) 0) c) m 0) (h .rest p (omega arith))
-      ∙ ap (λ (x : ℕ). cond (eqb (getD xs (further + x) 0) c) (getD before x 0) 0) (sym (k .0)))
-      (λ (k : (q ≡ p → ⊥) × (getD (set now p v) q 0 ≡ getD now q 0)).
-      k .1 ∙ h .cells q (lt-of-le-ne (omega arith) (k .0)))
-      (set-cases now p v q l);
-  rest = λ q ql.
-      ⊎-elim (λ (k : (q ≡ p) × (getD (set now p v) q 0 ≡ v)). let z : ⊥ = omega (arith, k .0) in absurd z)
-      (λ (k : (q ≡ p → ⊥) × (getD (set now p v) q 0 ≡ getD now q 0)). k .1 ∙ h .rest q (omega arith))
-      (set-cases now p v q l);
+  cells =
+      set-more (λ q x. x ≡ cond (eqb (getD xs (further + q) 0) c) (getD before q 0) 0) now p v l (h .cells)
+      (e ∙ ap (λ (m : ℕ). cond (eqb (getD xs (further + p) 0) c) m 0) (h .rest p (omega arith)));
+  rest = λ q ql. getD-set-other now p q v 0 (λ k. omega arith) ∙ h .rest q (omega arith);
 }
 
 -- ---- all passes
@@ -75,14 +57,13 @@ pub record Written (w xs marks : List ℕ) (j : ℕ) : Type 0 where
 module _ (w xs : List ℕ) where
   -- a place with room for the word, and one without
   begun-tells : (count p v : ℕ) → count ≡ length xs + 1 - length w → v ≡ mark (ltb p count) → Tells w xs 0 p v
-  begun-tells count p v ce ve =
-      ⊎-elim (λ (l : p < count).
-      inl (
-        ve ∙ ap mark (lt-ltb p count l),
-        record { inside = omega (arith, ce); agree = λ i il. let z : ⊥ = omega arith in absurd z },
-      ))
-      (λ (l : count ≤ p). inr (ve ∙ ap mark (le-ltb p count l), λ b. omega (arith, ce, b .inside)))
-      (less-or-not p count)
+  begun-tells count p v ce ve = elim (less-or-not p count) [
+    | inl l ↦ inl (
+      ve ∙ ap mark (lt-ltb p count l),
+      record { inside = omega (arith, ce); agree = λ i il. let z : ⊥ = omega arith in absurd z },
+    )
+    | inr l ↦ inr (ve ∙ ap mark (le-ltb p count l), λ b. omega (arith, ce, b .inside))
+  ]
 
   pub written-starts : {before marks : List ℕ} {count : ℕ} → length before ≡ length xs + 1
       → count ≡ length xs + 1 - length w → Begun count before marks → Written w xs marks 0
@@ -95,37 +76,32 @@ module _ (w xs : List ℕ) where
   module _ (j p v v′ : ℕ) where
     -- a pass comes to p: the mark stays where the command is the word's
     on-inside : v′ ≡ cond (eqb (getD xs (j + p) 0) (getD w j 0)) v 0 → Tells w xs j p v → Tells w xs (j + 1) p v′
-    on-inside e h = ⊎-elim agrees differs (equal-or-not (getD xs (j + p) 0) (getD w j 0))
-      where
-        here : getD xs (j + p) 0 ≡ getD xs (p + j) 0
-        here = ap (λ (x : ℕ). getD xs x 0) (omega arith)
-
-        fewer : Begins w xs (j + 1) p → Begins w xs j p
-        fewer b = record { inside = b .inside; agree = λ i l. b .agree i (omega arith) }
-
-        agrees : getD xs (j + p) 0 ≡ getD w j 0 → Tells w xs (j + 1) p v′
-        agrees q =
-            let same : v′ ≡ v = e ∙ ap (λ (b : Bool). cond b v 0) (eq-eqb _ _ q) in
-            ⊎-elim (λ (k : (v ≡ 1) × Begins w xs j p).
-            inl (
-              same ∙ k .0,
-              record {
-                inside = k .1 .inside;
-                agree = below-more (λ i. getD xs (p + i) 0 ≡ getD w i 0) j (k .1 .agree) (sym here ∙ q);
-              },
-            ))
-            (λ (k : (v ≡ 0) × (Begins w xs j p → ⊥)). inr (same ∙ k .0, λ b. k .1 (fewer b)))
-            h
-
-        differs : (getD xs (j + p) 0 ≡ getD w j 0 → ⊥) → Tells w xs (j + 1) p v′
-        differs n = inr (e ∙ ap (λ (b : Bool). cond b v 0) (ne-eqb _ _ n), λ b. n (here ∙ b .agree j (omega arith)))
+    on-inside e h =
+        let here : getD xs (j + p) 0 ≡ getD xs (p + j) 0 = ap (λ (x : ℕ). getD xs x 0) (omega arith) in
+        elim (equal-or-not (getD xs (j + p) 0) (getD w j 0)) [
+          | inl q ↦ (let same : v′ ≡ v = e ∙ ap (λ (b : Bool). cond b v 0) (eq-eqb _ _ q) in
+              elim h [
+                | inl k ↦ inl (
+                  same ∙ k .0,
+                  record {
+                    inside = k .1 .inside;
+                    agree = below-more (λ i. getD xs (p + i) 0 ≡ getD w i 0) j (k .1 .agree) (sym here ∙ q);
+                  },
+                )
+                | inr k ↦ inr (
+                  same ∙ k .0,
+                  λ b. k .1 (record { inside = b .inside; agree = λ i l. b .agree i (omega arith) }),
+                )
+              ])
+          | inr n ↦ inr (e ∙ ap (λ (b : Bool). cond b v 0) (ne-eqb _ _ n), λ b. n (here ∙ b .agree j (omega arith)))
+        ]
 
     -- no pass comes to p: the word has no room there
     on-outside : length xs + 1 - length w ≤ p → v′ ≡ v → Tells w xs j p v → Tells w xs (j + 1) p v′
-    on-outside l e h =
-        ⊎-elim (λ (k : (v ≡ 1) × Begins w xs j p). let z : ⊥ = omega (arith, k .1 .inside) in absurd z)
-        (λ (k : (v ≡ 0) × (Begins w xs j p → ⊥)). inr (e ∙ k .0, λ b. omega (arith, b .inside)))
-        h
+    on-outside l e h = elim h [
+      | inl k ↦ (let z : ⊥ = omega (arith, k .1 .inside) in absurd z)
+      | inr k ↦ inr (e ∙ k .0, λ b. omega (arith, b .inside))
+    ]
 
   pub written-on : {marks marks′ : List ℕ} {j count c : ℕ} → Written w xs marks j → j < length w
       → count ≡ length xs + 1 - length w → c ≡ getD w j 0 → Passed xs j c count marks marks′
@@ -133,12 +109,11 @@ module _ (w xs : List ℕ) where
   written-on {marks} {marks′} {j} {count} {c} h l ce e s = record {
     upto = omega arith;
     long = s .long ∙ h .long;
-    cells = λ p pl.
-        ⊎-elim (λ (k : p < count).
-        on-inside j p _ _ (s .cells p k ∙ ap (λ (x : ℕ). cond (eqb (getD xs (j + p) 0) x) (getD marks p 0) 0) e)
-        (h .cells p pl))
-        (λ (k : count ≤ p). on-outside j p _ _ (omega (arith, ce)) (s .rest p k) (h .cells p pl))
-        (less-or-not p count);
+    cells = λ p pl. elim (less-or-not p count) [
+      | inl k ↦ on-inside j p _ _ (s .cells p k ∙ ap (λ (x : ℕ). cond (eqb (getD xs (j + p) 0) x) (getD marks p 0) 0) e)
+          (h .cells p pl)
+      | inr k ↦ on-outside j p _ _ (omega (arith, ce)) (s .rest p k) (h .cells p pl)
+    ];
   }
 
   -- the whole word: what is written is where it stands
@@ -148,24 +123,20 @@ module _ (w xs : List ℕ) where
     commands = ext-getD 0 (take (length w) (drop p xs)) w (simp (length-take, length-drop) (omega (arith, b .inside)))
         (λ i k.
         let il : i < length w = omega (arith, simp length-take at k) in
-        getD-take (length w) (drop p xs) i 0 il ∙ getD-drop p xs i 0 ∙ b .agree i il);
+        part-at xs p (length w) i il ∙ b .agree i il);
   }
 
   occurs-whole : (p : ℕ) → OccursAt w xs p → Begins w xs (length w) p
   occurs-whole p h = record {
     inside = h .inside;
-    agree = λ i l.
-        sym (getD-take (length w) (drop p xs) i 0 l ∙ getD-drop p xs i 0)
-        ∙ ap (λ (m : List ℕ). getD m i 0) (h .commands);
+    agree = λ i l. sym (part-at xs p (length w) i l) ∙ ap (λ (m : List ℕ). getD m i 0) (h .commands);
   }
 
   told : (p v : ℕ) → Tells w xs (length w) p v → v ≡ mark (occursAt w xs p)
-  told p v h =
-      ⊎-elim (λ (k : (v ≡ 1) × Begins w xs (length w) p).
-      k .0 ∙ sym (ap mark (true-occurs w xs p (whole-occurs p (k .1)))))
-      (λ (k : (v ≡ 0) × (Begins w xs (length w) p → ⊥)).
-      k .0 ∙ ap mark (occurs-fails w xs p (λ s. k .1 (occurs-whole p s))))
-      h
+  told p v h = elim h [
+    | inl k ↦ k .0 ∙ sym (ap mark (true-occurs w xs p (whole-occurs p (k .1))))
+    | inr k ↦ k .0 ∙ ap mark (occurs-fails w xs p (λ s. k .1 (occurs-whole p s)))
+  ]
 
   pub written-all : {marks : List ℕ} {j : ℕ} → Written w xs marks j → length w ≤ j → marks ≡ marksBy xs (occursAt w xs)
   written-all {marks} {j} h l =

@@ -17,7 +17,7 @@ use Rattle.sheet.specs.declared.record.Record.{Record}
 use Rattle.sheet.specs.declared.reader.Needs.{Needs}
 use Rattle.sheet.specs.Check.{refusal_with_if_, _else_, firstCause, first, refusedOr, unlessRefused}
 use Rattle.sheet.specs.Values.{refusalValues, Returns}
-use Rattle.sheet.specs.Reader.{recordOf, content}
+use Rattle.sheet.specs.Reader.{wordIn, sequenceIn, sequenceRecord}
 use Rattle.sheet.specs.Writing.{written}
 use Rattle.machine.specs.Limits.{mostSequence}
 use Rattle.machine.specs.Machine.{Mealy, stateAt}
@@ -55,7 +55,7 @@ markBytes xs = length xs + 1
 unfoldable pub sequenceCauses : Bool → ℕ → List ℕ → List Check
 sequenceCauses withAnswers room s =
     loadCauses (sequenceNeeds withAnswers) s
-    ++ (cause7 (machineIn s .k) (recordOf 3 s) (content 3 s) ∷ cause9 room (markBytes (content 3 s)) ∷ [])
+    ++ (cause7 (machineIn s .k) (sequenceRecord s) (sequenceIn s) ∷ cause9 room (markBytes (sequenceIn s)) ∷ [])
 
 -- the causes of certifying (§4.1)
 abbrev pub certifyCauses : ℕ → List ℕ → List Check
@@ -95,7 +95,7 @@ outcome M w xs = answerOf (openIn M w xs) (count (marks M w xs))
 -- what certifying answers to a sheet and a room for marks (§4.1, §5.4)
 pub certification : ℕ → List ℕ → Answer
 certification room s =
-    refusedOr RefusedAnswer (firstCause (certifyCauses room s)) (outcome (machineIn s) (content 2 s) (content 3 s))
+    refusedOr RefusedAnswer (firstCause (certifyCauses room s)) (outcome (machineIn s) (wordIn s) (sequenceIn s))
 
 -- marks in a buffer (§5.4): one byte each, written to its start, and the bytes after them keep their values
 unfoldable pub kept : List ℕ → List ℕ → List ℕ
@@ -105,7 +105,7 @@ kept ms buffer = written ms buffer
 pub marksAfter : List ℕ → List ℕ → List ℕ
 marksAfter s buffer =
     unlessRefused (firstCause (certifyCauses (length buffer) s))
-    (kept (marks (machineIn s) (content 2 s) (content 3 s)) buffer) buffer
+    (kept (marks (machineIn s) (wordIn s) (sequenceIn s)) buffer) buffer
 
 -- the first N + 1 bytes of a buffer, where the marks of a sequence are (§5.4)
 unfoldable pub keptIn : List ℕ → List ℕ → List ℕ
@@ -123,14 +123,14 @@ valuesOf (RefusedAnswer number place) = refusalValues number place
 -- recognised
 pub record CertifiedWith (room : ℕ) (s : List ℕ) (recognised : ℕ) : Type 0 where
   pub clear : firstCause (certifyCauses room s) ≡ Clear
-  pub certified : Certified (machineIn s) (content 2 s) (content 3 s)
-  pub number : RecognisedNumber (machineIn s) (content 2 s) (content 3 s) recognised
+  pub certified : Certified (machineIn s) (wordIn s) (sequenceIn s)
+  pub number : RecognisedNumber (machineIn s) (wordIn s) (sequenceIn s) recognised
 
 -- open with two numbers (§5.4): no cause is present, so many places are recognised, and v is the sequence's open number
 pub record OpenWith (room : ℕ) (s : List ℕ) (recognised v : ℕ) : Type 0 where
   pub clear : firstCause (certifyCauses room s) ≡ Clear
-  pub open-number : OpenNumber (machineIn s) (content 2 s) (content 3 s) v
-  pub number : RecognisedNumber (machineIn s) (content 2 s) (content 3 s) recognised
+  pub open-number : OpenNumber (machineIn s) (wordIn s) (sequenceIn s) v
+  pub number : RecognisedNumber (machineIn s) (wordIn s) (sequenceIn s) recognised
 
 -- what an answer to a sheet and a room for marks says (§5.4): each case is answered exactly where that holds
 pub record Says (room : ℕ) (s : List ℕ) (a : Answer) : Type 0 where
@@ -145,6 +145,6 @@ pub record Certifies (s before after : List ℕ) (a : Answer) : Type 0 where
   pub says : Says (length before) s a
   pub marks : after ≡ marksAfter s before
   pub marked : firstCause (certifyCauses (length before) s) ≡ Clear
-      → MarksOf (machineIn s) (content 2 s) (content 3 s) (keptIn (content 3 s) after)
-  pub later : drop (markBytes (content 3 s)) after ≡ drop (markBytes (content 3 s)) before
+      → MarksOf (machineIn s) (wordIn s) (sequenceIn s) (keptIn (sequenceIn s) after)
+  pub later : drop (markBytes (sequenceIn s)) after ≡ drop (markBytes (sequenceIn s)) before
   pub unwritten : (n p : ℕ) → a ≡ RefusedAnswer n p → after ≡ before

@@ -6,7 +6,7 @@ use mathlib.Core.Bool.{Bool}
 use mathlib.Core.List.{List}
 use Rattle.sheet.specs.declared.check.Check.the-variants.{Clear}
 use Rattle.sheet.specs.Check.{firstCause}
-use Rattle.sheet.specs.Reader.{content}
+use Rattle.sheet.specs.Reader.{sequenceIn}
 use Rattle.machine.specs.Limits.{mostSequence}
 use Rattle.machine.specs.declared.loading.Loaded.{Loaded}
 use Rattle.machine.specs.Machine.{meaning, Proper, Commands}
@@ -21,7 +21,7 @@ pub record SequenceLoaded (withAnswers : Bool) (room : ℕ) (s : List ℕ) (l : 
   -- of the machine's commands, and its marks fit
   pub machine : l .check ≡ Clear → meaning (l .machine) ≡ machineIn s
   pub proper : l .check ≡ Clear → Proper (meaning (l .machine))
-  pub commands : l .check ≡ Clear → Commands mostSequence (meaning (l .machine) .k) (content 3 s)
-  pub fits : l .check ≡ Clear → markBytes (content 3 s) ≤ room
+  pub commands : l .check ≡ Clear → Commands mostSequence (meaning (l .machine) .k) (sequenceIn s)
+  pub fits : l .check ≡ Clear → markBytes (sequenceIn s) ≤ room
   -- on a refusal the specification leaves the machine free: it is this one in any case
   pub holds : meaning (l .machine) ≡ held s

@@ -2,17 +2,16 @@
 -- Assumes nothing.
 use Prim.Native.Nat.{ℕ, _+_, _≤_, _<_}
 use mathlib.Core.Path.{_≡_, refl, sym, ap, ap₂, _∙_}
-use mathlib.Core.Bool.{Bool, true, false}
+use mathlib.Core.Logic.{inl, inr}
 use mathlib.Core.List.{List, []}
 use native.Mathlib.Omega.{arith}
 use native.Mathlib.Nat.{zero-add}
-use lib.Dec.{leb}
 use lib.ListN.{length, getD, take}
 use lib.Seq.{take-paste, take-length, getD-take}
-use borrow.Author.Tests.{leb-true, leb-false}
+use Rattle.facts.specs.Numbers.{less-or-not}
 use Rattle.sheet.specs.declared.check.Check.the-variants.{Clear, Refused}
 use Rattle.sheet.specs.Check.{firstCause}
-use Rattle.sheet.specs.Reader.{content}
+use Rattle.sheet.specs.Reader.{wordIn}
 use Rattle.sheet.specs.Check.Laws.{clear-refused}
 use Rattle.sheet.specs.Values.Laws.{returns-specified}
 use Rattle.sheet.specs.Writing.{putAt, putEnd}
@@ -34,11 +33,10 @@ use Rattle.desk.specs.Service.Dialogue.{starting-first, starting-refused
 
 -- what is put ends within the buffer
 end-inside : (before xs : List ℕ) → putEnd before 0 xs ≤ length before
-end-inside before xs = go (leb (0 + length xs) (length before)) refl
-  where
-    go : (b : Bool) → leb (0 + length xs) (length before) ≡ b → putEnd before 0 xs ≤ length before
-    go true e = let l = leb-true _ _ e in omega (arith, end-fits before 0 xs l)
-    go false e = let l = leb-false _ _ e in omega (arith, end-not before 0 xs l)
+end-inside before xs = elim (less-or-not (length before) (0 + length xs)) [
+  | inl l ↦ omega (arith, end-not before 0 xs l)
+  | inr l ↦ omega (arith, end-fits before 0 xs l)
+]
 
 -- so its place is a byte
 pub end-small : (before xs : List ℕ) {n : ℕ} → n ≡ putEnd before 0 xs → length before ≡ mostWord → n < 256
@@ -57,10 +55,10 @@ firstDesk l word size heard c = record {
 }
 
 module _ (s : List ℕ) (l : Loaded) (h : ConnectedFrom s l) (before xs : List ℕ) (long : length before ≡ mostWord)
-    (xe : xs ≡ content 2 s) (word : List ℕ) (we : word ≡ putAt before 0 xs) (size : ℕ) (se : size ≡ putEnd before 0 xs)
+    (xe : xs ≡ wordIn s) (word : List ℕ) (we : word ≡ putAt before 0 xs) (size : ℕ) (se : size ≡ putEnd before 0 xs)
     (heard : List ℕ) (c : ℕ) (ce : c ≡ getD word 0 0) where
   module _ (clear : firstCause (connectedCauses s) ≡ Clear) where
-    some : 1 ≤ length (content 2 s)
+    some : 1 ≤ length (wordIn s)
     some = clear-distinguishes s clear .commands .some
 
     fits : 0 + length xs ≤ length before
@@ -75,14 +73,14 @@ module _ (s : List ℕ) (l : Loaded) (h : ConnectedFrom s l) (before xs : List �
         ∙ take-paste before 0 xs (length xs) (omega arith) (omega arith)
         ∙ take-length xs
 
-    command-is : c ≡ getD (content 2 s) 0 0
+    command-is : c ≡ getD (wordIn s) 0 0
     command-is =
         ce
         ∙ sym (getD-take size word 0 0 (omega (arith, size-is, ap length xe, some)))
         ∙ ap (λ (x : List ℕ). getD x 0 0) (word-is ∙ xe)
 
-    order-is : orderOn s [] ≡ Command (getD (content 2 s) 0 0)
-    order-is = order-reading (machineIn s) (content 2 s) [] (omega (arith, some))
+    order-is : orderOn s [] ≡ Command (getD (wordIn s) 0 0)
+    order-is = order-reading (machineIn s) (wordIn s) [] (omega (arith, some))
 
     begins : Reached s [] (firstDesk l word size heard c)
     begins = record {
@@ -90,11 +88,10 @@ module _ (s : List ℕ) (l : Loaded) (h : ConnectedFrom s l) (before xs : List �
       machine = h .machine (h .check ∙ clear);
       size = size-is ∙ ap length xe;
       word = word-is ∙ xe;
-      phase = sym (phase-reading (machineIn s) (content 2 s) [] (omega (arith, some)));
+      phase = sym (phase-reading (machineIn s) (wordIn s) [] (omega (arith, some)));
       heard = λ _. refl;
       waits = λ f q.
-          let both : Command (getD (content 2 s) 0 0) ≡ Command f = sym order-is ∙ q in
-          let same-command : getD (content 2 s) 0 0 ≡ f = cc in
+          let same-command : getD (wordIn s) 0 0 ≡ f = cc (sym order-is ∙ q) in
           (refl, command-is ∙ same-command);
     }
 

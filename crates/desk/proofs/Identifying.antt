@@ -6,9 +6,9 @@ use mathlib.Core.Bool.{true, false, true≢false}
 use mathlib.Core.List.{List, [], _∷_, _++_}
 use mathlib.Core.Option.{none}
 use native.Mathlib.Omega.{arith}
-use native.Mathlib.Numerals.{add-one}
 use lib.ListN.{length, getD, take}
-use lib.Seq.{take-all, take-suc, getD-take, getD-at, length-take-le}
+use lib.Seq.{take-all, getD-take, getD-at, length-take-le}
+use Rattle.facts.specs.Lists.{take-more}
 use Rattle.machine.specs.Machine.{Mealy, run, answers}
 use Rattle.machine.specs.Machine.Laws.{run-none, run-cons, run-append, answers-none, answers-cons, answers-append}
 use Rattle.machine.specs.Machine.Laws.{answers-take, answers-length}
@@ -31,17 +31,13 @@ module _ (M : Mealy) (w ys : List ℕ) (s : ℕ) (even : length w ≡ length ys)
     at = sym (run-none M s);
   }
 
-  -- the first commands and one more
-  one-more : (i : ℕ) → i < length w → take (i + 1) w ≡ take i w ++ (getD w i 0 ∷ [])
-  one-more i l = ap (λ (n : ℕ). take n w) (add-one i) ∙ take-suc w i 0 l
-
   module _ {state i : ℕ} (h : Following M w ys s state i) (l : i < length w) where
     answer-here : getD (answers M s w) i 0 ≡ M .answer state (getD w i 0)
     answer-here =
         sym (getD-take (i + 1) (answers M s w) i 0 (omega arith))
         ∙ ap (λ (x : List ℕ). getD x i 0)
         (answers-take M s (i + 1) w
-        ∙ ap (answers M s) (one-more i l)
+        ∙ ap (answers M s) (take-more w i l)
         ∙ answers-append M s (take i w) (getD w i 0 ∷ [])
         ∙ ap (_++_ (answers M s (take i w))) (answers-cons M (run M s (take i w)) (getD w i 0) []))
         ∙ getD-at (answers M s (take i w)) (M .answer (run M s (take i w)) (getD w i 0))
@@ -64,19 +60,19 @@ module _ (M : Mealy) (w ys : List ℕ) (s : ℕ) (even : length w ≡ length ys)
     following-next {v} {y} {t} ve ye q te = record {
       inside = omega arith;
       same =
-          ap (answers M s) (one-more i l)
+          ap (answers M s) (take-more w i l)
           ∙ answers-append M s (take i w) (getD w i 0 ∷ [])
           ∙ ap₂ _++_ (h .same)
           (answers-cons M (run M s (take i w)) (getD w i 0) []
           ∙ ap₂ _∷_
           (ap (λ (x : ℕ). M .answer x (getD w i 0)) (sym (h .at)) ∙ sym ve ∙ q ∙ ye)
           (answers-none M (M .next (run M s (take i w)) (getD w i 0))))
-          ∙ sym (ap (λ (n : ℕ). take n ys) (add-one i) ∙ take-suc ys i 0 (omega arith));
+          ∙ sym (take-more ys i (omega arith));
       at =
           te
           ∙ ap (λ (x : ℕ). M .next x (getD w i 0)) (h .at)
           ∙ sym
-          (ap (run M s) (one-more i l)
+          (ap (run M s) (take-more w i l)
           ∙ run-append M s (take i w) (getD w i 0 ∷ [])
           ∙ run-cons M (run M s (take i w)) (getD w i 0) []
           ∙ run-none M (M .next (run M s (take i w)) (getD w i 0)));

@@ -6,9 +6,8 @@ use mathlib.Core.Bool.{true, false}
 use mathlib.Core.List.{List, [], _∷_, _++_}
 use mathlib.Core.Option.{some, mem-unique}
 use native.Mathlib.Omega.{arith}
-use native.Mathlib.Numerals.{add-one}
-use lib.ListN.{length, getD, set, take}
-use lib.Seq.{getD-take, take-suc-set}
+use lib.ListN.{length, getD, take}
+use lib.Seq.{getD-take}
 use Rattle.facts.specs.FirstOf.{some-none, guard-some}
 use Rattle.machine.specs.Limits.{mostWord}
 use Rattle.machine.specs.Machine.{Mealy, run, meaning}
@@ -169,8 +168,3 @@ module _ (d : Desk) (position y : ℕ) where
       };
       finds = λ k m. absurd (apart k);
     }
-
--- ---- an answer written to its place
-pub heard-now : (heard : List ℕ) (at y : ℕ) → at < length heard
-    → take (at + 1) (set heard at y) ≡ take at heard ++ (y ∷ [])
-heard-now heard at y l = ap (λ (n : ℕ). take n (set heard at y)) (add-one at) ∙ take-suc-set heard at y l

@@ -2,18 +2,18 @@
 -- Assumes nothing.
 use Prim.Native.Nat.{ℕ, _+_, _-_, _≤_, _<_}
 use mathlib.Core.Path.{_≡_, refl, sym, ap, ap₂, subst, _∙_}
-use mathlib.Core.Bool.{Bool, true, false}
+use mathlib.Core.Bool.{true, true≢false}
+use mathlib.Core.Logic.{inl, inr}
 use mathlib.Core.List.{List, [], _∷_, _++_}
 use mathlib.Core.Option.{none, some, mem-unique, Option·some-ne-none}
 use native.Mathlib.Omega.{arith}
-use lib.Dec.{eqb, ltb}
 use lib.ListN.{length, getD, take, length-append}
 use lib.Seq.{take-all, getD-take}
-use borrow.Author.Tests.{eqb-true, eqb-false, ltb-true, ltb-false}
-use Rattle.facts.specs.FirstOf.{Seen, nothing, value, seen}
+use Rattle.facts.specs.Numbers.{equal-or-not, less-or-not}
+use Rattle.facts.specs.FirstOf.{nothing, value, seen}
 use Rattle.sheet.specs.declared.check.Check.the-variants.{Clear}
 use Rattle.sheet.specs.Check.{firstCause}
-use Rattle.sheet.specs.Reader.{content}
+use Rattle.sheet.specs.Reader.{wordIn}
 use Rattle.sheet.specs.Values.Laws.{returns-specified}
 use Rattle.machine.specs.Machine.{Mealy, run, meaning, Distinguishes}
 use Rattle.machine.specs.Causes.{machineIn}
@@ -27,11 +27,9 @@ use Rattle.desk.specs.declared.desk.Phase.{Phase}
 use Rattle.desk.specs.declared.desk.Phase.the-variants.{Reading, Driving, Home as HomePhase}
 use Rattle.desk.specs.declared.desk.Phase.the-variants.{Stranger as StrangerPhase}
 use Rattle.desk.specs.declared.stepping.Stepped.{Stepped}
-use Rattle.desk.specs.Desk.{firstState, beganIn, orderOf, isEnd, phaseOf}
-use Rattle.desk.specs.Desk.Laws.{first-answers, began-is, order-reading}
-use Rattle.desk.specs.Desk.Laws.{order-none}
+use Rattle.desk.specs.Desk.{firstState, orderOf, isEnd, phaseOf}
+use Rattle.desk.specs.Desk.Laws.{first-answers, began-is, order-reading, order-none, along-command}
 use Rattle.desk.specs.Desk.Laws.{course-short, Along, along-word, along-length, along-read, along-home}
-use Rattle.desk.specs.Desk.Laws.{along-command}
 use Rattle.desk.specs.Desk.Laws.{along-differs, along-next, along-reached, along-phase}
 use Rattle.desk.specs.Desk.Agreement.{Suited, clear-suited, course-transfer, order-along}
 use Rattle.desk.specs.Desk.Ends.{order-repeats, end-read, phase-reading, phase-home, phase-stranger, phase-read}
@@ -46,12 +44,12 @@ record Correct (s ys : List ℕ) (r : Stepped) : Type 0 where
 
 -- ---- a sheet that is not refused, and a desk with its machine and word
 module _ (s : List ℕ) (clear : firstCause (connectedCauses s) ≡ Clear) (d : Desk)
-    (me : meaning (d .machine) ≡ machineIn s) (se : d .size ≡ length (content 2 s)) (we : wordOf d ≡ content 2 s) where
+    (me : meaning (d .machine) ≡ machineIn s) (se : d .size ≡ length (wordIn s)) (we : wordOf d ≡ wordIn s) where
   abbrev M : Mealy
   M = machineIn s
 
   abbrev w : List ℕ
-  w = content 2 s
+  w = wordIn s
 
   suited : Suited M w
   suited = clear-suited s clear
@@ -152,43 +150,31 @@ module _ (s : List ℕ) (clear : firstCause (connectedCauses s) ≡ Clear) (d : 
 
   hears-last : (p : ℕ) (zs : List ℕ) → p + 1 ≡ length w → length zs ≡ length w → {r : Stepped} → Finds d p zs r
       → Correct s zs r
-  hears-last p zs l long {r} h = go (seen (firstState M w zs (M .n)))
-    where
-      began : beganIn M w zs ≡ firstState M w zs (M .n)
-      began =
-          began-is M w zs ∙ ap (λ (x : List ℕ). firstState M w x (M .n)) (take-all (length w) zs (omega (arith, long)))
-
-      theirs : firstState (meaning (d .machine)) (wordOf d) zs (meaning (d .machine) .n) ≡ firstState M w zs (M .n)
-      theirs = ap₂ (λ (N : Mealy) (x : List ℕ). firstState N x zs (N .n)) me we
-
-      go : Seen (firstState M w zs (M .n)) → Correct s zs r
-      go (nothing e) =
-          let place : length w - 1 ≡ p = omega arith in
-          ended-stranger zs p (omega (arith, long))
-          (order-none M w zs (omega (arith, long)) (began ∙ e) ∙ ap Stranger place) (h .missing (theirs ∙ e))
-      go (value b e) =
-          let f = first-answers M w zs (M .n) e in
-          let t = course-transfer M w suited b (f .0) in
-          let a : Along M w b w (t .0) zs =
-          subst (λ (x : List ℕ). Along M w b w (t .0) x) (f .1) (along-word M w b (f .0) (t .1)) in
-          arrived (t .0) a (ap₂ (λ (N : Mealy) (x : List ℕ). run N b x) me we) (l ∙ sym long) (h .found b (theirs ∙ e))
+  hears-last p zs l long h =
+      let began =
+      began-is M w zs ∙ ap (λ (x : List ℕ). firstState M w x (M .n)) (take-all (length w) zs (omega (arith, long))) in
+      let theirs = ap₂ (λ (N : Mealy) (x : List ℕ). firstState N x zs (N .n)) me we in
+      elim (seen (firstState M w zs (M .n))) [
+        | nothing e ↦ (let place : length w - 1 ≡ p = omega arith in
+            ended-stranger zs p (omega (arith, long))
+            (order-none M w zs (omega (arith, long)) (began ∙ e) ∙ ap Stranger place) (h .missing (theirs ∙ e)))
+        | value b e ↦ (let f = first-answers M w zs (M .n) e in
+            let t = course-transfer M w suited b (f .0) in
+            let a = subst (Along M w b w (t .0)) (f .1) (along-word M w b (f .0) (t .1)) in
+            arrived (t .0) a (ap₂ (λ (N : Mealy) (x : List ℕ). run N b x) me we) (l ∙ sym long)
+            (h .found b (theirs ∙ e)))
+      ]
 
   hears-right : (ys : List ℕ) (y : ℕ) → Reached s ys d → length ys < length w → {r : Stepped}
       → Hears d (length ys) y r → Correct s (ys ++ (y ∷ [])) r
-  hears-right ys y g l {r} h = go (ltb (length ys + 1) (length w)) refl
-    where
-      few : d .size ≤ 16
-      few = omega (arith, se, word .commands .few)
-
-      go : (b : Bool) → ltb (length ys + 1) (length w) ≡ b → Correct s (ys ++ (y ∷ [])) r
-      go true e =
-          let k = ltb-true (length ys + 1) (length w) e in
-          hears-more ys y g k (h .reads (omega (arith, se)) few)
-      go false e =
-          let k = ltb-false (length ys + 1) (length w) e in
-          let last : length ys + 1 ≡ length w = omega arith in
-          let q = h .finds (last ∙ sym se) few in
-          hears-last (length ys) (ys ++ (y ∷ [])) last (one-longer ys y ∙ last) (rw (g .heard l) at q)
+  hears-right ys y g l h =
+      let few : d .size ≤ 16 = omega (arith, se, word .commands .few) in
+      elim (less-or-not (length ys + 1) (length w)) [
+        | inl k ↦ hears-more ys y g k (h .reads (omega (arith, se)) few)
+        | inr k ↦ (let last : length ys + 1 ≡ length w = omega arith in
+            hears-last (length ys) (ys ++ (y ∷ [])) last (one-longer ys y ∙ last)
+            (rw (g .heard l) at (h .finds (last ∙ sym se) few)))
+      ]
 
   -- ---- the answer to a command of the transfer
   drives-right : (ys : List ℕ) (y at : ℕ) → Reached s ys d → d .phase ≡ Driving at → {r : Stepped} → Drives d at y r
@@ -206,7 +192,14 @@ module _ (s : List ℕ) (clear : firstCause (connectedCauses s) ≡ Clear) (d : 
     where
       go : (c b : ℕ) (v u : List ℕ) → Along M w b v (c ∷ u) ys → at ≡ run M b v
           → (d .count ≡ length ys) × (d .sent ≡ c) → Correct s (ys ++ (y ∷ [])) r
-      go c b v u on here waiting = tested (eqb (M .answer (run M b v) c) y) refl
+      go c b v u on here waiting = elim (equal-or-not (M .answer (run M b v) c) y) [
+        | inl same-answer ↦ arrived u (along-next M w on c u refl y same-answer) next-is
+            (ap (λ (n : ℕ). n + 1) (waiting .0) ∙ sym (one-longer ys y))
+            (h .arrives (answer-is ∙ same-answer) small)
+        | inr apart ↦ (let strange = along-differs M w on c u refl (word .separates) y apart in
+            ended-stranger (ys ++ (y ∷ [])) (d .count) (omega (arith, one-longer ys y, along-read M w on))
+            (strange ∙ ap Stranger (sym (waiting .0))) (h .differs (λ q. apart (sym answer-is ∙ q))))
+      ]
         where
           answer-is : meaning (d .machine) .answer at (d .sent) ≡ M .answer (run M b v) c
           answer-is =
@@ -231,19 +224,6 @@ module _ (s : List ℕ) (clear : firstCause (connectedCauses s) ≡ Clear) (d : 
                 suited .proper .few-states,
               )
 
-          tested : (t : Bool) → eqb (M .answer (run M b v) c) y ≡ t → Correct s (ys ++ (y ∷ [])) r
-          tested true e =
-              let same-answer = eqb-true (M .answer (run M b v) c) y e in
-              arrived u (along-next M w on c u refl y same-answer) next-is
-              (ap (λ (n : ℕ). n + 1) (waiting .0) ∙ sym (one-longer ys y))
-              (h .arrives (answer-is ∙ same-answer) small)
-          tested false e =
-              let apart = eqb-false (M .answer (run M b v) c) y e in
-              let strange = along-differs M w on c u refl (word .separates) y apart in
-              let far = along-read M w on in
-              ended-stranger (ys ++ (y ∷ [])) (d .count) (omega (arith, one-longer ys y, far))
-              (strange ∙ ap Stranger (sym (waiting .0))) (h .differs (λ q. apart (sym answer-is ∙ q)))
-
   -- ---- an end stays
   stays-right : (ys : List ℕ) (y : ℕ) (o : Order) → Reached s ys d → isEnd (orderOn s ys) ≡ true → orderOn s ys ≡ o
       → d .phase ≡ phaseOf M w (ys ++ (y ∷ [])) → Correct s (ys ++ (y ∷ [])) (record { order = o; desk = d })
@@ -256,11 +236,8 @@ module _ (s : List ℕ) (clear : firstCause (connectedCauses s) ≡ Clear) (d : 
         desk =
             reached-by zs d (record { machine = refl; size = refl; word = refl }) p
             (past zs (omega (arith, far, one-longer ys y)))
-            (λ c q. command-end (sym same-end ∙ q) t);
+            (λ c q. absurd (true≢false (sym t ∙ ap isEnd (sym same-end ∙ q))));
       }
-    where
-      command-end : {A : Type 0} {x : Order} {c : ℕ} → x ≡ Command c → isEnd x ≡ true → A
-      command-end q u = let z : false ≡ true = cc in let i : _≡_ {A = ℕ} 0 1 = cc in absurd (omega arith)
 
 -- ---- step
 -- what step promises, by the phase of the desk
@@ -280,7 +257,7 @@ module _ (d : Desk) (y : ℕ) where
   hears-steps {p} pe {r} h =
       right-steps
       (λ s ys g.
-      let q = phase-read (machineIn s) (content 2 s) ys (sym (g .phase) ∙ pe) in
+      let q = phase-read (machineIn s) (wordIn s) ys (sym (g .phase) ∙ pe) in
       hears-right s (g .clear) d (g .machine) (g .size) (g .word) ys y g (q .0)
       (subst (λ (n : ℕ). Hears d n y r) (q .1) h))
       (λ e f. no-end (Reading p) e pe refl f)
@@ -295,26 +272,20 @@ module _ (d : Desk) (y : ℕ) where
   home-steps {n} pe =
       right-steps
       (λ s ys g.
-      let o = phase-at-home (machineIn s) (content 2 s) ys (sym (g .phase) ∙ pe) in
+      let o = phase-at-home (machineIn s) (wordIn s) ys (sym (g .phase) ∙ pe) in
       let t = ap isEnd o in
       stays-right s (g .clear) d (g .machine) (g .size) (g .word) ys y (Home n) g t o
-      (pe ∙ sym (phase-home (machineIn s) (content 2 s) (ys ++ (y ∷ []))
-      (order-repeats (machineIn s) (content 2 s) ys t (y ∷ []) ∙ o))))
-      (λ e f. (same-end e (sym (ap endOf pe) ∙ f), refl))
-    where
-      same-end : (e : Order) → some (Home n) ≡ some e → Home n ≡ e
-      same-end e q = mem-unique refl q
+      (pe ∙ sym (phase-home (machineIn s) (wordIn s) (ys ++ (y ∷ []))
+      (order-repeats (machineIn s) (wordIn s) ys t (y ∷ []) ∙ o))))
+      (λ e f. (mem-unique (ap endOf pe) f, refl))
 
   pub stranger-steps : {p : ℕ} → d .phase ≡ StrangerPhase p → Steps d y (record { order = Stranger p; desk = d })
   stranger-steps {p} pe =
       right-steps
       (λ s ys g.
-      let o = phase-at-stranger (machineIn s) (content 2 s) ys (sym (g .phase) ∙ pe) in
+      let o = phase-at-stranger (machineIn s) (wordIn s) ys (sym (g .phase) ∙ pe) in
       let t = ap isEnd o in
       stays-right s (g .clear) d (g .machine) (g .size) (g .word) ys y (Stranger p) g t o
-      (pe ∙ sym (phase-stranger (machineIn s) (content 2 s) (ys ++ (y ∷ []))
-      (order-repeats (machineIn s) (content 2 s) ys t (y ∷ []) ∙ o))))
-      (λ e f. (same-end e (sym (ap endOf pe) ∙ f), refl))
-    where
-      same-end : (e : Order) → some (Stranger p) ≡ some e → Stranger p ≡ e
-      same-end e q = mem-unique refl q
+      (pe ∙ sym (phase-stranger (machineIn s) (wordIn s) (ys ++ (y ∷ []))
+      (order-repeats (machineIn s) (wordIn s) ys t (y ∷ []) ∙ o))))
+      (λ e f. (mem-unique (ap endOf pe) f, refl))

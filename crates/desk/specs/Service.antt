@@ -10,7 +10,7 @@ use Rattle.sheet.specs.declared.check.Check.the-variants.{Clear}
 use Rattle.sheet.specs.declared.check.Values.{Values}
 use Rattle.sheet.specs.Check.{firstCause, refusedOr}
 use Rattle.sheet.specs.Values.{refusalValues, Returns}
-use Rattle.sheet.specs.Reader.{content}
+use Rattle.sheet.specs.Reader.{wordIn}
 use Rattle.machine.specs.Machine.{meaning}
 use Rattle.machine.specs.Causes.{machineIn}
 use Rattle.build.specs.Building.{connectedCauses}
@@ -30,7 +30,7 @@ pub mod Homecoming
 
 -- what the desk orders of a sheet after the answers ys
 abbrev pub orderOn : List ℕ → List ℕ → Order
-orderOn s ys = orderOf (machineIn s) (content 2 s) ys
+orderOn s ys = orderOf (machineIn s) (wordIn s) ys
 
 -- the list of answers ys leads to this desk, on a sheet that is not refused. Machine, word and phase are then fixed;
 -- the answers are kept while not all of the word is answered, their number and the last command while one is waited
@@ -38,16 +38,16 @@ orderOn s ys = orderOf (machineIn s) (content 2 s) ys
 pub record Reached (s ys : List ℕ) (d : Desk) : Type 0 where
   pub clear : firstCause (connectedCauses s) ≡ Clear
   pub machine : meaning (d .machine) ≡ machineIn s
-  pub size : d .size ≡ length (content 2 s)
-  pub word : take (d .size) (d .word) ≡ content 2 s
-  pub phase : d .phase ≡ phaseOf (machineIn s) (content 2 s) ys
-  pub heard : length ys < length (content 2 s) → take (length ys) (d .heard) ≡ ys
+  pub size : d .size ≡ length (wordIn s)
+  pub word : take (d .size) (d .word) ≡ wordIn s
+  pub phase : d .phase ≡ phaseOf (machineIn s) (wordIn s) ys
+  pub heard : length ys < length (wordIn s) → take (length ys) (d .heard) ≡ ys
   pub waits : (c : ℕ) → orderOn s ys ≡ Command c → (d .count ≡ length ys) × (d .sent ≡ c)
 
 -- ---- start
 -- the answer of start (§13.2): the word's first command, or the first refusal of the causes of loading and 8
 unfoldable pub starting : List ℕ → First
-starting s = refusedOr RefusedFirst (firstCause (connectedCauses s)) (FirstCommand (getD (content 2 s) 0 0))
+starting s = refusedOr RefusedFirst (firstCause (connectedCauses s)) (FirstCommand (getD (wordIn s) 0 0))
 
 -- number and values of each answer of start (§4.4): the command, for which §8.3 has no class, or a refusal's
 abbrev pub firstValues : First → Values ⊎ ℕ

@@ -2,12 +2,14 @@
 -- shorter one. Judging (§7) and the desk (§13.1) compare answers by it.
 use Prim.Native.Nat.{ℕ, zero, suc, _≤_, _<_}
 use mathlib.Core.Path.{_≡_, refl, sym, ap, _∙_}
-use mathlib.Core.Bool.{Bool, true, false}
+use mathlib.Core.Bool.{true, false}
+use mathlib.Core.Logic.{inl, inr}
 use mathlib.Core.List.{List, [], _∷_, _++_}
 use native.Mathlib.Omega.{arith}
 use lib.Dec.{eqb}
 use lib.ListN.{length, getD, length-append, List·getD-append}
-use borrow.Author.Tests.{eqb-true, eqb-false}
+use borrow.Author.Tests.{eqb-true, eqb-false, eq-eqb, ne-eqb}
+use Rattle.facts.specs.Tests.{true-or-false}
 
 -- how many elements from the front are equal
 unfoldable pub agreed : List ℕ → List ℕ → ℕ
@@ -46,12 +48,10 @@ pub agreed-holds : (xs ys : List ℕ) → Agreed xs ys (agreed xs ys)
 unfolding agreed
 agreed-holds [] ys = agreed-none [] ys (λ k l q. omega arith)
 agreed-holds (x ∷ xs) [] = agreed-none (x ∷ xs) [] (λ k l q. omega arith)
-agreed-holds (x ∷ xs) (y ∷ ys) = go (agreed-holds xs ys) (eqb x y) refl
-  where
-    go : Agreed xs ys (agreed xs ys) → (t : Bool) → eqb x y ≡ t
-        → Agreed (x ∷ xs) (y ∷ ys) (elim t [ true ↦ suc (agreed xs ys) | false ↦ 0 ])
-    go h true e = agreed-more x y xs ys (agreed xs ys) (eqb-true x y e) h
-    go h false e = agreed-none (x ∷ xs) (y ∷ ys) (λ k l q. eqb-false x y e q)
+agreed-holds (x ∷ xs) (y ∷ ys) = elim (true-or-false (eqb x y)) [
+  | inl e ↦ rw (agreed, e) (agreed-more x y xs ys (agreed xs ys) (eqb-true x y e) (agreed-holds xs ys))
+  | inr e ↦ rw (agreed, e) (agreed-none (x ∷ xs) (y ∷ ys) (λ k l q. eqb-false x y e q))
+]
 
 -- there is one such place
 agreed-one : (xs ys : List ℕ) (p q : ℕ) → Agreed xs ys p → Agreed xs ys q → p < q → ⊥
@@ -59,11 +59,9 @@ agreed-one xs ys p q h k l = h .here (omega (arith, k .in-first)) (omega (arith,
 
 pub agreed-is : (xs ys : List ℕ) (p : ℕ) → Agreed xs ys p → p ≡ agreed xs ys
 agreed-is xs ys p h =
-    equal (agreed-one xs ys p (agreed xs ys) h (agreed-holds xs ys))
-    (agreed-one xs ys (agreed xs ys) p (agreed-holds xs ys) h)
-  where
-    equal : (p < agreed xs ys → ⊥) → (agreed xs ys < p → ⊥) → p ≡ agreed xs ys
-    equal a b = omega arith
+    let a = agreed-one xs ys p (agreed xs ys) h (agreed-holds xs ys) in
+    let b = agreed-one xs ys (agreed xs ys) p (agreed-holds xs ys) h in
+    omega arith
 
 -- ---- of lists with a known common prefix
 -- a list and its prefix agree as far as the prefix goes
@@ -71,28 +69,14 @@ pub agreed-front : (xs zs : List ℕ) → agreed (xs ++ zs) xs ≡ length xs
 unfolding agreed
 agreed-front [] [] = refl
 agreed-front [] (z ∷ zs) = refl
-agreed-front (x ∷ xs) zs = go (eqb x x) refl (agreed-front xs zs)
-  where
-    go : (t : Bool) → eqb x x ≡ t → agreed (xs ++ zs) xs ≡ length xs
-        → _≡_ {A = ℕ} (elim t [ true ↦ suc (agreed (xs ++ zs) xs) | false ↦ 0 ]) (suc (length xs))
-    go true e h = ap suc h
-    go false e h = absurd (eqb-false x x e refl)
+agreed-front (x ∷ xs) zs = rw (agreed, eq-eqb x x refl) (ap suc (agreed-front xs zs))
 
 -- lists that differ behind a common prefix agree as far as that goes
 pub agreed-then : (xs : List ℕ) (a b : ℕ) (us vs : List ℕ) → (a ≡ b → ⊥)
     → agreed (xs ++ (a ∷ us)) (xs ++ (b ∷ vs)) ≡ length xs
 unfolding agreed
-agreed-then [] a b us vs d = go (eqb a b) refl
-  where
-    go : (t : Bool) → eqb a b ≡ t → _≡_ {A = ℕ} (elim t [ true ↦ suc (agreed us vs) | false ↦ 0 ]) 0
-    go true e = absurd (d (eqb-true a b e))
-    go false e = refl
-agreed-then (x ∷ xs) a b us vs d = go (eqb x x) refl (agreed-then xs a b us vs d)
-  where
-    go : (t : Bool) → eqb x x ≡ t → agreed (xs ++ (a ∷ us)) (xs ++ (b ∷ vs)) ≡ length xs
-        → _≡_ {A = ℕ} (elim t [ true ↦ suc (agreed (xs ++ (a ∷ us)) (xs ++ (b ∷ vs))) | false ↦ 0 ]) (suc (length xs))
-    go true e h = ap suc h
-    go false e h = absurd (eqb-false x x e refl)
+agreed-then [] a b us vs d = rw (agreed, ne-eqb a b d)
+agreed-then (x ∷ xs) a b us vs d = rw (agreed, eq-eqb x x refl) (ap suc (agreed-then xs a b us vs d))
 
 -- what follows the second list changes nothing where it has all of the first, or where they differ in it
 pub agreed-longer : (xs ys zs : List ℕ) → length xs ≤ agreed xs ys → agreed xs (ys ++ zs) ≡ agreed xs ys

@@ -88,44 +88,35 @@ module _ {A : Type 0} where
 
   -- what is found is the least
   pub first-some : (n : ℕ) (f : ℕ → Option A) {t : A} → firstOf n f ≡ some t → Least n f t
-  first-some n f {t} e = go (first n f)
-    where
-      go : First n f (firstOf n f) → Least n f t
-      go (nowhere h q) = absurd (some-none e q)
-      go (at m u l p h q) = record { m = m; low = l; found = p ∙ ap some (mem-unique q e); passed = h }
+  first-some n f e = elim (first n f) [
+    | nowhere h q ↦ absurd (some-none e q)
+    | at m u l p h q ↦ record { m = m; low = l; found = p ∙ ap some (mem-unique q e); passed = h }
+  ]
 
   -- it finds the least
   pub least-first : (n : ℕ) (f : ℕ → Option A) {t : A} → Least n f t → firstOf n f ≡ some t
-  least-first n f {t} k = go (first n f)
-    where
-      go : First n f (firstOf n f) → firstOf n f ≡ some t
-      go (nowhere h q) = absurd (some-none (k .found) (h (k .m) (k .low)))
-      go (at m u l p h q) =
-          let below : m < k .m → ⊥ = λ z. some-none p (k .passed m z) in
-          let above : k .m < m → ⊥ = λ z. some-none (k .found) (h (k .m) z) in
-          let e : m ≡ k .m = omega arith in
-          q ∙ ap some (mem-unique (rw e at p) (k .found))
+  least-first n f k = elim (first n f) [
+    | nowhere h q ↦ absurd (some-none (k .found) (h (k .m) (k .low)))
+    | at m u l p h q ↦ (let below : m < k .m → ⊥ = λ z. some-none p (k .passed m z) in
+        let above : k .m < m → ⊥ = λ z. some-none (k .found) (h (k .m) z) in
+        let e : m ≡ k .m = omega arith in
+        q ∙ ap some (mem-unique (rw e at p) (k .found)))
+  ]
 
   -- where f m is a value, a value is found
   pub some-first : (n : ℕ) (f : ℕ → Option A) (m : ℕ) {t : A} → m < n → f m ≡ some t → Some (firstOf n f)
-  some-first n f m {t} l e = go (first n f)
-    where
-      go : First n f (firstOf n f) → Some (firstOf n f)
-      go (nowhere h q) = absurd (some-none e (h m l))
-      go (at i u k p h q) = (u, q)
+  some-first n f m l e = elim (first n f) [
+    | nowhere h q ↦ absurd (some-none e (h m l))
+    | at i u k p h q ↦ (u, q)
+  ]
 
   -- where each is none, it finds none
   pub none-first : (n : ℕ) (f : ℕ → Option A) → ((i : ℕ) → i < n → f i ≡ none) → firstOf n f ≡ none
-  none-first n f h = go (first n f)
-    where
-      go : First n f (firstOf n f) → firstOf n f ≡ none
-      go (nowhere k q) = q
-      go (at m u l p k q) = absurd (some-none p (h m l))
+  none-first n f h = elim (first n f) [ nowhere k q ↦ q | at m u l p k q ↦ absurd (some-none p (h m l)) ]
 
   -- where it finds none, each is none
   pub first-none : (n : ℕ) (f : ℕ → Option A) → firstOf n f ≡ none → (i : ℕ) → i < n → f i ≡ none
-  first-none n f e i l = go (seen (f i))
-    where
-      go : Seen (f i) → f i ≡ none
-      go (nothing q) = q
-      go (value t q) = absurd (some-none (some-first n f i l q .1) e)
+  first-none n f e i l = elim (seen (f i)) [
+    | nothing q ↦ q
+    | value t q ↦ absurd (some-none (some-first n f i l q .1) e)
+  ]

@@ -8,7 +8,7 @@ use mathlib.Core.List.{List, [], _∷_}
 use mathlib.Core.Option.{Option, none, some, Option·map, mem-unique, map-eq-none-iff, map-eq-some-iff}
 use native.Mathlib.Omega.{arith}
 use lib.ListN.{length}
-use Rattle.facts.specs.ByteOrder.{Before, First-lower, head, tail, before-cons}
+use Rattle.facts.specs.ByteOrder.{Before, head, tail, before-cons}
 use Rattle.facts.specs.FirstOf.{Some, some-none, guard, guard-some, guard-true}
 use Rattle.facts.specs.FirstOf.{guard-false, guard-none, firstOf, first-some, some-first, none-first}
 
@@ -125,10 +125,8 @@ module _ {S : Type 0} (k : ℕ) (inside : S → Bool) (step : S → ℕ → S) (
   string-first (suc m) s {t} e [] h l f = omega arith
   string-first (suc m) s {t} e (c ∷ u) h l f =
       let w = string-step m s e in
-      go w (h .2) (omega arith) (before-cons c (w .element) u (w .rest) (rw (w .string) at f))
-      (string-first m (step s (w .element)) (w .found))
-    where
-      go : (w : Step m s t) → Accepted (step s c) u → length u ≡ m → First-lower c (w .element) u (w .rest)
-          → ((v : List ℕ) → Accepted (step s (w .element)) v → length v ≡ m → Before v (w .rest) → ⊥) → ⊥
-      go w a um (head x) again = some-none (accepted-some u (step s c) a .1) (rw um (w .passed c x))
-      go w a um (tail x y) again = again u (rw (← x) a) um y
+      let um : length u ≡ m = omega arith in
+      elim (before-cons c (w .element) u (w .rest) (rw (w .string) at f)) [
+        | head x ↦ some-none (accepted-some u (step s c) (h .2) .1) (rw um (w .passed c x))
+        | tail x y ↦ string-first m (step s (w .element)) (w .found) u (rw (← x) (h .2)) um y
+      ]

@@ -5,6 +5,7 @@ pub mod Pasting
 pub mod Pigeonhole
 pub mod CommonPrefix
 pub mod FirstOf
+pub mod Bytes
 pub mod ByteOrder
 pub mod FirstString
 pub mod Decimal

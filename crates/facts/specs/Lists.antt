@@ -1,14 +1,19 @@
--- Lists of numbers: whether two are equal, lists whose elements are all below a bound, and a property of each element.
+-- Lists of numbers: whether two are equal, the elements before a place and from it on, parts, cells after a store,
+-- lists whose elements are all below a bound, and a property of each element.
 use Prim.Native.Nat.{ℕ, zero, suc, _+_, _<_}
-use mathlib.Core.Path.{_≡_, refl, ap₂}
-use mathlib.Core.Bool.{Bool, true, false, _&&_}
+use mathlib.Core.Path.{_≡_, refl, sym, ap, ap₂, subst, _∙_}
+use mathlib.Core.Bool.{Bool, true, false, true≢false, _&&_, _||_, or-false}
+use mathlib.Core.Logic.{inl, inr}
 use mathlib.Core.List.{List, [], _∷_, _++_}
 use native.Mathlib.Omega.{arith}
+use native.Mathlib.Numerals.{add-one}
 use lib.Dec.{eqb}
-use lib.ListN.{length, getD, take, drop, length-take, length-drop}
-use lib.Seq.{getD-take, getD-drop}
+use lib.ListN.{length, getD, set, take, drop, replicate, length-take, length-drop}
+use lib.Seq.{getD-take, getD-drop, getD-set-same, getD-set-other, take-suc, take-suc-set, drop-cons}
+use borrow.Author.Count.{below-more}
 use borrow.Author.Tests.{eq-eqb, eqb-true}
-use Rattle.facts.specs.Tests.{both-true}
+use Rattle.facts.specs.Tests.{both-true, either-true}
+use Rattle.facts.specs.Numbers.{equal-or-not}
 
 -- ---- equal lists
 -- whether two lists are equal
@@ -29,6 +34,52 @@ same-equal (x ∷ xs) [] e = cc
 same-equal (x ∷ xs) (y ∷ ys) e =
     let h = both-true (eqb x y) (same xs ys) e in
     ap₂ _∷_ (eqb-true x y (h .0)) (same-equal xs ys (h .1))
+
+-- ---- elements
+-- whether a number is an element of a list
+abbrev pub among : ℕ → List ℕ → Bool
+among x [] = false
+among x (y ∷ ys) = eqb x y || among x ys
+
+-- of a list of one
+pub among-one : (x y : ℕ) → among x (y ∷ []) ≡ eqb x y
+among-one x y = or-false (eqb x y)
+
+-- ---- the first elements and one more, the same where it is stored, and the elements from a place on
+pub take-more : (xs : List ℕ) (i : ℕ) → i < length xs → take (i + 1) xs ≡ take i xs ++ (getD xs i 0 ∷ [])
+take-more xs i l = ap (λ (n : ℕ). take n xs) (add-one i) ∙ take-suc xs i 0 l
+
+pub take-stored : (xs : List ℕ) (i v : ℕ) → i < length xs → take (i + 1) (set xs i v) ≡ take i xs ++ (v ∷ [])
+take-stored xs i v l = ap (λ (n : ℕ). take n (set xs i v)) (add-one i) ∙ take-suc-set xs i v l
+
+pub rest-cons : (xs : List ℕ) (i : ℕ) → i < length xs → drop i xs ≡ getD xs i 0 ∷ drop (i + 1) xs
+rest-cons xs i l = drop-cons xs i 0 l ∙ ap (λ (x : ℕ). getD xs i 0 ∷ drop x xs) (sym (add-one i))
+
+-- ---- an element of a part
+pub part-at : (xs : List ℕ) (p m i : ℕ) → i < m → getD (take m (drop p xs)) i 0 ≡ getD xs (p + i) 0
+part-at xs p m i l = getD-take m (drop p xs) i 0 l ∙ getD-drop p xs i 0
+
+-- ---- cells of zeros
+pub zeros : (n i : ℕ) → getD (replicate n zero) i 0 ≡ 0
+zeros zero i = refl
+zeros (suc n) zero = refl
+zeros (suc n) (suc i) = zeros n i
+
+-- ---- cells after a store
+module _ (P : ℕ → ℕ → Type 0) (xs : List ℕ) (i v : ℕ) (l : i < length xs) where
+  -- a property of the cells at other places, and of the one that is stored
+  pub set-cell : ((j : ℕ) → (j ≡ i → ⊥) → P j (getD xs j 0)) → P i v → (j : ℕ) → P j (getD (set xs i v) j 0)
+  set-cell others here j = elim (equal-or-not j i) [
+    | inl e ↦ rw (e, getD-set-same xs i v 0 l) here
+    | inr n ↦ rw (getD-set-other xs i j v 0 n) (others j n)
+  ]
+
+  -- a property of the cells before i, and one more
+  pub set-more : ((j : ℕ) → j < i → P j (getD xs j 0)) → P i v → (j : ℕ) → j < i + 1 → P j (getD (set xs i v) j 0)
+  set-more before here =
+      below-more (λ j. P j (getD (set xs i v) j 0)) i
+      (λ j k. rw (getD-set-other xs i j v 0 (λ e. omega arith)) (before j k))
+      (rw (getD-set-same xs i v 0 l) here)
 
 -- ---- lists below a bound
 -- every element of a list is below k
@@ -73,3 +124,11 @@ module _ (P : ℕ → Type 0) where
   pub append-each : (xs ys : List ℕ) → Each P (xs ++ ys) → Each P xs × Each P ys
   append-each [] ys h = (tt, h)
   append-each (x ∷ xs) ys h = let r = append-each xs ys (h .1) in ((h .0, r .0), r .1)
+
+  -- of one that is among them
+  pub each-among : (x : ℕ) (xs : List ℕ) → Each P xs → among x xs ≡ true → P x
+  each-among x [] h e = absurd (true≢false (sym e))
+  each-among x (y ∷ ys) h e = elim (either-true (eqb x y) (among x ys) e) [
+    | inl q ↦ subst P (sym (eqb-true x y q)) (h .0)
+    | inr q ↦ each-among x ys (h .1) q
+  ]

@@ -12,7 +12,7 @@ use Rattle.sheet.specs.declared.record.Record.{Record}
 use Rattle.sheet.specs.Check.{refusal_with_if_, _else_, firstCause, refusedOr}
 use Rattle.sheet.specs.Values.{refusalValues}
 use Rattle.sheet.specs.Values.Laws.{returns-specified}
-use Rattle.sheet.specs.Reader.{recordOf, content}
+use Rattle.sheet.specs.Reader.{sequenceIn, answersIn, answersRecord}
 use Rattle.machine.specs.Machine.{Mealy}
 use Rattle.machine.specs.Causes.{machineIn}
 use Rattle.certify.specs.declared.answer.Answer.{Answer as Certification}
@@ -26,15 +26,15 @@ use Rattle.judge.specs.Judging.Laws.{cause10-is, judge-causes-are, few-a
 use Rattle.judge.specs.Judging.Laws.{judged-refused, judged-clear, pass-identity}
 
 -- ---- the checks
-module _ (room : ℕ) (s : List ℕ) {r : Record} {xs ys : List ℕ} (re : r ≡ recordOf 4 s) (xe : xs ≡ content 3 s)
-    (ye : ys ≡ content 4 s) where
+module _ (room : ℕ) (s : List ℕ) {r : Record} {xs ys : List ℕ} (re : r ≡ answersRecord s) (xe : xs ≡ sequenceIn s)
+    (ye : ys ≡ answersIn s) where
   pub checks-are : {earlier ten c : Check} → earlier ≡ firstCause (sequenceCauses true room s)
       → ten ≡ (refusal 10 with r .start if ltb (length xs) (length ys)) → c ≡ (earlier else ten)
       → c ≡ firstCause (judgeCauses room s)
   checks-are ee te ce =
       let ten-is : (refusal 10 with r .start if ltb (length xs) (length ys))
-      ≡ cause10 (recordOf 4 s) (content 3 s) (content 4 s) =
-      rw (re, xe, ye) (cause10-is (recordOf 4 s) (content 3 s) (content 4 s)) in
+      ≡ cause10 (answersRecord s) (sequenceIn s) (answersIn s) =
+      rw (re, xe, ye) (cause10-is (answersRecord s) (sequenceIn s) (answersIn s)) in
       ce ∙ ap₂ _else_ ee (te ∙ ten-is) ∙ sym (judge-causes-are room s)
 
   pub few-here : {c : Check} → c ≡ firstCause (judgeCauses room s) → c ≡ Clear → length ys ≤ length xs
@@ -59,7 +59,7 @@ module _ (s before : List ℕ) {c : Check} (ce : c ≡ firstCause (judgeCauses (
     -- by certifying's answer and the marks that it leaves
     module _ {after : List ℕ} {b : Certification} (h : Certifies s before after b) where
       judges-by : {a : Answer}
-          → a ≡ refusedOr RefusedAnswer (cause11 b) (verdict (machineIn s) (content 3 s) (content 4 s))
+          → a ≡ refusedOr RefusedAnswer (cause11 b) (verdict (machineIn s) (sequenceIn s) (answersIn s))
           → Judges s before after a
       judges-by ae = record {
         answer = returns-specified valuesOf (ae ∙ sym (judgement-by (length before) s clear (sym (h .answer .is))));
@@ -67,7 +67,7 @@ module _ (s before : List ℕ) {c : Check} (ce : c ≡ firstCause (judgeCauses (
       }
 
       pub judges-certified : {n : ℕ} {M : Mealy} {xs ys : List ℕ} {a : Answer} → b ≡ Certified n → M ≡ machineIn s
-          → xs ≡ content 3 s → ys ≡ content 4 s → a ≡ verdict M xs ys → Judges s before after a
+          → xs ≡ sequenceIn s → ys ≡ answersIn s → a ≡ verdict M xs ys → Judges s before after a
       unfolding cause11
       judges-certified q me xe ye ae = judges-by (ae ∙ (rw (q, me, xe, ye) refl))
 

@@ -15,7 +15,7 @@ use Rattle.sheet.specs.declared.check.Values.{Values}
 use Rattle.sheet.specs.declared.record.Record.{Record}
 use Rattle.sheet.specs.Check.{refusal_with_if_, firstCause, refusedOr, unlessRefused}
 use Rattle.sheet.specs.Values.{refusalValues, Returns}
-use Rattle.sheet.specs.Reader.{recordOf, content}
+use Rattle.sheet.specs.Reader.{sequenceIn, answersIn, answersRecord}
 use Rattle.machine.specs.Machine.{Mealy, noAnswer, answers, stateAt}
 use Rattle.machine.specs.Causes.{machineIn}
 use Rattle.machine.specs.Unit.{Unit, ownAnswers}
@@ -38,7 +38,7 @@ cause10 r xs ys = refusal 10 with r .start if ltb (length xs) (length ys)
 
 -- the causes of certifying, all four kinds being needed, and 10: those that write nothing (§4.3)
 unfoldable pub judgeCauses : ℕ → List ℕ → List Check
-judgeCauses room s = sequenceCauses true room s ++ (cause10 (recordOf 4 s) (content 3 s) (content 4 s) ∷ [])
+judgeCauses room s = sequenceCauses true room s ++ (cause10 (answersRecord s) (sequenceIn s) (answersIn s) ∷ [])
 
 -- not certified (§4.2), by what certifying answers: an open sequence is refused with its open number. A refusal of
 -- certifying would stay one; there is none here, since judging has refused such a sheet before: certifying-clear, in
@@ -70,7 +70,7 @@ verdict M xs ys = resultAt M xs ys (agreed (answers M (M .start) xs) ys)
 unfoldable pub judgement : ℕ → List ℕ → Answer
 judgement room s =
     refusedOr RefusedAnswer (firstCause (judgeCauses room s))
-    (refusedOr RefusedAnswer (cause11 (certification room s)) (verdict (machineIn s) (content 3 s) (content 4 s)))
+    (refusedOr RefusedAnswer (cause11 (certification room s)) (verdict (machineIn s) (sequenceIn s) (answersIn s)))
 
 -- the lent buffer after judging: that of certifying for a result (§7) and for refusal 11, otherwise as before (§4.3)
 unfoldable pub judgedMarks : List ℕ → List ℕ → List ℕ
@@ -96,5 +96,5 @@ pub record Judges (s before after : List ℕ) (a : Answer) : Type 0 where
 abbrev pub Identity : List ℕ → Answer → Type 0
 Identity s a =
     (U : Unit (machineIn s .n) (machineIn s .k)) (size end : ℕ) → a ≡ Pass size end
-    → content 4 s ≡ ownAnswers (machineIn s .n) (machineIn s .k) U (content 3 s)
-    → Renaming (machineIn s) U (content 3 s) end
+    → answersIn s ≡ ownAnswers (machineIn s .n) (machineIn s .k) U (sequenceIn s)
+    → Renaming (machineIn s) U (sequenceIn s) end

@@ -5,13 +5,16 @@ use mathlib.Core.Path.{_≡_, refl, sym, ap, _∙_}
 use mathlib.Core.Bool.{true}
 use mathlib.Core.List.{List, [], map, flatMap}
 use native.Mathlib.Omega.{arith}
+use lib.Dec.{eqb}
+use borrow.Author.Tests.{eqb-true}
 use lib.ListN.{length, getD, set, take, replicate, List·getD-eq-default}
 use lib.Seq.{take-all}
 use Rattle.machine.specs.declared.house.Entry.{Entry}
 use Rattle.machine.specs.Limits.{mostMachine}
 use Rattle.machine.specs.Machine.{pairAt, machineOf}
 use Rattle.machine.specs.House.{houseTable, houseEntry, housePayload, house}
-use Rattle.machine.specs.House.Laws.{every, rightAt, allRight, right-table, payload-entry, payload-long}
+use Rattle.machine.specs.House.Laws.{every, every-at, rightAt, allRight, right-table, payload-entry, payload-long}
+use Rattle.sheet.specs.Format.{standard}
 
 -- the specified table, row by row, each entry in one number: its next state times 64, plus its answer
 unfoldable pub packedTable : List ℕ
@@ -47,26 +50,30 @@ house-state s c h =
     (sym (List·getD-eq-default houseTable [] {n = s} (omega arith)))
 
 -- an entry's two bytes in the machine record
-pub payload-next : {x : Entry} (e at : ℕ) → e < 16 → x ≡ houseEntry (e / 4) (e % 4) → pairAt e ≡ at
+pub payload-next : {x : Entry} (e at : ℕ) → e < 16 → x ≡ houseEntry (e / 4) (e % 4) → pairAt standard e ≡ at
     → x .next ≡ getD housePayload at 0
 payload-next e at l q here =
     ap (λ (y : Entry). y .next) (q ∙ sym (payload-entry e l)) ∙ ap (λ (i : ℕ). getD housePayload i 0) here
 
-pub payload-answer : {x : Entry} (e at : ℕ) → e < 16 → x ≡ houseEntry (e / 4) (e % 4) → pairAt e + 1 ≡ at
+pub payload-answer : {x : Entry} (e at : ℕ) → e < 16 → x ≡ houseEntry (e / 4) (e % 4) → pairAt standard e + 1 ≡ at
     → x .answer ≡ getD housePayload at 0
 payload-answer e at l q here =
     ap (λ (y : Entry). y .answer) (q ∙ sym (payload-entry e l)) ∙ ap (λ (i : ℕ). getD housePayload i 0) here
 
 -- n and k
-pub payload-starts : (j : ℕ) → j < 2 → getD (set (set (replicate 34 0) 0 4) 1 4) j 0 ≡ getD housePayload j 0
-unfolding housePayload
-payload-starts zero l = refl
-payload-starts (suc zero) l = refl
-payload-starts (suc (suc j)) l = absurd (omega arith)
+abbrev begun : ℕ → ℕ
+begun j = getD (set (set (replicate (standard .table + 32) 0) 0 4) 1 4) j 0
+
+begins : every (standard .table) (λ j. eqb (begun j) (getD housePayload j 0)) ≡ true
+unfolding every housePayload
+begins = refl
+
+pub payload-starts : (j : ℕ) → j < standard .table → begun j ≡ getD housePayload j 0
+payload-starts j l = eqb-true _ _ (every-at (standard .table) (λ j. eqb (begun j) (getD housePayload j 0)) begins j l)
 
 -- the machine that is loaded from it
-pub house-loaded : {p : List ℕ} → p ≡ housePayload → machineOf (take mostMachine p) ≡ house
+pub house-loaded : {p : List ℕ} → p ≡ housePayload → machineOf standard (take (mostMachine standard) p) ≡ house
 unfolding house
 house-loaded {p} e =
-    ap (λ (q : List ℕ). machineOf (take mostMachine q)) e
-    ∙ ap machineOf (take-all mostMachine housePayload (omega (arith, payload-long)))
+    ap (λ (q : List ℕ). machineOf standard (take (mostMachine standard) q)) e
+    ∙ ap (machineOf standard) (take-all (mostMachine standard) housePayload (omega (arith, payload-long)))

@@ -2,5 +2,4 @@ mod Columns
 mod HouseTable
 mod LoadChecks
 mod Pairs
-mod Products
 mod Runs

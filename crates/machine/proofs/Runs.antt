@@ -3,7 +3,7 @@
 use Prim.Native.Nat.{ℕ, _+_, _≤_, _<_}
 use mathlib.Core.Path.{_≡_, refl, sym, ap, ap₂, _∙_}
 use mathlib.Core.Bool.{Bool, true, false, _&&_}
-use mathlib.Core.List.{List, []}
+use mathlib.Core.List.{List}
 use native.Mathlib.Omega.{arith}
 use lib.Dec.{eqb}
 use lib.ListN.{length, getD, drop, drop-of-length-le}
@@ -23,11 +23,7 @@ module _ (M : Mealy) (w : List ℕ) (i j : ℕ) where
 
   module _ {s t p : ℕ} (h : Alike s t p) where
     pub alike-end : length w ≤ p → true ≡ same (answers M i w) (answers M j w)
-    alike-end l = sym (over (drop p w) (drop-of-length-le w l)) ∙ h .keeps
-      where
-        over : (v : List ℕ) → v ≡ [] → same (answers M s v) (answers M t v) ≡ true
-        over v e =
-            ap (λ (x : List ℕ). same (answers M s x) (answers M t x)) e ∙ ap₂ same (answers-none M s) (answers-none M t)
+    alike-end l = rw (drop-of-length-le w l, answers-none M s, answers-none M t) at (h .keeps)
 
     -- the answers to command p, and what follows
     abbrev rest : Bool

@@ -11,8 +11,8 @@ use Rattle.sheet.specs.declared.check.Check.{Check}
 use Rattle.sheet.specs.declared.record.Record.{Record}
 use Rattle.sheet.specs.declared.reader.Needs.{Needs}
 use Rattle.sheet.specs.Check.{refusal_with_if_, _else_, first}
-use Rattle.sheet.specs.Format.{offset}
-use Rattle.sheet.specs.Reader.{sheetCauses, needed, recordOf, content}
+use Rattle.sheet.specs.Format.{offset, standard, Format}
+use Rattle.sheet.specs.Reader.{sheetCauses, needed, machinePayload, wordIn, machineRecord, wordRecord}
 use Rattle.machine.specs.Limits.{mostStates, mostCommands, mostMachine, mostWord}
 use Rattle.machine.specs.Machine.{Mealy, noAnswer, pairAt, machineOf, tabled, answers}
 pub mod Laws
@@ -25,26 +25,26 @@ abbrev pub outside : ℕ → ℕ → ℕ → Bool
 outside least most x = ltb x least || ltb most x
 
 -- machine shape (§4.2), at the start of the record: n or k is outside its limits, or the payload's length is wrong
-unfoldable pub cause3 : Record → List ℕ → Check
-cause3 r p =
+unfoldable pub cause3 : Format → Record → List ℕ → Check
+cause3 F r p =
     let n = getD p 0 0 in
     let k = getD p 1 0 in
     refusal 3 with r .start
-    if (outside 1 mostStates n || outside 1 mostCommands k || not (eqb (length p) (2 + 2 * (n * k))))
+    if (outside 1 mostStates n || outside 1 mostCommands k || not (eqb (length p) (F .table + 2 * (n * k))))
 
 -- next state (§4.2), at its offset: the first byte for a next state that is not below n
-unfoldable pub cause4 : Record → List ℕ → Check
-cause4 r p =
+unfoldable pub cause4 : Format → Record → List ℕ → Check
+cause4 F r p =
     let n = getD p 0 0 in
     let k = getD p 1 0 in
-    first (n * k) (λ e. refusal 4 with offset r (pairAt e) if leb n (getD p (pairAt e) 0))
+    first (n * k) (λ e. refusal 4 with offset r (pairAt F e) if leb n (getD p (pairAt F e) 0))
 
 -- cause 12 (§4.2), at its offset: the first byte for an answer that is the one for no answer
-unfoldable pub cause12 : Record → List ℕ → Check
-cause12 r p =
+unfoldable pub cause12 : Format → Record → List ℕ → Check
+cause12 F r p =
     let n = getD p 0 0 in
     let k = getD p 1 0 in
-    first (n * k) (λ e. refusal 12 with offset r (pairAt e + 1) if eqb (getD p (pairAt e + 1) 0) noAnswer)
+    first (n * k) (λ e. refusal 12 with offset r (pairAt F e + 1) if eqb (getD p (pairAt F e + 1) 0) noAnswer)
 
 -- the cause at byte from + stride · i of a part that begins at offset base: the byte is not below the bound. The code
 -- looks for causes 4, 12, 5 and 7 with it: cause4-is, cause12-is and commands-cause-is, in Causes.Laws
@@ -77,24 +77,25 @@ cause6 M w = first (M .n) (λ i. first (M .n) (pairCause M w i))
 
 -- the machine of a sheet (§3.1)
 unfoldable pub machineIn : List ℕ → Mealy
-machineIn s = machineOf (content 1 s)
+machineIn s = machineOf standard (machinePayload s)
 
 -- the machine that the program holds for any sheet: that of the payload, cut to the bytes of the largest machine. Where
 -- the causes of the machine are absent it is the sheet's: held-is, in Causes.Lists
 unfoldable pub held : List ℕ → Mealy
-held s = machineOf (take mostMachine (content 1 s))
+held s = machineOf standard (take (mostMachine standard) (machinePayload s))
 
 -- the causes of a machine's payload in order (§4.1), by its record: 12 stands behind 4
-unfoldable pub tableCauses : Record → List ℕ → List Check
-tableCauses r p = cause3 r p ∷ cause4 r p ∷ cause12 r p ∷ []
+unfoldable pub tableCauses : Format → Record → List ℕ → List Check
+tableCauses F r p = cause3 F r p ∷ cause4 F r p ∷ cause12 F r p ∷ []
 
 -- the causes of the machine in order (§4.1), 1 to 4 and 12, for a service that needs it and these kinds besides
 unfoldable pub machineCauses : Needs → List ℕ → List Check
-machineCauses needs s = sheetCauses (needed needs) s ++ tableCauses (recordOf 1 s) (content 1 s)
+machineCauses needs s =
+    sheetCauses standard (needed standard needs) s ++ tableCauses standard (machineRecord s) (machinePayload s)
 
 -- the causes of the word in order (§4.1), 5 and 6, where it is needed, else none
 unfoldable pub wordCauses : Bool → List ℕ → List Check
-wordCauses true s = cause5 (machineIn s .k) (recordOf 2 s) (content 2 s) ∷ cause6 (machineIn s) (content 2 s) ∷ []
+wordCauses true s = cause5 (machineIn s .k) (wordRecord s) (wordIn s) ∷ cause6 (machineIn s) (wordIn s) ∷ []
 wordCauses false s = []
 
 -- the causes of loading in order (§4.1): those of the machine, then those of the word

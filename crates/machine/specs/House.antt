@@ -5,6 +5,7 @@ use mathlib.Core.List.{List, [], _∷_, _++_}
 use lib.ListN.{getD}
 use Rattle.machine.specs.declared.house.Entry.{Entry}
 use Rattle.machine.specs.Machine.{Mealy, machineOf}
+use Rattle.sheet.specs.Format.{standard}
 pub mod Laws
 
 infix 75 _▹_
@@ -42,7 +43,7 @@ housePayload = 4 ∷ 4 ∷ rowPairs houseTable
 
 -- the house unit as a machine
 unfoldable pub house : Mealy
-house = machineOf housePayload
+house = machineOf standard housePayload
 
 -- its word (§10.1)
 abbrev pub houseWord : List ℕ

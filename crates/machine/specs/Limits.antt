@@ -3,7 +3,7 @@
 use Prim.Native.Nat.{ℕ, _+_, _*_, _≤_}
 use mathlib.Core.Path.{_≡_, refl}
 use native.Mathlib.Nat.{mul-le-mul}
-use Rattle.sheet.specs.Format.{longest, header}
+use Rattle.sheet.specs.Format.{Format, standard, longest, header}
 use Rattle.machine.specs.declared.machine.Limits.{Limits}
 
 -- the most states, n
@@ -26,9 +26,9 @@ mostSequence = 20355
 abbrev pub mostEntries : ℕ
 mostEntries = mostStates * mostCommands
 
--- the most bytes of the machine's payload: n, k, and two bytes for each entry
-abbrev pub mostMachine : ℕ
-mostMachine = 2 + 2 * mostEntries
+-- the most bytes of the machine's payload: those before its table, and two for each entry
+abbrev pub mostMachine : Format → ℕ
+mostMachine F = F .table + 2 * mostEntries
 
 -- the four limits as one value, for the contract of `Machine::limits`
 abbrev pub limits : Limits
@@ -36,7 +36,7 @@ limits = record { states = mostStates; commands = mostCommands; word = mostWord;
 
 -- the longest sheet is that of the largest machine, word, sequence and answers (§2.1)
 pub longest-is : longest
-    ≡ (header + mostMachine) + (header + mostWord) + (header + mostSequence) + (header + mostSequence)
+    ≡ (header + mostMachine standard) + (header + mostWord) + (header + mostSequence) + (header + mostSequence)
 longest-is = refl
 
 -- with n and k within their limits there are at most mostEntries entries

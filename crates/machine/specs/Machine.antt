@@ -5,6 +5,7 @@ use mathlib.Core.Path.{_≡_}
 use mathlib.Core.List.{List, [], _∷_}
 use lib.ListN.{length, getD, take}
 use Rattle.facts.specs.Lists.{Below}
+use Rattle.sheet.specs.Format.{Format}
 use Rattle.machine.specs.Limits.{mostStates, mostCommands, mostWord}
 use Rattle.machine.specs.declared.machine.Machine.{Machine}
 pub mod Laws
@@ -23,18 +24,19 @@ pub record Mealy : Type 0 where
 abbrev pub noAnswer : ℕ
 noAnswer = 255
 
--- where pair e, counted from 0, begins in the machine's payload, after n and k (§2.2, §3.1)
-abbrev pub pairAt : ℕ → ℕ
-pairAt e = 2 + 2 * e
+-- where pair e, counted from 0, begins in the machine's payload (§2.2, §3.1)
+abbrev pub pairAt : Format → ℕ → ℕ
+pairAt F e = F .table + 2 * e
 
--- the machine of a payload (§3.1): entry (s, c) is pair s·k + c, its next state and its answer; the start is 0
-unfoldable pub machineOf : List ℕ → Mealy
-machineOf p = record {
+-- the machine of a payload (§3.1): n and k are its first bytes; entry (s, c) is pair s·k + c of the table, its next
+-- state and its answer; the start is 0
+unfoldable pub machineOf : Format → List ℕ → Mealy
+machineOf F p = record {
   n = getD p 0 0;
   k = getD p 1 0;
   start = 0;
-  next = λ s c. getD p (pairAt (s * getD p 1 0 + c)) 0;
-  answer = λ s c. getD p (pairAt (s * getD p 1 0 + c) + 1) 0;
+  next = λ s c. getD p (pairAt F (s * getD p 1 0 + c)) 0;
+  answer = λ s c. getD p (pairAt F (s * getD p 1 0 + c) + 1) 0;
 }
 
 -- the machine of a table's two columns, entry (s, c) at s·k + c

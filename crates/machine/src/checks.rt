@@ -1,10 +1,11 @@
 // Causes 3, 4, 12, 5 and 7: the machine's shape, its next states, its answers, and the commands of a
 // word or a sequence.
 ghost use mathlib.Core.Path.{_≡_};
+ghost use mathlib.Core.List.{[], _∷_};
 ghost use Prim.Native.Nat.{_+_, _*_, _≤_, _<_, _^_};
 ghost use lib.ListN.{getD};
 ghost use Rattle.sheet.specs.Check.{first, firstCause};
-ghost use Rattle.sheet.specs.Format.{header};
+ghost use Rattle.sheet.specs.Format.{standard, header};
 ghost use Rattle.sheet.specs.Reader.{recordOf, content};
 ghost use Rattle.machine.specs.Causes.{cause3, tableCauses, byteCause, commandsCause};
 ghost use Rattle.machine.specs.Causes.{outside as outsideOf};
@@ -12,6 +13,7 @@ use crate::machine::Machine;
 use sheet::Check;
 use sheet::HEADER;
 use sheet::Record;
+use sheet::TABLE;
 use sheet::byte;
 use sheet::first_of;
 use sheet::read;
@@ -55,20 +57,24 @@ fn scan(
 
 // Cause 3, of a payload and its record.
 fn shape(r: Record, p: &[u8]) -> Check
-    ensures { λ c. ⌜ c ≡ cause3 r (now (p .entry)) ⌝ }
+    ensures { λ c. ⌜ c ≡ cause3 standard r (now (p .entry)) ⌝ }
 {
     let n = byte(p, 0) as usize;
     let k = byte(p, 1) as usize;
     let states = outside(1, Machine::STATES, n);
     let commands = outside(1, Machine::COMMANDS, k);
-    refuse(3, r.start, states | commands | (p.len() != 2 + 2 * (n * k)))
+    refuse(
+        3,
+        r.start,
+        states | commands | (p.len() != TABLE + 2 * (n * k)),
+    )
 }
 
 // The first of the n·k pairs of a payload whose byte is bound or more: every second byte from a
 // place on.
 fn scan_pairs(number: u8, r: Record, p: &[u8], from: usize, bound: u8) -> Check
     requires { ⌜ r .start < 2 ^ 63 ⌝ }
-    requires { ⌜ from ≤ 3 ⌝ }
+    requires { ⌜ from ≤ standard .table + 1 ⌝ }
     ensures { λ c. ⌜ c ≡ first (getD (now (p .entry)) 0 0 * getD (now (p .entry)) 1 0)
         (byteCause number (r .start + header) (now (p .entry)) from 2 bound) ⌝ }
 {
@@ -80,11 +86,11 @@ fn scan_pairs(number: u8, r: Record, p: &[u8], from: usize, bound: u8) -> Check
 // The causes of a machine's payload, by its record.
 pub fn table(r: Record, p: &[u8]) -> Check
     requires { ⌜ r .start < 2 ^ 63 ⌝ }
-    ensures { λ c. ⌜ c ≡ firstCause (tableCauses r (now (p .entry))) ⌝ }
+    ensures { λ c. ⌜ c ≡ firstCause (tableCauses standard r (now (p .entry))) ⌝ }
 {
     let three = shape(r, p);
-    let four = scan_pairs(4, r, p, 2, byte(p, 0));
-    let twelve = scan_pairs(12, r, p, 3, Machine::NO_ANSWER);
+    let four = scan_pairs(4, r, p, TABLE, byte(p, 0));
+    let twelve = scan_pairs(12, r, p, TABLE + 1, Machine::NO_ANSWER);
     first_of(three, first_of(four, twelve))
 }
 
@@ -92,7 +98,8 @@ pub fn table(r: Record, p: &[u8]) -> Check
 // counts where checks 1 and 2 are clear.
 pub fn commands(sheet: &[u8], kind: u16, number: u8, most: usize, k: u8) -> Check
     ensures { λ c. ⌜
-        c ≡ commandsCause number most k (recordOf kind (now (sheet .entry))) (content kind (now (sheet .entry))) ⌝ }
+        c ≡ commandsCause number most k (recordOf standard (kind ∷ []) (now (sheet .entry)))
+        (content standard (kind ∷ []) (now (sheet .entry))) ⌝ }
 {
     let r = record_of(sheet, kind);
     let w = read(sheet, kind);

@@ -1,8 +1,10 @@
 // The house control unit, which ships inside the program.
-ghost use Prim.Native.Nat.{_≤_, _<_};
+ghost use Prim.Native.Nat.{_+_, _<_};
 ghost use mathlib.Core.Path.{_≡_};
 ghost use lib.ListN.{getD};
+ghost use Rattle.sheet.specs.Format.{standard};
 ghost use Rattle.machine.specs.House.{houseEntry, housePayload};
+use sheet::TABLE;
 
 // An entry of a machine's table.
 pub struct Entry {
@@ -62,18 +64,17 @@ pub fn house_entry(state: u8, command: u8) -> Entry
 }
 
 // The bytes of the house unit's machine record, its header left out.
-pub const HOUSE_PAYLOAD: usize = 34;
+pub const HOUSE_PAYLOAD: usize = TABLE + 32;
 
 // The house unit's word.
 pub const HOUSE_WORD: [u8; 2] = [0, 1];
 
-// A byte of the house unit's machine record behind n and k: the next state or the answer of an entry.
+// A byte of the table in the house unit's machine record: the next state or the answer of an entry.
 fn table_byte(at: u8) -> u8
-    requires { ⌜ 2 ≤ at ⌝ }
-    requires { ⌜ at < 34 ⌝ }
-    ensures { λ r. ⌜ r ≡ getD housePayload at 0 ⌝ }
+    requires { ⌜ at < 32 ⌝ }
+    ensures { λ r. ⌜ r ≡ getD housePayload (standard .table + at) 0 ⌝ }
 {
-    let e = (at - 2) / 2;
+    let e = at / 2;
     let entry = house_entry(e / 4, e % 4);
     if at % 2 == 0 {
         return entry.next;
@@ -90,9 +91,9 @@ pub fn house_payload() -> [u8; HOUSE_PAYLOAD]
     let mut payload = [0u8; HOUSE_PAYLOAD];
     payload[0] = 4;
     payload[1] = 4;
-    let mut at: usize = 2;
-    while at < HOUSE_PAYLOAD {
-        payload[at] = table_byte(at as u8);
+    let mut at: usize = 0;
+    while at < 32 {
+        payload[TABLE + at] = table_byte(at as u8);
         at += 1;
     }
     payload

@@ -2,11 +2,13 @@
 ghost use mathlib.Core.Path.{_≡_};
 ghost use Prim.Native.Nat.{ℕ, _+_, _*_, _≤_, _<_};
 ghost use lib.ListN.{getD, take};
+ghost use Rattle.sheet.specs.Format.{standard};
 ghost use Rattle.machine.specs.Limits.{mostEntries, mostMachine};
 ghost use Rattle.machine.specs.Limits.{limits as theLimits};
 ghost use Rattle.machine.specs.Machine.{machineOf, meaning};
 ghost use Rattle.machine.specs.House.{house as theHouse};
 use crate::house::house_payload;
+use sheet::TABLE;
 use sheet::byte;
 
 // A machine: n states, k commands, the start, and its table, entry (s, c) at s * k + c.
@@ -44,10 +46,10 @@ impl Machine {
 
     // The machine of a payload, of which it reads at most as many bytes as the largest machine has.
     pub fn load(p: &[u8]) -> Machine
-        ensures { λ m. ⌜ meaning m ≡ machineOf (take mostMachine (now (p .entry))) ⌝ }
+        ensures { λ m. ⌜ meaning m ≡ machineOf standard (take (mostMachine standard) (now (p .entry))) ⌝ }
     {
-        let next = column(p, 2);
-        let answer = column(p, 3);
+        let next = column(p, TABLE);
+        let answer = column(p, TABLE + 1);
         Machine {
             n: byte(p, 0),
             k: byte(p, 1),
@@ -80,7 +82,7 @@ impl Machine {
 
 // One column of a payload's pairs: every second byte from a place on.
 fn column(p: &[u8], from: usize) -> [u8; Machine::ENTRIES]
-    requires { ⌜ from ≤ 3 ⌝ }
+    requires { ⌜ from ≤ standard .table + 1 ⌝ }
     ensures { λ r. ⌜ ((e : ℕ) → e < mostEntries → getD r e 0 ≡ getD (now (p .entry)) (from + 2 * e) 0) ⌝ }
 {
     let mut cells = [0u8; Machine::ENTRIES];

@@ -1,15 +1,16 @@
 -- What is told of a line that is no answer, what a line is, and the turn that it makes.
 -- Assumes nothing.
 use Prim.Native.Nat.{ℕ, _-_, _≤_, _<_}
-use mathlib.Core.Path.{_≡_, refl, sym, ap, subst, _∙_}
+use mathlib.Core.Path.{_≡_, sym, ap, subst, _∙_}
 use mathlib.Core.Bool.{Bool, true, false, cond, _&&_}
+use mathlib.Core.Logic.{inl, inr}
 use mathlib.Core.List.{List, [], _++_, append-nil}
 use mathlib.Core.Option.{none, some, Option·some-ne-none}
 use native.Mathlib.Omega.{arith}
 use borrow.Author.Tests.{lt-ltb, le-ltb, le-leb, lt-leb, leb-true}
 use lib.Dec.{leb}
 use lib.ListN.{length}
-use Rattle.facts.specs.Tests.{both-true}
+use Rattle.facts.specs.Tests.{true-or-false, both-true}
 use Rattle.facts.specs.Decimal.{bytes, allDigits, valueFrom, numberIn}
 use Rattle.desk.specs.declared.desk.Desk.{Desk}
 use Rattle.desk.specs.declared.desk.Order.the-variants.{Home}
@@ -40,15 +41,12 @@ others-last left l =
 -- a number that was read is at most the most
 number-most : (most : ℕ) (w : List ℕ) {v : ℕ} → numberIn most w ≡ some v → v ≤ most
 unfolding numberIn
-number-most most w {v} e = go (allDigits w && leb (valueFrom 0 w) most) refl e
-  where
-    go : (b : Bool) → (allDigits w && leb (valueFrom 0 w) most) ≡ b → cond b (some (valueFrom 0 w)) none ≡ some v
-        → v ≤ most
-    go true t q =
-        let here : valueFrom 0 w ≡ v = cc in
-        let l = leb-true (valueFrom 0 w) most (both-true (allDigits w) (leb (valueFrom 0 w) most) t .1) in
-        omega arith
-    go false t q = absurd (Option·some-ne-none v (sym q))
+number-most most w {v} e = elim (true-or-false (allDigits w && leb (valueFrom 0 w) most)) [
+  | inl t ↦ (let here : valueFrom 0 w ≡ v = cc (rw t at e) in
+      let l = leb-true (valueFrom 0 w) most (both-true (allDigits w) _ t .1) in
+      omega arith)
+  | inr t ↦ absurd (Option·some-ne-none v (sym (rw t at e)))
+]
 
 module _ (line : List ℕ) where
   pub reply-long : mostLine < length line → Long ≡ reply line
@@ -76,10 +74,7 @@ module _ (line : List ℕ) where
     number-is t = sym e ∙ ap (λ (b : Bool). cond b (some (r .value)) none) t
 
     pub number-small : r .found ≡ true → r .value < 256
-    number-small t = small (number-is t)
-      where
-        small : numberIn 255 line ≡ some (r .value) → r .value < 256
-        small q = let l = number-most 255 line q in omega arith
+    number-small t = let l = number-most 255 line (number-is t) in omega arith
 
     pub reply-answer : (length line ≡ 0 → ⊥) → length line ≤ 3 → r .found ≡ true → Answer (r .value) ≡ reply line
     reply-answer d m t = sym (ap replyOf (number-is t)) ∙ reply-few (omega arith) m
@@ -100,8 +95,7 @@ module _ (d : Desk) (left : ℕ) (line before after : List ℕ) {t : Turned} whe
   turns-answer {y} e h = record {
     stepped = h .stepped;
     steps = λ z q.
-        let both : Answer y ≡ Answer z = sym e ∙ q in
-        let same-answer : y ≡ z = cc in
+        let same-answer : y ≡ z = cc (sym e ∙ q) in
         subst (λ (x : ℕ). Steps d x (h .stepped)) same-answer (h .steps);
     desk = h .desk ∙ ap (λ (r : Reply). turnDesk (h .stepped) r d) (sym e);
     left-after = h .left-after ∙ ap (λ (r : Reply). turnLeft r left) (sym e);

@@ -8,15 +8,13 @@ use native.Mathlib.Numerals.{add-one}
 use lib.ListN.{length, getD, take, length-take}
 use lib.Seq.{take-suc, take-all, take-append-seam}
 use Rattle.facts.specs.Decimal.{bytes}
-use Rattle.sheet.specs.Reader.Laws.{clear-reads}
-use Rattle.machine.specs.Causes.Lists.{load-machine}
-use Rattle.machine.specs.Causes.Bounds.{load-short}
+use Rattle.machine.specs.Causes.Lists.{payload-short}
 use Rattle.word.specs.declared.answer.Answer.{Answer}
 use Rattle.word.specs.declared.answer.Answer.the-variants.{Found, Nothing, Refused as RefusedAnswer}
 use Rattle.word.specs.declared.answer.Searched.{Searched}
 use Rattle.word.specs.Search.{mostSought}
 use Rattle.word.specs.Service.{searchNeeds, searching, padded, wordBeside, Searches}
-use Rattle.word.specs.Service.Laws.{search-causes-are, Outcome, refused, found, missing, searching-outcome}
+use Rattle.word.specs.Service.Laws.{Outcome, refused, found, missing, searching-outcome}
 use Rattle.word.specs.Service.Laws.{found-answered}
 use Rattle.report.specs.Lines.{labelled, newline, listed, wordLine, noneLine, refusalLine}
 use Rattle.report.specs.Pieces.{listRoom, Puts, WordRequires}
@@ -130,7 +128,6 @@ module _ (s : List ℕ) {r : Searched} (h : Searches s r) where
   pub found-holds : {n : ℕ} → r .answer ≡ Found n → HoldsFound s (r .word) n
   found-holds {n} e =
       let a = found-answered s (sym (h .answer .is) ∙ e) in
-      let load = search-causes-are s ∙ a .clear in
       let sized : n ≡ length (take n (r .word)) =
       sym (a .long) ∙ ap length (sym (ap (take n) (h .word) ∙ a .beside)) in
       let few : n ≤ mostSought = omega (arith, a .long, a .sought .has .commands .few) in
@@ -138,12 +135,7 @@ module _ (s : List ℕ) {r : Searched} (h : Searches s r) where
         inside = omega (arith, sized, length-take n (r .word));
         sized = sized;
         required = record {
-          extends = record {
-            low = omega arith;
-            behind = clear-reads 1 s (load-machine searchNeeds s load) .inside;
-            short = load-short searchNeeds s load;
-            few = omega (arith, sized, few);
-          };
+          machine = payload-short searchNeeds s (a .clear);
           few = omega (arith, sized, few);
         };
       }

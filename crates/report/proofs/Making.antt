@@ -2,54 +2,50 @@
 -- answers. Assumes nothing.
 use Prim.Native.Nat.{ℕ, _+_, _≤_}
 use mathlib.Core.Path.{_≡_, refl, sym, ap, subst, _∙_}
-use mathlib.Core.List.{List, _++_, append-nil}
+use mathlib.Core.List.{List, [], _∷_, append-nil}
 use native.Mathlib.Omega.{arith}
 use lib.ListN.{length, take, length-take}
-use lib.Seq.{length-take-le}
-use Rattle.sheet.specs.declared.record.Record.{Record}
-use Rattle.sheet.specs.Format.{longest, header, end}
-use Rattle.sheet.specs.Format.Laws.{end-size}
-use Rattle.sheet.specs.Reader.{recordOf, content}
-use Rattle.sheet.specs.Reader.Laws.{clear-reads}
-use Rattle.sheet.specs.Writing.{recordBytes, written}
-use Rattle.machine.specs.Limits.{mostSequence}
+use Rattle.sheet.specs.Format.{standard, header}
+use Rattle.sheet.specs.Reader.{machinePayload, wordIn}
+use Rattle.sheet.specs.Writing.{written}
+use Rattle.sheet.specs.Writing.Laws.{record-size}
+use Rattle.sheet.specs.Joining.{bytesOf, joined}
+use Rattle.sheet.specs.Joining.Laws.{joined-cons, joined-one}
+use Rattle.machine.specs.Limits.{mostMachine, mostWord, mostSequence}
 use Rattle.machine.specs.Causes.{machineIn}
-use Rattle.machine.specs.Causes.Lists.{load-word}
-use Rattle.machine.specs.Causes.Bounds.{load-short}
+use Rattle.machine.specs.Causes.Lists.{clear-machine, payload-short, word-distinguishes}
 use Rattle.build.specs.declared.service.Answer.{Answer}
 use Rattle.build.specs.declared.service.Answer.the-variants.{Built}
 use Rattle.build.specs.Sequence.{sequence}
 use Rattle.build.specs.Building.{buildNeeds, building, Builds}
 use Rattle.build.specs.Building.Service.{load-clear, answer-built, built-sequence, built-buffer}
+use Rattle.report.specs.Pieces.{Puts}
 use Rattle.report.specs.Printing.{Prints}
-use Rattle.report.specs.Sheets.{extended}
 use Rattle.report.specs.Output.{Output, onOutput, onError, Writes}
+use Rattle.report.proofs.Putting.{puts-same, puts-append}
 
--- ---- the place behind a record
-pub end-of : {r w : Record} → w ≡ r → w .start + header + w .size ≡ end r
-end-of {r} {w} e = sym (end-size w) ∙ ap end e
+-- ---- joined records
+pub puts-more : {before middle after : List ℕ} {at e f : ℕ} (r : ℕ × List ℕ) (rs : List (ℕ × List ℕ))
+    → Puts before at (bytesOf r) middle e → Puts middle e (joined rs) after f → Puts before at (joined (r ∷ rs)) after f
+puts-more r rs h k = puts-same (sym (joined-cons r rs)) (puts-append (bytesOf r) (joined rs) h k)
 
--- the records in front lie within the sheet
-pub front-fits : (k : ℕ) (s : List ℕ) {w : Record} → w ≡ recordOf k s → end (recordOf k s) ≤ length s
-    → (length (take (w .start + header + w .size) s) ≡ w .start + header + w .size)
-    × (w .start + header + w .size ≤ length s)
-front-fits k s {w} e l =
-    let inside : w .start + header + w .size ≤ length s = omega (arith, end-of e) in
-    (length-take-le (w .start + header + w .size) s inside, inside)
+pub puts-last : {before after : List ℕ} {at e : ℕ} (r : ℕ × List ℕ) → Puts before at (bytesOf r) after e
+    → Puts before at (joined (r ∷ [])) after e
+puts-last r h = puts-same (sym (joined-one r)) h
 
-pub parts-are : (k : ℕ) (s xs : List ℕ) {n : ℕ} → n ≡ end (recordOf k s)
-    → take n s ++ recordBytes (k + 1) xs ≡ extended k s xs
-unfolding extended
-parts-are k s xs e = ap (λ (m : ℕ). take m s ++ recordBytes (k + 1) xs) e
+-- where a record ends that was put
+pub record-ends : (r : ℕ × List ℕ) {before after : List ℕ} {at e : ℕ} → Puts before at (bytesOf r) after e
+    → e ≡ at + header + length (r .1)
+record-ends r h = omega (arith, h .ends, record-size (r .0) (r .1))
 
 -- ---- a built answer
 pub record HoldsBuilt (s buffer : List ℕ) (n : ℕ) : Type 0 where
-  pub behind : end (recordOf 2 s) ≤ length s
-  pub short : length s ≤ longest
+  pub machine : length (machinePayload s) ≤ mostMachine standard
+  pub word : length (wordIn s) ≤ mostWord
   pub few : n ≤ mostSequence
   pub inside : n ≤ length buffer
   pub sized : n ≡ length (take n buffer)
-  pub built : take n buffer ≡ sequence (machineIn s) (content 2 s)
+  pub built : take n buffer ≡ sequence (machineIn s) (wordIn s)
 
 pub answer-is : {s before after : List ℕ} {a b : Answer} → length before ≡ mostSequence → Builds s before after a
     → a ≡ b → building mostSequence s ≡ b
@@ -61,12 +57,12 @@ built-holds s before after {a} {n} l h e =
     let here : building (length before) s ≡ Built n = sym (h .answer .is) ∙ e in
     let load = load-clear (length before) s (answer-built (length before) s here .0) in
     let sequence-facts = built-sequence (length before) s here in
-    let xs : take n after ≡ sequence (machineIn s) (content 2 s) =
+    let xs : take n after ≡ sequence (machineIn s) (wordIn s) =
     ap (take n) (h .buffer) ∙ built-buffer s before here .0 in
     let sized : n ≡ length (take n after) = sequence-facts .long ∙ sym (ap length xs) in
     record {
-      behind = clear-reads 2 s (load-word buildNeeds s refl load) .inside;
-      short = load-short buildNeeds s load;
+      machine = payload-short buildNeeds s (clear-machine buildNeeds s load);
+      word = word-distinguishes buildNeeds s refl load .commands .few;
       few = omega (arith, sequence-facts .long, sequence-facts .commands .few);
       inside = omega (arith, sized, length-take n after);
       sized = sized;

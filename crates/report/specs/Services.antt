@@ -1,6 +1,6 @@
 -- What each service of the bench writes to which stream (§8.2), by the bytes of its sheet. Laws stand in Services.Laws.
 use Prim.Native.Nat.{ℕ, _+_}
-use mathlib.Core.List.{List}
+use mathlib.Core.List.{List, [], _∷_}
 use mathlib.Core.Option.{Option, none, some}
 use Rattle.sheet.specs.Check.{firstCause}
 use Rattle.sheet.specs.Reader.{refusalOf, content}
@@ -16,6 +16,7 @@ use Rattle.report.specs.Lines.{judgeLine, certifyLine, wordLine, noneLin
 use Rattle.report.specs.Words.{helpText, mistakeLine}
 use Rattle.report.specs.Sheets.{wordSheet, builtSheet, houseSheet}
 use Rattle.report.specs.Output.{Output, onOutput, onError, outputUnless, bytesUnless}
+use Rattle.sheet.specs.Format.{standard}
 pub mod Laws
 
 -- ---- services whose result is a line, which also tells a refusal
@@ -43,7 +44,7 @@ built s = bytesUnless (firstCause (buildCauses mostSequence s)) (builtSheet s)
 
 -- the payload of the record of a kind, nothing added
 unfoldable pub recordRead : ℕ → List ℕ → Output
-recordRead kind s = bytesUnless (refusalOf kind s) (content kind s)
+recordRead kind s = bytesUnless (refusalOf standard (kind ∷ []) s) (content standard (kind ∷ []) s)
 
 -- the house unit's sheet
 unfoldable pub houseWritten : Output

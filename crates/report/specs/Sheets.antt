@@ -1,33 +1,33 @@
--- The sheets that `bench word`, `bench build` and `bench house` write (§8.2). Sheets.Found shows what the first carries
--- and that building takes it, Sheets.Certified that the second carries the built sequence and is certified,
--- Sheets.House what the third carries; how the first two are parsed, sheet's Writing.Reading.
-use Prim.Native.Nat.{ℕ, _+_}
-use mathlib.Core.List.{List, _++_}
-use lib.ListN.{take}
-use Rattle.sheet.specs.Format.{end}
-use Rattle.sheet.specs.Reader.{recordOf, content}
-use Rattle.sheet.specs.Writing.{recordBytes}
+-- The sheets that `bench word`, `bench build` and `bench house` write (§8.2), as joined records. Sheets.Found shows
+-- what the first carries and that building takes it, Sheets.Certified that the second carries the built sequence and is
+-- certified, both that the given sheet's own bytes stand at the front, by Sheets.Kept; Sheets.House shows what the
+-- third carries.
+use Prim.Native.Nat.{ℕ}
+use mathlib.Core.List.{List, [], _∷_}
+use Rattle.sheet.specs.Format.{standard}
+use Rattle.sheet.specs.Reader.{wordIn}
+use Rattle.sheet.specs.Joining.{joined, recordIn, fresh}
 use Rattle.machine.specs.Causes.{machineIn}
 use Rattle.machine.specs.House.{housePayload, houseWord}
 use Rattle.build.specs.Sequence.{sequence}
-pub mod Extended
+pub mod Kept
 pub mod Found
 pub mod Certified
 pub mod House
 
--- a sheet's bytes up to the end of the record of a kind, that is, its records up to this kind as they are, then a
--- payload as the record of the next kind (§8.2)
-unfoldable pub extended : ℕ → List ℕ → List ℕ → List ℕ
-extended kind s xs = take (end (recordOf kind s)) s ++ recordBytes (kind + 1) xs
+-- the sheet that `bench word` writes (§8.2): the machine's record as it is, and the word that was found
+unfoldable pub wordSheet : List ℕ → List ℕ → List ℕ
+wordSheet s w = joined (recordIn standard s (standard .machine) ∷ fresh (standard .word) w ∷ [])
 
--- the sheet that `bench word` writes (§8.2): record 1 as it is, and the word that was found as record 2
-abbrev pub wordSheet : List ℕ → List ℕ → List ℕ
-wordSheet s w = extended 1 s w
+-- the sheet that `bench build` writes (§8.2): the records of machine and word as they are, and the built sequence
+unfoldable pub builtSheet : List ℕ → List ℕ
+builtSheet s =
+    joined
+    (recordIn standard s (standard .machine)
+    ∷ recordIn standard s (standard .word)
+    ∷ fresh (standard .sequence) (sequence (machineIn s) (wordIn s))
+    ∷ [])
 
--- the sheet that `bench build` writes (§8.2): records 1 and 2 as they are, and the built sequence as record 3
-abbrev pub builtSheet : List ℕ → List ℕ
-builtSheet s = extended 2 s (sequence (machineIn s) (content 2 s))
-
--- the house unit's sheet (§8.2, §10.1): its machine as record 1, its word as record 2
+-- the house unit's sheet (§8.2, §10.1): its machine and its word
 unfoldable pub houseSheet : List ℕ
-houseSheet = recordBytes 1 housePayload ++ recordBytes 2 houseWord
+houseSheet = joined (fresh (standard .machine) housePayload ∷ fresh (standard .word) houseWord ∷ [])

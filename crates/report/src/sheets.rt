@@ -1,12 +1,14 @@
-// The sheets that the bench writes: the lent sheet's records as they stand with the word that was
+// The sheets that the bench writes: the lent sheet's records as they are with the word that was
 // found or the sequence that was built as the next one, and the house unit's.
 ghost use Prim.Native.Nat.{_+_, _≤_};
+ghost use mathlib.Core.List.{[], _∷_};
 ghost use mathlib.Core.Option.{some};
 ghost use lib.ListN.{length};
-ghost use Rattle.sheet.specs.Format.{longest, header};
+ghost use Rattle.sheet.specs.Format.{standard, header};
+ghost use Rattle.sheet.specs.Reader.{content};
+ghost use Rattle.sheet.specs.Joining.{bytesOf, recordIn};
 ghost use Rattle.report.specs.Lines.{noneLine};
-ghost use Rattle.report.specs.Pieces.{Puts, ExtendRequires, WordRequires};
-ghost use Rattle.report.specs.Sheets.{extended};
+ghost use Rattle.report.specs.Pieces.{Puts, WordRequires};
 ghost use Rattle.report.specs.Output.{onError, Writes};
 ghost use Rattle.report.specs.Services.{foundOutput, searched, built, houseWritten};
 use crate::lines::refused;
@@ -20,34 +22,32 @@ use build::build;
 use machine::HOUSE_WORD;
 use machine::Machine;
 use machine::house_payload;
-use sheet::HEADER;
 use sheet::MACHINE_KIND;
+use sheet::SEQUENCE_KIND;
 use sheet::WORD_KIND;
+use sheet::read;
 use sheet::record_of;
 use word::Answer as Search;
 use word::find_word;
 
-// Puts the records up to a kind and a payload as the record of the next kind into a buffer; gives the
-// length of it all.
-fn extend(sheet: &[u8], kind: u16, xs: &[u8], out: &mut [u8; OUTPUT]) -> usize
-    requires { ⌜ ExtendRequires kind (now sheet) (now xs) ⌝ }
-    ensures { λ r. ⌜
-        Puts (now (out .entry)) 0 (extended kind (now (sheet .entry)) (now (xs .entry))) (now (out .exit)) r ⌝ }
-    ensures { λ r. ⌜ r ≤ longest + header + length (now (xs .entry)) ⌝ }
+// Puts a sheet's record of a kind as it is to a place; gives the place behind it.
+fn put_kept(sheet: &[u8], kind: u16, at: usize, out: &mut [u8]) -> usize
+    requires { ⌜ at + header + length (content standard (kind ∷ []) (now sheet)) ≤ length (now out) ⌝ }
+    ensures { λ r. ⌜ Puts (now (out .entry)) at (bytesOf (recordIn standard (now (sheet .entry)) (kind ∷ [])))
+        (now (out .exit)) r ⌝ }
 {
-    let last = record_of(sheet, kind);
-    let behind = last.start + HEADER + last.size;
-    let next = put(&sheet[..behind], 0, out);
-    put_record(kind + 1, xs, next, out)
+    let r = record_of(sheet, kind);
+    put_record(r.kind, read(sheet, kind), at, out)
 }
 
-// A sheet with a word as record 2 and, behind it, the word's line for standard error.
+// A sheet's machine with a word and, behind them, the word's line for standard error.
 fn with_word(sheet: &[u8], w: &[u8], out: &mut [u8; OUTPUT]) -> Written
     requires { ⌜ WordRequires (now sheet) (now w) ⌝ }
     ensures { λ r. ⌜
         Writes (foundOutput (now (sheet .entry)) (some (now (w .entry)))) (now (out .entry)) (now (out .exit)) r ⌝ }
 {
-    let size = extend(sheet, MACHINE_KIND, w, out);
+    let next = put_kept(sheet, MACHINE_KIND, 0, out);
+    let size = put_record(WORD_KIND, w, next, out);
     let a = put(b"WORD", size, out);
     let b = put_list(w, a, out);
     let end = put(b"\n", b, out);
@@ -84,7 +84,9 @@ pub fn build_sheet(sheet: &[u8], out: &mut [u8; OUTPUT]) -> Written
     let answer = build(sheet, &mut sequence);
     match answer {
         Answer::Built { length: n } => {
-            let size = extend(sheet, WORD_KIND, &sequence[..n], out);
+            let a = put_kept(sheet, MACHINE_KIND, 0, out);
+            let b = put_kept(sheet, WORD_KIND, a, out);
+            let size = put_record(SEQUENCE_KIND, &sequence[..n], b, out);
             Written {
                 out: size,
                 end: size,

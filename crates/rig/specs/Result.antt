@@ -4,7 +4,7 @@ use Prim.Native.Nat.{ℕ, _+_, _*_, _/_, _%_, _^_}
 use mathlib.Core.Path.{_≡_}
 use mathlib.Core.List.{List}
 use lib.ListN.{length}
-use Rattle.sheet.specs.Reader.{content}
+use Rattle.sheet.specs.Reader.{sequenceIn, answersIn}
 use Rattle.machine.specs.Causes.{machineIn}
 use Rattle.sheet.specs.declared.check.Values.{Values}
 use Rattle.certify.specs.Certification.{certification, marksAfter, valuesOf as certifyingValues}
@@ -48,5 +48,5 @@ pub record RigJudges (s before after : List ℕ) (r : ℕ) : Type 0 where
 abbrev pub RigIdentity : List ℕ → ℕ → Type 0
 RigIdentity s r =
     (U : Unit (machineIn s .n) (machineIn s .k)) → classIn r ≡ 100
-    → content 4 s ≡ ownAnswers (machineIn s .n) (machineIn s .k) U (content 3 s)
-    → Renaming (machineIn s) U (content 3 s) (bIn r)
+    → answersIn s ≡ ownAnswers (machineIn s .n) (machineIn s .k) U (sequenceIn s)
+    → Renaming (machineIn s) U (sequenceIn s) (bIn r)

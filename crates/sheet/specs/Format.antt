@@ -1,11 +1,11 @@
 -- The byte format of a sheet (§2.1, §2.2), and causes 1 and 2 at each record (§4.1, §4.2). A sheet is a list of numbers
--- here; the contracts are about bytes. The laws stand in Format.Laws, those of the records from the front in
--- Format.Records.
+-- here; the contracts are about bytes. The laws stand in Format.Laws.
 use Prim.Native.Nat.{ℕ, zero, suc, _+_, _*_, _-_}
 use mathlib.Core.Bool.{Bool, true, false, cond, _||_}
 use mathlib.Core.List.{List, [], _∷_}
-use lib.Dec.{leb, ltb, eqb}
+use lib.Dec.{leb, ltb}
 use lib.ListN.{length, getD}
+use Rattle.facts.specs.Lists.{among}
 use Rattle.sheet.specs.declared.check.Check.{Check}
 use Rattle.sheet.specs.declared.check.Check.the-variants.{Clear, Refused}
 use Rattle.sheet.specs.declared.record.Record.{Record}
@@ -15,11 +15,32 @@ use Rattle.sheet.specs.declared.record.Found.{Found}
 use Rattle.sheet.specs.declared.record.Found.the-variants.{At, Missing}
 use Rattle.sheet.specs.Check.{refusal_with_if_, _else_}
 pub mod Laws
-pub mod Records
 
--- the most bytes of a sheet (§2.1)
+-- a format of sheets (§2.1, §2.2): the kinds that the record of each role may have, the most bytes of a sheet, and how
+-- many bytes of the machine's payload come before its table. In every format the records stand in the order of these
+-- roles (`rank`)
+pub record Format : Type 0 where
+  pub machine : List ℕ
+  pub word : List ℕ
+  pub sequence : List ℕ
+  pub answers : List ℕ
+  pub longest : ℕ
+  pub table : ℕ
+
+-- the format that the services take
+abbrev pub standard : Format
+standard = record {
+  machine = 1 ∷ [];
+  word = 2 ∷ [];
+  sequence = 3 ∷ [];
+  answers = 4 ∷ [];
+  longest = 40912;
+  table = 2;
+}
+
+-- the most bytes of a sheet of the standard format (§2.1)
 abbrev pub longest : ℕ
-longest = 40912
+longest = standard .longest
 
 -- the bytes of a record's header: 4 for the payload's length and 2 for the kind (§2.1)
 abbrev pub header : ℕ
@@ -42,11 +63,15 @@ offset r i = r .start + header + i
 unfoldable pub end : Record → ℕ
 end r = offset r (r .size)
 
--- the kind that a number means (§2.2): Unknown for every number but 1 to 4
-unfoldable pub kindOf : ℕ → Kind
-kindOf k = cond (eqb k 1) Machine (cond (eqb k 2) Word (cond (eqb k 3) Sequence (cond (eqb k 4) Answers Unknown)))
+-- what a kind's number means (§2.2): the role, or Unknown for a number that the format does not have
+unfoldable pub kindOf : Format → ℕ → Kind
+kindOf F k =
+    cond (among k (F .machine)) Machine
+    (cond (among k (F .word)) Word
+    (cond (among k (F .sequence)) Sequence
+    (cond (among k (F .answers)) Answers Unknown)))
 
--- the number by which kinds rise in a sheet (§2.1); an unknown kind has 0, so that it is above none
+-- the number by which kinds rise in a sheet (§2.1), by their role; an unknown kind has 0, so that it is above none
 abbrev pub rank : Kind → ℕ
 rank Unknown = 0
 rank Machine = 1
@@ -55,20 +80,20 @@ rank Sequence = 3
 rank Answers = 4
 
 -- the rank of the record that starts at an offset
-abbrev pub rankAt : List ℕ → ℕ → ℕ
-rankAt s at = rank (kindOf (recordAt s at .kind))
+abbrev pub rankAt : Format → List ℕ → ℕ → ℕ
+rankAt F s at = rank (kindOf F (recordAt s at .kind))
 
 -- cause 1 at a record (§4.2): the sheet does not hold all of its header and payload
 unfoldable pub cause1 : List ℕ → ℕ → Check
 cause1 s at = refusal 1 with at if (ltb (length s) (at + header) || ltb (length s) (end (recordAt s at)))
 
 -- cause 2 at a record (§4.2): its kind is unknown, or not above that of the record before, whose rank is last
-unfoldable pub cause2 : List ℕ → ℕ → ℕ → Check
-cause2 s at last = refusal 2 with at if leb (rankAt s at) last
+unfoldable pub cause2 : Format → List ℕ → ℕ → ℕ → Check
+cause2 F s at last = refusal 2 with at if leb (rankAt F s at) last
 
 -- the check of a record: cause 1, then cause 2 (§4.1)
-unfoldable pub causeAt : List ℕ → ℕ → ℕ → Check
-causeAt s at last = cause1 s at else cause2 s at last
+unfoldable pub causeAt : Format → List ℕ → ℕ → ℕ → Check
+causeAt F s at last = cause1 s at else cause2 F s at last
 
 -- the records from the front without cause 1 or 2 (§4.1), and what stopped the parsing: Clear at the sheet's end
 pub record Parsed : Type 0 where
@@ -92,23 +117,23 @@ parseStep true Clear r w = r before w
 
 -- the parsing from an offset on; last is the rank of the record before. The first number only bounds the recursion:
 -- parse-end and parse-on, in Format.Laws, are the equations of parse without it
-unfoldable pub parseFrom : ℕ → List ℕ → ℕ → ℕ → Parsed
-parseFrom zero s at last = ended Clear
-parseFrom (suc f) s at last =
-    let w : Parsed = parseFrom f s (end (recordAt s at)) (rankAt s at) in
-    parseStep (ltb at (length s)) (causeAt s at last) (recordAt s at) w
+unfoldable pub parseFrom : ℕ → Format → List ℕ → ℕ → ℕ → Parsed
+parseFrom zero F s at last = ended Clear
+parseFrom (suc f) F s at last =
+    let w : Parsed = parseFrom f F s (end (recordAt s at)) (rankAt F s at) in
+    parseStep (ltb at (length s)) (causeAt F s at last) (recordAt s at) w
 
 -- the parsing from an offset on (§4.1). A record has 6 bytes or more, so the number of bytes left is bound enough
-unfoldable pub parse : List ℕ → ℕ → ℕ → Parsed
-parse s at last = parseFrom (length s - at) s at last
+unfoldable pub parse : Format → List ℕ → ℕ → ℕ → Parsed
+parse F s at last = parseFrom (length s - at) F s at last
 
 -- the parsing of the whole sheet, from offset 0 on
-unfoldable pub parsed : List ℕ → Parsed
-parsed s = parse s 0 0
+unfoldable pub parsed : Format → List ℕ → Parsed
+parsed F s = parse F s 0 0
 
--- the record where it is of the kind
-unfoldable pub ofKind : ℕ → Record → Found
-ofKind k r = cond (eqb (r .kind) k) (At r) Missing
+-- the record where it is of one of the kinds
+unfoldable pub ofKind : List ℕ → Record → Found
+ofKind ks r = cond (among (r .kind) ks) (At r) Missing
 
 infixr 15 _or_
 -- the first that is found
@@ -116,7 +141,7 @@ unfoldable pub _or_ : Found → Found → Found
 (At r) or g = At r
 Missing or g = g
 
--- the first record of a kind in a list of records, or Missing
-unfoldable pub find : ℕ → List Record → Found
-find k [] = Missing
-find k (r ∷ rs) = ofKind k r or find k rs
+-- the first record of one of the kinds in a list of records, or Missing
+unfoldable pub find : List ℕ → List Record → Found
+find ks [] = Missing
+find ks (r ∷ rs) = ofKind ks r or find ks rs

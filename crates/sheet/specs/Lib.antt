@@ -3,3 +3,4 @@ pub mod Values
 pub mod Format
 pub mod Reader
 pub mod Writing
+pub mod Joining

@@ -7,6 +7,7 @@ use mathlib.Core.List.{List, [], _∷_, _++_, map}
 use lib.Dec.{ltb}
 use lib.ListN.{length, take, drop}
 use denote.Ref.{RefT, now}
+use Rattle.facts.specs.Lists.{among}
 use Rattle.sheet.specs.declared.check.Check.{Check}
 use Rattle.sheet.specs.declared.check.Check.the-variants.{Clear, Refused}
 use Rattle.sheet.specs.declared.record.Record.{Record}
@@ -15,52 +16,56 @@ use Rattle.sheet.specs.declared.record.Found.the-variants.{At, Missing}
 use Rattle.sheet.specs.declared.reader.Part.{Part}
 use Rattle.sheet.specs.declared.reader.Needs.{Needs}
 use Rattle.sheet.specs.Check.{refusal_with_if_, firstCause}
-use Rattle.sheet.specs.Format.{longest, header, end, parsed, find}
+use Rattle.sheet.specs.Format.{Format, standard, header, end, parsed, find}
 pub mod Laws
 pub mod Bounds
 
 -- cause 1 of a sheet that is too long, which comes before every other (§4.1)
-abbrev pub tooLong : List ℕ → Check
-tooLong s = refusal 1 with longest if ltb longest (length s)
+abbrev pub tooLong : Format → List ℕ → Check
+tooLong F s = refusal 1 with F .longest if ltb (F .longest) (length s)
 
 -- whether no record was found
 abbrev pub isMissing : Found → Bool
 isMissing (At r) = false
 isMissing Missing = true
 
--- cause 2 of a needed kind that no record has, with the sheet's length as its place (§4.2)
-abbrev pub missing : List ℕ → ℕ → Check
-missing s k = refusal 2 with length s if isMissing (find k (parsed s .records))
+-- cause 2 of a needed role: no record is of one of its kinds; the place is the sheet's length (§4.2)
+abbrev pub missing : Format → List ℕ → List ℕ → Check
+missing F s ks = refusal 2 with length s if isMissing (find ks (parsed F s .records))
 
--- causes 1 and 2 in order, for the kinds that a service needs: the length, the records, the missing kinds (§4.1)
-unfoldable pub sheetCauses : List ℕ → List ℕ → List Check
-sheetCauses kinds s = tooLong s ∷ parsed s .stop ∷ map (missing s) kinds
+-- causes 1 and 2 in order, for the roles that a service needs, each given by its kinds: the length, the records, what
+-- is missing (§4.1)
+unfoldable pub sheetCauses : Format → List (List ℕ) → List ℕ → List Check
+sheetCauses F roles s = tooLong F s ∷ parsed F s .stop ∷ map (missing F s) roles
 
--- the list of this kind alone where it is needed, else the empty list
-unfoldable pub when : Bool → ℕ → List ℕ
-when true k = k ∷ []
-when false k = []
+-- the list of this role alone where it is needed, else the empty list
+unfoldable pub when : Bool → List ℕ → List (List ℕ)
+when true ks = ks ∷ []
+when false ks = []
 
--- cause 2 of a kind where it is needed and missing, else Clear
-unfoldable pub whenMissing : List ℕ → ℕ → Bool → Check
-whenMissing s k b = firstCause (map (missing s) (when b k))
+-- cause 2 of a role where it is needed and missing, else Clear
+unfoldable pub whenMissing : Format → List ℕ → List ℕ → Bool → Check
+whenMissing F s ks b = firstCause (map (missing F s) (when b ks))
 
--- the kinds that a service on a machine needs (§2.3): kind 1 always, kinds 2, 3 and 4 where the flags say so
-unfoldable pub needed : Needs → List ℕ
-needed needs = 1 ∷ (when (needs .word) 2 ++ (when (needs .sequence) 3 ++ when (needs .answers) 4))
+-- the roles that a service on a machine needs (§2.3): the machine always, the others where the flags say so
+unfoldable pub needed : Format → Needs → List (List ℕ)
+needed F needs =
+    F .machine
+    ∷ (when (needs .word) (F .word) ++ (when (needs .sequence) (F .sequence) ++ when (needs .answers) (F .answers)))
 
--- what reading a kind refuses with (§2.4): checks 1 and 2, that kind being needed
-unfoldable pub refusalOf : ℕ → List ℕ → Check
-refusalOf k s = firstCause (sheetCauses (k ∷ []) s)
+-- what reading refuses with (§2.4): checks 1 and 2, a record of one of the kinds being needed
+unfoldable pub refusalOf : Format → List ℕ → List ℕ → Check
+refusalOf F ks s = firstCause (sheetCauses F (ks ∷ []) s)
 
 -- the record that was found; where none was, cause 2 is present and this record is not used
 abbrev pub recordOr : Found → Record
 recordOr (At r) = r
 recordOr Missing = record { start = 0; size = 0; kind = 0 }
 
--- the record of a kind in a sheet: the places of the causes of its payload are its start or offsets in it (§4.2)
-unfoldable pub recordOf : ℕ → List ℕ → Record
-recordOf k s = recordOr (find k (parsed s .records))
+-- the record of one of the kinds in a sheet: the places of the causes of its payload are its start or offsets in it
+-- (§4.2)
+unfoldable pub recordOf : Format → List ℕ → List ℕ → Record
+recordOf F ks s = recordOr (find ks (parsed F s .records))
 
 -- where a record's payload lies, after its header (§2.1); the empty part at the sheet's start where there is no record
 abbrev pub payloadPart : Found → Part
@@ -72,18 +77,46 @@ abbrev pub partWhen : Check → Found → Part
 partWhen Clear f = payloadPart f
 partWhen (Refused n p) f = payloadPart Missing
 
--- where the part lies that reading a kind gives (§2.4)
-unfoldable pub part : ℕ → List ℕ → Part
-part k s = partWhen (refusalOf k s) (find k (parsed s .records))
+-- where the part lies that reading gives (§2.4)
+unfoldable pub part : Format → List ℕ → List ℕ → Part
+part F ks s = partWhen (refusalOf F ks s) (find ks (parsed F s .records))
 
 -- the bytes of a part of a sheet
 unfoldable pub partBytes : Part → List ℕ → List ℕ
 partBytes p s = take (p .size) (drop (p .from) s)
 
--- the bytes that reading a kind gives (§2.4): the payload, or none on a refusal
-unfoldable pub content : ℕ → List ℕ → List ℕ
-content k s = partBytes (part k s) s
+-- the bytes that reading gives (§2.4): the payload, or none on a refusal
+unfoldable pub content : Format → List ℕ → List ℕ → List ℕ
+content F ks s = partBytes (part F ks s) s
 
+-- ---- by role, in the format that the services take (§2.2)
+-- the payload of the machine's record, the word, the sequence and the answers of a sheet
+abbrev pub machinePayload : List ℕ → List ℕ
+machinePayload s = content standard (standard .machine) s
+
+abbrev pub wordIn : List ℕ → List ℕ
+wordIn s = content standard (standard .word) s
+
+abbrev pub sequenceIn : List ℕ → List ℕ
+sequenceIn s = content standard (standard .sequence) s
+
+abbrev pub answersIn : List ℕ → List ℕ
+answersIn s = content standard (standard .answers) s
+
+-- the records in which they stand
+abbrev pub machineRecord : List ℕ → Record
+machineRecord s = recordOf standard (standard .machine) s
+
+abbrev pub wordRecord : List ℕ → Record
+wordRecord s = recordOf standard (standard .word) s
+
+abbrev pub sequenceRecord : List ℕ → Record
+sequenceRecord s = recordOf standard (standard .sequence) s
+
+abbrev pub answersRecord : List ℕ → Record
+answersRecord s = recordOf standard (standard .answers) s
+
+-- ---- the lent sheet
 -- a reference: the memory block and the offset in it to which it points, and the bytes there
 abbrev pub seen : RefT (List ℕ) → (ℕ × ℕ) × List ℕ
 seen r = (r .ptr, now r)
@@ -92,10 +125,10 @@ seen r = (r .ptr, now r)
 unfoldable pub handed : RefT (List ℕ) → Part → (ℕ × ℕ) × List ℕ
 handed s p = ((s .ptr .0, s .ptr .1 + p .from), partBytes p (now s))
 
--- what holds of a kind whose reading is not refused (§2.4): its record is of that kind and lies inside the sheet, and
--- the part is its payload
-pub record Reads (k : ℕ) (s : List ℕ) : Type 0 where
-  pub kind : recordOf k s .kind ≡ k
-  pub from : part k s .from ≡ recordOf k s .start + header
-  pub size : part k s .size ≡ recordOf k s .size
-  pub inside : end (recordOf k s) ≤ length s
+-- what holds where reading is not refused (§2.4): the record is of one of the kinds and lies inside the sheet, and the
+-- part is its payload
+pub record Reads (F : Format) (ks s : List ℕ) : Type 0 where
+  pub kind : among (recordOf F ks s .kind) ks ≡ true
+  pub from : part F ks s .from ≡ recordOf F ks s .start + header
+  pub size : part F ks s .size ≡ recordOf F ks s .size
+  pub inside : end (recordOf F ks s) ≤ length s

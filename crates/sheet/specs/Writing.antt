@@ -1,5 +1,5 @@
 -- A record's header and a record as they are written (§2.1), and bytes put into a lent buffer at an offset or at its
--- start. The laws stand in Writing.Laws; Writing.Reading says how a sheet is read to which a record was added.
+-- start. The laws stand in Writing.Laws.
 use Prim.Native.Nat.{ℕ, _+_, _/_, _%_}
 use mathlib.Core.Bool.{cond}
 use mathlib.Core.List.{List, [], _∷_, _++_}
@@ -7,7 +7,6 @@ use lib.Dec.{leb}
 use lib.ListN.{length, drop}
 use lib.Seq.{paste}
 pub mod Laws
-pub mod Reading
 
 -- a header (§2.1): the payload's length, below 2^32, in 4 bytes and the kind, below 2^16, in 2, lowest byte first
 unfoldable pub headerOf : ℕ → ℕ → List ℕ

@@ -24,6 +24,7 @@ pub use record::HEADER;
 pub use record::MACHINE_KIND;
 pub use record::Record;
 pub use record::SEQUENCE_KIND;
+pub use record::TABLE;
 pub use record::WORD_KIND;
 pub use record::byte;
 pub use writing::header_of;

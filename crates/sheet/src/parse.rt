@@ -1,6 +1,7 @@
 // Parsing a sheet: its records from the front.
 ghost use mathlib.Core.Path.{_≡_};
-ghost use Rattle.sheet.specs.Format.{parsed, find};
+ghost use mathlib.Core.List.{[], _∷_};
+ghost use Rattle.sheet.specs.Format.{standard, parsed, find};
 use crate::check::Check;
 use crate::record::Found;
 use crate::record::HEADER;
@@ -19,8 +20,8 @@ pub struct Parsed {
 
 // Parses the whole sheet and looks for the record of a kind.
 pub fn parse(s: &[u8], kind: u16) -> Parsed
-    ensures stop { λ r. ⌜ r .stop ≡ parsed (now (s .entry)) .stop ⌝ }
-    ensures found { λ r. ⌜ r .found ≡ find kind (parsed (now (s .entry)) .records) ⌝ }
+    ensures stop { λ r. ⌜ r .stop ≡ parsed standard (now (s .entry)) .stop ⌝ }
+    ensures found { λ r. ⌜ r .found ≡ find (kind ∷ []) (parsed standard (now (s .entry)) .records) ⌝ }
 {
     let mut at: usize = 0;
     let mut last: u8 = 0;

@@ -1,9 +1,10 @@
 // Checks 1 and 2 of a whole sheet, and the reader.
 ghost use mathlib.Core.Path.{_≡_};
+ghost use mathlib.Core.List.{[], _∷_};
 ghost use Prim.Native.Nat.{_+_, _≤_};
 ghost use lib.ListN.{length};
 ghost use Rattle.sheet.specs.Check.{firstCause};
-ghost use Rattle.sheet.specs.Format.{parsed, find};
+ghost use Rattle.sheet.specs.Format.{standard, parsed, find};
 ghost use Rattle.sheet.specs.Reader.{tooLong, isMissing, whenMissing, sheetCauses, needed, refusalOf, seen};
 ghost use Rattle.sheet.specs.Reader.{handed, part as partOf, recordOf};
 ghost use Rattle.sheet.specs.Values.{Returns, valuesOf};
@@ -29,7 +30,7 @@ pub struct Part {
     pub size: usize,
 }
 
-// The kinds that a service on a machine needs besides kind 1, the machine.
+// The roles that a service on a machine needs besides the machine.
 pub struct Needs {
     pub word: bool,
     pub sequence: bool,
@@ -37,7 +38,7 @@ pub struct Needs {
 }
 
 fn too_long(sheet: &[u8]) -> Check
-    ensures { λ r. ⌜ r ≡ tooLong (now (sheet .entry)) ⌝ }
+    ensures { λ r. ⌜ r ≡ tooLong standard (now (sheet .entry)) ⌝ }
 {
     refuse(1, LONGEST, LONGEST < sheet.len())
 }
@@ -53,8 +54,9 @@ fn is_missing(found: Found) -> bool
 
 // Checks 1 and 2 of reading a kind, from what the parse found: length, records, wanted kind.
 fn refusal_by(sheet: &[u8], kind: u16, w: Parsed) -> Check
-    requires { ⌜ (w .stop ≡ parsed (now sheet) .stop) × (w .found ≡ find kind (parsed (now sheet) .records)) ⌝ }
-    ensures { λ r. ⌜ r ≡ refusalOf kind (now (sheet .entry)) ⌝ }
+    requires { ⌜ (w .stop ≡ parsed standard (now sheet) .stop) ×
+        (w .found ≡ find (kind ∷ []) (parsed standard (now sheet) .records)) ⌝ }
+    ensures { λ r. ⌜ r ≡ refusalOf standard (kind ∷ []) (now (sheet .entry)) ⌝ }
 {
     let stop = w.stop;
     let found = w.found;
@@ -65,7 +67,7 @@ fn refusal_by(sheet: &[u8], kind: u16, w: Parsed) -> Check
 
 // The refusal's number and place of reading a kind, or that there is none.
 pub fn refusal(sheet: &[u8], kind: u16) -> Check
-    ensures { λ r. ⌜ Returns valuesOf (refusalOf kind (now (sheet .entry))) r ⌝ }
+    ensures { λ r. ⌜ Returns valuesOf (refusalOf standard (kind ∷ []) (now (sheet .entry))) r ⌝ }
 {
     let w = parse(sheet, kind);
     refusal_by(sheet, kind, w)
@@ -73,16 +75,16 @@ pub fn refusal(sheet: &[u8], kind: u16) -> Check
 
 // Cause 2 for a kind that may be needed.
 fn required(sheet: &[u8], kind: u16, needed: bool) -> Check
-    ensures { λ r. ⌜ r ≡ whenMissing (now (sheet .entry)) kind needed ⌝ }
+    ensures { λ r. ⌜ r ≡ whenMissing standard (now (sheet .entry)) (kind ∷ []) needed ⌝ }
 {
     let w = parse(sheet, kind);
     let found = w.found;
     refuse(2, sheet.len(), needed & is_missing(found))
 }
 
-// Checks 1 and 2 for kind 1 and the kinds that a service needs besides.
+// Checks 1 and 2 for the machine and the roles that a service needs besides.
 pub fn checks(sheet: &[u8], needs: Needs) -> Check
-    ensures { λ r. ⌜ r ≡ firstCause (sheetCauses (needed needs) (now (sheet .entry))) ⌝ }
+    ensures { λ r. ⌜ r ≡ firstCause (sheetCauses standard (needed standard needs) (now (sheet .entry))) ⌝ }
 {
     let machine = refusal(sheet, MACHINE_KIND);
     let word = required(sheet, WORD_KIND, needs.word);
@@ -93,7 +95,7 @@ pub fn checks(sheet: &[u8], needs: Needs) -> Check
 
 // The record of a kind, an empty one where there is none: it counts where checks 1 and 2 are clear.
 pub fn record_of(sheet: &[u8], kind: u16) -> Record
-    ensures { λ r. ⌜ r ≡ recordOf kind (now (sheet .entry)) ⌝ }
+    ensures { λ r. ⌜ r ≡ recordOf standard (kind ∷ []) (now (sheet .entry)) ⌝ }
 {
     let w = parse(sheet, kind);
     let found = w.found;
@@ -109,7 +111,7 @@ pub fn record_of(sheet: &[u8], kind: u16) -> Record
 
 // Where the wanted record's payload lies: the empty part at the sheet's start on a refusal.
 pub fn part_of(sheet: &[u8], kind: u16) -> Part
-    ensures value { λ r. ⌜ r ≡ partOf kind (now (sheet .entry)) ⌝ }
+    ensures value { λ r. ⌜ r ≡ partOf standard (kind ∷ []) (now (sheet .entry)) ⌝ }
     ensures inside { λ r. ⌜ r .from + r .size ≤ length (now (sheet .entry)) ⌝ }
 {
     let w = parse(sheet, kind);
@@ -134,7 +136,7 @@ pub fn part_of(sheet: &[u8], kind: u16) -> Part
 // The part of the sheet that holds the wanted record, its header left out; on a refusal the empty
 // part at the sheet's start.
 pub fn read(sheet: &[u8], kind: u16) -> &[u8]
-    ensures { λ r. ⌜ seen r ≡ handed (sheet .entry) (partOf kind (now (sheet .entry))) ⌝ }
+    ensures { λ r. ⌜ seen r ≡ handed (sheet .entry) (partOf standard (kind ∷ []) (now (sheet .entry))) ⌝ }
 {
     let p = part_of(sheet, kind);
     let from = p.from;

@@ -1,8 +1,9 @@
 // One record of a sheet: its header, its kind, and causes 1 and 2 at it.
 ghost use mathlib.Core.Path.{_≡_};
+ghost use mathlib.Core.List.{[], _∷_};
 ghost use Prim.Native.Nat.{_<_, _≤_, _^_};
 ghost use lib.ListN.{length, getD};
-ghost use Rattle.sheet.specs.Format.{recordAt, kindOf, cause1, cause2, causeAt, ofKind, _or_};
+ghost use Rattle.sheet.specs.Format.{standard, recordAt, kindOf, cause1, cause2, causeAt, ofKind, _or_};
 ghost use Rattle.sheet.specs.Format.{rank as rankOf};
 use crate::check::Check;
 use crate::check::first_of;
@@ -10,6 +11,9 @@ use crate::check::refuse;
 
 // The bytes of a record's header: 4 of payload length, 2 of kind.
 pub const HEADER: usize = 6;
+
+// How many bytes of the machine's payload come before its table.
+pub const TABLE: usize = 2;
 
 // The numbers of the kinds.
 pub const MACHINE_KIND: u16 = 1;
@@ -77,7 +81,7 @@ pub fn record_at(s: &[u8], at: usize) -> Record
 
 // Decodes a kind's number.
 pub fn kind_of(kind: u16) -> Kind
-    ensures { λ r. ⌜ r ≡ kindOf kind ⌝ }
+    ensures { λ r. ⌜ r ≡ kindOf standard kind ⌝ }
 {
     match kind {
         MACHINE_KIND => Kind::Machine,
@@ -114,7 +118,7 @@ fn cut(s: &[u8], at: usize) -> Check
 // Cause 2: the record's kind is unknown or not above the one before, whose rank is last.
 fn misplaced(s: &[u8], at: usize, last: u8) -> Check
     requires { ⌜ at ≤ length (now s) ⌝ }
-    ensures { λ r. ⌜ r ≡ cause2 (now (s .entry)) at last ⌝ }
+    ensures { λ r. ⌜ r ≡ cause2 standard (now (s .entry)) at last ⌝ }
 {
     let r = record_at(s, at);
     refuse(2, at, rank(kind_of(r.kind)) <= last)
@@ -123,7 +127,7 @@ fn misplaced(s: &[u8], at: usize, last: u8) -> Check
 // Causes 1 and 2 at a record, 1 before 2.
 pub fn check_at(s: &[u8], at: usize, last: u8) -> Check
     requires { ⌜ at ≤ length (now s) ⌝ }
-    ensures { λ r. ⌜ r ≡ causeAt (now (s .entry)) at last ⌝ }
+    ensures { λ r. ⌜ r ≡ causeAt standard (now (s .entry)) at last ⌝ }
 {
     let one = cut(s, at);
     let two = misplaced(s, at, last);
@@ -132,7 +136,7 @@ pub fn check_at(s: &[u8], at: usize, last: u8) -> Check
 
 // The record where it is of the kind.
 pub fn of_kind(r: Record, kind: u16) -> Found
-    ensures { λ f. ⌜ f ≡ ofKind kind r ⌝ }
+    ensures { λ f. ⌜ f ≡ ofKind (kind ∷ []) r ⌝ }
 {
     if r.kind == kind {
         Found::At(r)

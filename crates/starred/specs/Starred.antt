@@ -6,12 +6,15 @@ use mathlib.Core.Path.{_≡_}
 use mathlib.Core.List.{List, [], _∷_, _++_}
 use lib.ListN.{length, drop}
 use Rattle.facts.specs.Decimal.{bytes}
-use Rattle.sheet.specs.Writing.{recordBytes}
+use Rattle.sheet.specs.Format.{standard}
+use Rattle.sheet.specs.Joining.{joined, fresh}
 use Rattle.machine.specs.Machine.{noAnswer}
 use Rattle.certify.specs.declared.answer.Answer.the-variants.{Certified, Open, Refused as RefusedCertification}
 use Rattle.certify.specs.Certification.{certification}
+use Rattle.certify.specs.Marks.Twin.{twinTable, singleTable}
 use Rattle.build.specs.declared.service.Answer.the-variants.{Built, Refused as RefusedBuilding}
 use Rattle.build.specs.Building.{building, bufferAfter}
+use Rattle.build.specs.Building.Twin.{unitSheet, disconnectedTable}
 use Rattle.judge.specs.declared.answer.Answer.{Answer}
 use Rattle.judge.specs.declared.answer.Answer.the-variants.{Pass, Wrong, Unfinished, Refused as RefusedJudgement}
 use Rattle.judge.specs.Judging.{judgement}
@@ -19,33 +22,24 @@ use Rattle.report.specs.Lines.{judgeLine}
 pub mod Proofs
 
 -- ---- the sheets
--- the sheet of a machine's payload and a word
-abbrev pub unitSheet : List ℕ → List ℕ → List ℕ
-unitSheet table word = recordBytes 1 table ++ recordBytes 2 word
-
--- the same with a sequence
+-- the sheet of a machine's payload, a word and a sequence
 abbrev pub sequenceSheet : List ℕ → List ℕ → List ℕ → List ℕ
-sequenceSheet table word xs = unitSheet table word ++ recordBytes 3 xs
+sequenceSheet table word xs =
+    joined (fresh (standard .machine) table ∷ fresh (standard .word) word ∷ fresh (standard .sequence) xs ∷ [])
 
--- the same with a sequence and answers
+-- the same with answers
 abbrev pub answersSheet : List ℕ → List ℕ → List ℕ → List ℕ → List ℕ
-answersSheet table word xs ys = sequenceSheet table word xs ++ recordBytes 4 ys
-
--- the payload of the twin's record 1 (§10.2)
-abbrev pub twinTable : List ℕ
-twinTable = 2 ∷ 2 ∷ 1 ∷ 0 ∷ 0 ∷ 5 ∷ 0 ∷ 1 ∷ 1 ∷ 5 ∷ []
-
--- the same where entry (1, 0) goes to 1
-abbrev pub disconnectedTable : List ℕ
-disconnectedTable = 2 ∷ 2 ∷ 1 ∷ 0 ∷ 0 ∷ 5 ∷ 1 ∷ 1 ∷ 1 ∷ 5 ∷ []
+answersSheet table word xs ys =
+    joined
+    (fresh (standard .machine) table
+    ∷ fresh (standard .word) word
+    ∷ fresh (standard .sequence) xs
+    ∷ fresh (standard .answers) ys
+    ∷ [])
 
 -- the twin's where entry (0, 0) goes to 2, which is no state
 abbrev pub noStateTable : List ℕ
 noStateTable = 2 ∷ 2 ∷ 2 ∷ 0 ∷ 0 ∷ 5 ∷ 0 ∷ 1 ∷ 1 ∷ 5 ∷ []
-
--- the payload of record 1 with one state, one command and an answer
-abbrev pub singleTable : ℕ → List ℕ
-singleTable answer = 1 ∷ 1 ∷ 0 ∷ answer ∷ []
 
 -- the twin's built sequence
 abbrev pub builtTwin : List ℕ

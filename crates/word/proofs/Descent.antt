@@ -1,7 +1,8 @@
 -- A command in front of a word, and the words by rising commands, over plain variables. Assumes nothing.
 use Prim.Native.Nat.{ℕ, suc, _+_, _-_, _*_, _≤_, _<_}
 use mathlib.Core.Path.{_≡_, refl, sym, ap, ap₂, subst, _∙_}
-use mathlib.Core.Bool.{Bool, true, false, not, _&&_, and-false}
+use mathlib.Core.Bool.{Bool, true, false, _&&_, and-false}
+use mathlib.Core.Logic.{inl, inr}
 use mathlib.Core.List.{List, [], _∷_, _++_, append-nil}
 use mathlib.Core.Option.{none, some, Option·map}
 use native.Mathlib.Omega.{arith}
@@ -9,11 +10,12 @@ use lib.ListN.{length, set, take, drop, length-set, length-drop}
 use lib.Seq.{length-take-le, drop-length}
 use borrow.Author.Count.{below-more}
 use borrow.Rule.Slice.PartMut.{putMid}
+use Rattle.facts.specs.Tests.{true-or-false}
 use Rattle.facts.specs.FirstOf.{guard, guard-true, guard-false, firstOf, least-first, none-first}
 use Rattle.facts.specs.FirstString.{firstString, string-here, string-not-here, string-inside, string-outside}
 use Rattle.word.specs.declared.pairs.Moved.{Moved}
 use Rattle.word.specs.declared.pairs.Moved.the-variants.{Met, On}
-use Rattle.word.specs.Search.{keep, alike, moved, after, unmet, isEmpty, wordFrom}
+use Rattle.word.specs.Search.{alike, moved, after, unmet, isEmpty, wordFrom}
 use Rattle.word.specs.Searching.{cells, noneAlike, leftBy, MovesOn, BehindRequires, FirstRequires, wordOn}
 use Rattle.word.specs.Searching.{wordBehind}
 
@@ -48,15 +50,10 @@ module _ (k : ℕ) (next answer : List ℕ) where
       ≡ noneAlike k answer ps c
   unfolding noneAlike after unmet isEmpty
   left-empty [] c = refl
-  left-empty (p ∷ ps) c = go (alike (cells k answer) c p) (left-empty ps c)
-    where
-      go : (t : Bool)
-          → (unmet (leftBy k next answer ps c) && isEmpty (leftBy k next answer ps c)) ≡ noneAlike k answer ps c
-          → (unmet (keep t (moved (cells k next) c p) (leftBy k next answer ps c))
-          && isEmpty (keep t (moved (cells k next) c p) (leftBy k next answer ps c)))
-          ≡ (not t && noneAlike k answer ps c)
-      go true h = and-false (unmet (moved (cells k next) c p ∷ leftBy k next answer ps c))
-      go false h = h
+  left-empty (p ∷ ps) c = elim (true-or-false (alike (cells k answer) c p)) [
+    | inl e ↦ rw e (and-false (unmet (moved (cells k next) c p ∷ leftBy k next answer ps c)))
+    | inr e ↦ rw e (left-empty ps c)
+  ]
 
   -- ---- what moving on tells
   module _ (ps : List ℕ) (c : ℕ) (list : List ℕ) {r : Moved} (h : MovesOn k next answer ps c list r) where
@@ -79,17 +76,12 @@ module _ (k : ℕ) (next answer : List ℕ) where
     -- a word of this command alone
     pub behind-last : length word ≡ 1 → {b : Bool} → b ≡ noneAlike k answer ps c
         → guard b (some (set word 0 c)) ≡ wordBehind k next answer ps c (length word)
-    behind-last l {b} e = go b (sym (left-empty ps c ∙ sym e)) ∙ ap (wordBehind k next answer ps c) (sym l)
-      where
-        go : (t : Bool) → t ≡ (unmet (leftBy k next answer ps c) && isEmpty (leftBy k next answer ps c))
-            → guard t (some (set word 0 c)) ≡ wordBehind k next answer ps c 1
-        go true h =
-            guard-true (some (set word 0 c)) refl
-            ∙ ap some (one-command l)
-            ∙ ap (Option·map (_∷_ c)) (sym (on-here (leftBy k next answer ps c) (sym h)))
-        go false h =
-            guard-false (some (set word 0 c)) refl
-            ∙ ap (Option·map (_∷_ c)) (sym (on-none (leftBy k next answer ps c) (sym h)))
+    behind-last l {b} e =
+        let empty = left-empty ps c ∙ sym e in
+        rw l (elim (true-or-false b) [
+          | inl t ↦ guard-true _ t ∙ ap some (one-command l) ∙ ap (Option·map (_∷_ c)) (sym (on-here _ (empty ∙ t)))
+          | inr t ↦ guard-false _ t ∙ ap (Option·map (_∷_ c)) (sym (on-none _ (empty ∙ t)))
+        ])
 
     -- no word where two states met
     pub behind-met : unmet (leftBy k next answer ps c) ≡ false
@@ -117,15 +109,10 @@ module _ (k : ℕ) (next answer : List ℕ) where
       first-required h o few fits apart = record {
         behind = record {
           few = omega (arith, length-take-le size left fits, few, h .few);
-          some = more (length-set word 0 c) (h .some) (rest-long (h .some));
+          some = omega (arith, length-set word 0 c, h .some, rest-long (h .some));
         };
         apart = ap unmet lefts ∙ apart;
       }
-        where
-          more : length (set word 0 c) ≡ length word → 1 ≤ length word
-              → length (take (length (set word 0 c) - 1) (drop 1 (set word 0 c))) ≡ length word - 1
-              → 1 ≤ length (take (length (set word 0 c) - 1) (drop 1 (set word 0 c)))
-          more a b d = omega arith
 
       mid-is : (tail : List ℕ) → 1 ≤ length word → length tail ≡ length word - 1
           → putMid 1 (length (set word 0 c) - 1) (set word 0 c) tail ≡ c ∷ tail

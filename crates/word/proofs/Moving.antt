@@ -1,26 +1,19 @@
 -- What the loops over pairs keep, over plain variables. Assumes nothing.
 use Prim.Native.Nat.{ℕ, zero, suc, _+_, _-_, _≤_, _<_}
-use mathlib.Core.Path.{_≡_, refl, sym, ap, ap₂, subst, _∙_}
-use mathlib.Core.Bool.{Bool, true, false, not, _&&_}
+use mathlib.Core.Path.{_≡_, refl, sym, ap, ap₂, _∙_}
+use mathlib.Core.Bool.{Bool, true, false, not, _&&_, and-assoc}
 use mathlib.Core.List.{List, [], _∷_, _++_, append-assoc, append-nil}
 use native.Mathlib.Omega.{arith}
 use native.Mathlib.Numerals.{add-one}
 use borrow.Author.Tests.{eq-eqb, ne-eqb}
 use lib.Dec.{eqb}
-use lib.ListN.{length, getD, set, take, drop, length-set, length-append}
-use lib.Seq.{drop-cons, drop-length, take-suc-set, append-snoc}
+use lib.ListN.{length, getD, set, take, drop, length-set, length-append, drop-of-length-le}
+use lib.Seq.{append-snoc}
+use Rattle.facts.specs.Lists.{take-stored, rest-cons}
 use Rattle.machine.specs.Limits.{mostStates}
 use Rattle.word.specs.Search.{pairOf, one, other, pairsWith, allPairs, keep, alike, moved, after, unmet}
 use Rattle.word.specs.Searching.{mostPairs, cells, PutRequires, PutsPairs, HoldsAll, noneAlike, leftBy, MovesOn}
 use Rattle.word.specs.declared.pairs.Moved.the-variants.{On}
-
--- one element more of what is left of a list
-rest-cons : (ps : List ℕ) (i : ℕ) → i < length ps → drop i ps ≡ getD ps i 0 ∷ drop (i + 1) ps
-rest-cons ps i l = drop-cons ps i 0 l ∙ ap (λ (x : ℕ). getD ps i 0 ∷ drop x ps) (sym (add-one i))
-
--- what is left at the end
-rest-none : (ps : List ℕ) (i : ℕ) → i ≤ length ps → length ps ≤ i → drop i ps ≡ []
-rest-none ps i l o = let e : i ≡ length ps = omega arith in ap (λ (x : ℕ). drop x ps) e ∙ drop-length ps
 
 -- ---- whether a command tells all pairs apart
 module _ (k : ℕ) (answer ps : List ℕ) (c : ℕ) where
@@ -54,7 +47,7 @@ module _ (k : ℕ) (answer ps : List ℕ) (c : ℕ) where
 
   pub telling-end : {i : ℕ} → Telling i → length ps ≤ i → true ≡ noneAlike k answer ps c
   unfolding noneAlike
-  telling-end {i} h o = sym (h .same ∙ ap (λ (l : List ℕ). noneAlike k answer l c) (rest-none ps i (h .inside) o))
+  telling-end {i} h o = sym (h .same ∙ ap (λ (l : List ℕ). noneAlike k answer l c) (drop-of-length-le ps o))
 
 -- ---- pairs moved on
 -- pairs one behind the other have not met where none of both has
@@ -62,12 +55,7 @@ unmet-append : (xs ys : List ℕ) → unmet (xs ++ ys) ≡ (unmet xs && unmet ys
 unfolding unmet
 unmet-append [] ys = refl
 unmet-append (x ∷ xs) ys =
-    ap (λ (b : Bool). not (eqb (one x) (other x)) && b) (unmet-append xs ys)
-    ∙ shift (not (eqb (one x) (other x))) (unmet xs) (unmet ys)
-  where
-    shift : (a b d : Bool) → (a && (b && d)) ≡ ((a && b) && d)
-    shift true b d = refl
-    shift false b d = refl
+    rw (unmet-append xs ys) (sym (and-assoc (not (eqb (one x) (other x))) (unmet xs) (unmet ys)))
 
 module _ (k : ℕ) (next answer ps : List ℕ) (c : ℕ) (room : ℕ) where
   -- what the loop keeps: what is left of the pairs before i stands in the list, and none of it has met
@@ -85,8 +73,7 @@ module _ (k : ℕ) (next answer ps : List ℕ) (c : ℕ) (room : ℕ) where
   -- equal parts
   pub moving-same : {list list′ : List ℕ} {size size′ i : ℕ} → list′ ≡ list → size′ ≡ size → Moving list size i
       → Moving list′ size′ i
-  moving-same {list} {list′} {size} {size′} {i} le se h =
-      subst (λ (l : List ℕ). Moving l size′ i) (sym le) (subst (λ (n : ℕ). Moving list n i) (sym se) h)
+  moving-same le se h = rw (le, se) h
 
   left-here : (i : ℕ) → i < length ps → leftBy k next answer (drop i ps) c
       ≡ keep (alike (cells k answer) c (getD ps i 0)) (moved (cells k next) c (getD ps i 0))
@@ -134,8 +121,7 @@ module _ (k : ℕ) (next answer ps : List ℕ) (c : ℕ) (room : ℕ) where
       pub moving-kept : size < room → (one q ≡ other q → ⊥) → Moving (set list size q) (size + 1) (i + 1)
       unfolding unmet
       moving-kept fits o =
-          let front : take (size + 1) (set list size q) ≡ take size list ++ (q ∷ []) =
-          ap (λ (x : ℕ). take x (set list size q)) (add-one size) ∙ take-suc-set list size q (omega (arith, h .long)) in
+          let front = take-stored list size q (omega (arith, h .long)) in
           record {
             inside = omega arith;
             few = omega (arith, h .few);
@@ -156,7 +142,7 @@ module _ (k : ℕ) (next answer ps : List ℕ) (c : ℕ) (room : ℕ) where
   moving-end {list} {size} {i} h o =
       let all : leftBy k next answer ps c ≡ take size list =
       h .same
-      ∙ ap (λ (l : List ℕ). take size list ++ leftBy k next answer l c) (rest-none ps i (h .inside) o)
+      ∙ ap (λ (l : List ℕ). take size list ++ leftBy k next answer l c) (drop-of-length-le ps o)
       ∙ append-nil (take size list) in
       (omega (arith, h .few, h .inside), sym all, ap unmet all ∙ h .apart)
 
@@ -186,8 +172,7 @@ module _ (j at : ℕ) (before : List ℕ) where
     end-is = omega (arith, h .end-is);
     long = length-set list end q ∙ h .long;
     holds =
-        ap (λ (x : ℕ). take x (set list end q)) (add-one end)
-        ∙ take-suc-set list end q (omega (arith, h .end-is, h .long))
+        take-stored list end q (omega (arith, h .end-is, h .long))
         ∙ ap₂ (λ (l : List ℕ) (x : ℕ). l ++ (x ∷ [])) (h .holds) qe
         ∙ append-assoc (take at before) (pairsWith j i) (pairOf i j ∷ [])
         ∙ ap (λ (x : ℕ). take at before ++ pairsWith j x) (sym (add-one i));

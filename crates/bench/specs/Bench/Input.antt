@@ -3,10 +3,9 @@
 use Prim.Native.Nat.{ℕ, _+_, _<_}
 use mathlib.Core.Path.{_≡_, refl, sym, ap, _∙_}
 use mathlib.Core.Bool.{Bool, true, false}
-use mathlib.Core.List.{List, []}
+use mathlib.Core.List.{List, [], _∷_}
 use native.Mathlib.Omega.{arith}
-use borrow.Author.Tests.{ltb-true, ltb-false, lt-ltb}
-use lib.Dec.{ltb}
+use borrow.Author.Tests.{lt-ltb}
 use lib.ListN.{length, getD, take}
 use lib.Seq.{take-all, length-take-le}
 use Rattle.sheet.specs.declared.check.Check.{Check}
@@ -14,7 +13,7 @@ use Rattle.sheet.specs.declared.check.Check.the-variants.{Refused}
 use Rattle.sheet.specs.declared.reader.Needs.{Needs}
 use Rattle.sheet.specs.Check.{_else_, firstCause}
 use Rattle.sheet.specs.Check.Laws.{present, else-refused}
-use Rattle.sheet.specs.Format.{longest}
+use Rattle.sheet.specs.Format.{longest, standard}
 use Rattle.sheet.specs.Reader.{refusalOf}
 use Rattle.sheet.specs.Reader.Laws.{refusal-is, checks-are}
 use Rattle.machine.specs.Limits.{mostSequence}
@@ -40,6 +39,8 @@ use Rattle.bench.specs.declared.words.SheetService.the-variants.{Judge, 
 use Rattle.bench.specs.Words.{serviceOf, wordsOf}
 use Rattle.bench.specs.Words.Laws.{cut, words-are, words-cut}
 use Rattle.bench.specs.Bench.{sheetOutput, output, bench}
+use Rattle.facts.specs.Numbers.{less-or-not}
+use mathlib.Core.Logic.{inl, inr}
 
 -- a refusal stays what it is, whatever is checked behind it
 stays : (d : Check) {c : Check} {n p : ℕ} → c ≡ Refused n p → (c else d) ≡ Refused n p
@@ -55,12 +56,14 @@ long (Read kind) = onError (refusalLine 1 longest)
 long Desk = onOutput (refusalLine 1 longest)
 
 module _ (s : List ℕ) (l : longest < length s) where
-  read-long : (k : ℕ) → refusalOf k s ≡ Refused 1 longest
-  read-long k = refusal-is k s ∙ stays _ (present 1 longest (lt-ltb longest (length s) l))
+  read-long : (ks : List ℕ) → refusalOf standard ks s ≡ Refused 1 longest
+  read-long ks = refusal-is standard ks s ∙ stays _ (present 1 longest (lt-ltb longest (length s) l))
 
   load-long : (n : Needs) → firstCause (loadCauses n s) ≡ Refused 1 longest
   load-long n =
-      load-causes-are n s ∙ stays _ (machine-causes-are n s ∙ stays _ (checks-are n s ∙ stays _ (read-long 1)))
+      load-causes-are n s
+      ∙ stays _ (machine-causes-are n s
+      ∙ stays _ (checks-are standard n s ∙ stays _ (read-long (standard .machine))))
 
   sequence-long : (answers : Bool) (room : ℕ) → firstCause (sequenceCauses answers room s) ≡ Refused 1 longest
   sequence-long answers room = sequence-causes-are answers room s ∙ stays _ (load-long (sequenceNeeds answers))
@@ -79,7 +82,7 @@ module _ (s : List ℕ) (l : longest < length s) where
   output-long Build =
       built-refused s
       (building-refused mostSequence s (refused-early mostSequence s (load-refused s (load-long buildNeeds))))
-  output-long (Read kind) = read-refused s kind (read-long kind)
+  output-long (Read kind) = read-refused s kind (read-long (kind ∷ []))
   output-long Desk = begun-refused s (load-refused s (load-long buildNeeds))
 
 -- the first bytes of an input, one more than a sheet may have
@@ -87,14 +90,11 @@ abbrev pub cutInput : List ℕ → List ℕ
 cutInput s = take (longest + 1) s
 
 sheet-cut : (service : SheetService) (s : List ℕ) → sheetOutput service (cutInput s) ≡ sheetOutput service s
-sheet-cut service s = go (ltb longest (length s)) refl
-  where
-    go : (t : Bool) → ltb longest (length s) ≡ t → sheetOutput service (cutInput s) ≡ sheetOutput service s
-    go true e =
-        let l = ltb-true longest (length s) e in
-        output-long (cutInput s) (omega (arith, length-take-le (longest + 1) s (omega arith))) service
-        ∙ sym (output-long s l service)
-    go false e = ap (sheetOutput service) (take-all (longest + 1) s (omega (arith, ltb-false longest (length s) e)))
+sheet-cut service s = elim (less-or-not longest (length s)) [
+  | inl l ↦ output-long (cutInput s) (omega (arith, length-take-le (longest + 1) s (omega arith))) service
+      ∙ sym (output-long s l service)
+  | inr l ↦ ap (sheetOutput service) (take-all (longest + 1) s (omega arith))
+]
 
 service-cut : (service : Service) (s : List ℕ) → output service (cutInput s) ≡ output service s
 service-cut (Wrong mistake) s = refl

@@ -5,7 +5,7 @@ use Prim.Native.Nat.{ℕ, _+_}
 use mathlib.Core.Path.{_≡_, refl, ap, subst, _∙_}
 use native.Mathlib.Omega.{arith}
 use mathlib.Core.List.{List}
-use Rattle.sheet.specs.Reader.{content}
+use Rattle.sheet.specs.Reader.{sequenceIn, answersIn}
 use Rattle.machine.specs.Limits.{mostSequence}
 use Rattle.machine.specs.Causes.{machineIn}
 use Rattle.machine.specs.Unit.{Unit, ownAnswers}
@@ -58,8 +58,8 @@ module _ (words : List (List ℕ)) (s : List ℕ) where
   -- is the line of a pass with some end state, and there is a renaming, which assigns the unit's present
   -- state to that end state
   pub judge-identity : serviceOf words ≡ OnSheet Judge → (U : Unit (machineIn s .n) (machineIn s .k))
-      → Passing (bench words s .out) → content 4 s ≡ ownAnswers (machineIn s .n) (machineIn s .k) U (content 3 s)
-      → (size : ℕ) × (end : ℕ) × (bench words s .out ≡ passLine size end) × Renaming (machineIn s) U (content 3 s) end
+      → Passing (bench words s .out) → answersIn s ≡ ownAnswers (machineIn s .n) (machineIn s .k) U (sequenceIn s)
+      → (size : ℕ) × (end : ℕ) × (bench words s .out ≡ passLine size end) × Renaming (machineIn s) U (sequenceIn s) end
   judge-identity e U passing own =
       let line = ap (λ (o : Output). o .out) (judge-words e) in
       let h = line-identity (mostSequence + 1) s U (subst Passing line passing) own in

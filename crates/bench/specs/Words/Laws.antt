@@ -4,8 +4,8 @@ use mathlib.Core.Path.{_≡_, refl, sym, ap, ap₂, _∙_}
 use mathlib.Core.Bool.{Bool, true, false, cond, _&&_, _||_}
 use mathlib.Core.List.{List, [], _∷_}
 use native.Mathlib.Omega.{arith}
-use borrow.Author.Tests.{ltb-true, ltb-false, lt-ltb, ne-eqb}
-use lib.Dec.{eqb, ltb}
+use borrow.Author.Tests.{lt-ltb, ne-eqb}
+use lib.Dec.{eqb}
 use lib.ListN.{length, getD, take, length-replicate}
 use lib.Seq.{take-all, length-take-le}
 use Rattle.report.specs.declared.words.Mistake.the-variants.{Empty, Long}
@@ -16,6 +16,8 @@ use Rattle.bench.specs.declared.words.Service.the-variants.{Wrong, OnShe
 use Rattle.bench.specs.declared.words.SheetService.the-variants.{Desk}
 use Rattle.bench.specs.Words.{mostArgument, unlessUnfit, kindIn, kindOf, Row, services, named, counted, serviceOf}
 use Rattle.bench.specs.Words.{deskOf, behindFirst, wordsOf}
+use Rattle.facts.specs.Numbers.{less-or-not}
+use mathlib.Core.Logic.{inl, inr}
 
 -- ---- the number of words, and the first two of them
 pub words-are : (ws : List (List ℕ)) → serviceOf (wordsOf (length ws) (getD ws 0 []) (getD ws 1 [])) ≡ serviceOf ws
@@ -37,16 +39,11 @@ too-long w service l =
 
 -- whatever a word stands for
 cut-word : (w : List ℕ) (f : List ℕ → Service) → unlessUnfit (cut w) (f (cut w)) ≡ unlessUnfit w (f w)
-cut-word w f = go (ltb mostArgument (length w)) refl
-  where
-    go : (t : Bool) → ltb mostArgument (length w) ≡ t → unlessUnfit (cut w) (f (cut w)) ≡ unlessUnfit w (f w)
-    go true e =
-        let l = ltb-true mostArgument (length w) e in
-        too-long (cut w) (f (cut w)) (omega (arith, length-take-le (mostArgument + 1) w (omega arith)))
-        ∙ sym (too-long w (f w) l)
-    go false e =
-        ap (λ (u : List ℕ). unlessUnfit u (f u))
-        (take-all (mostArgument + 1) w (omega (arith, ltb-false mostArgument (length w) e)))
+cut-word w f = elim (less-or-not mostArgument (length w)) [
+  | inl l ↦ too-long (cut w) (f (cut w)) (omega (arith, length-take-le (mostArgument + 1) w (omega arith)))
+      ∙ sym (too-long w (f w) l)
+  | inr l ↦ ap (λ (u : List ℕ). unlessUnfit u (f u)) (take-all (mostArgument + 1) w (omega arith))
+]
 
 cut-kind : (w : List ℕ) → kindOf (cut w) ≡ kindOf w
 unfolding kindOf

@@ -14,7 +14,7 @@ use Rattle.sheet.specs.Check.{refusal_with_if_, _else_, firstCause, first}
 use Rattle.sheet.specs.Check.Laws.{both-clear, else-clear, else-refused, cause-one, cause-append}
 use Rattle.sheet.specs.Check.Laws.{absent, present, clear-absent, first-clear, first-clear-at, first-found}
 use Rattle.sheet.specs.Check.Laws.{first-present, present-test}
-use Rattle.sheet.specs.Reader.{content}
+use Rattle.sheet.specs.Reader.{wordIn}
 use Rattle.machine.specs.Limits.{mostWord}
 use Rattle.machine.specs.Machine.{Mealy, run, Proper, Commands, Distinguishes}
 use Rattle.machine.specs.Machine.Laws.{run-append, run-stays}
@@ -140,10 +140,10 @@ module _ (M : Mealy) (w : List ℕ) (proper : Proper M) (commands : Commands mos
 
 -- ---- the causes of loading and 8 of a sheet
 pub connected-causes-are : (s : List ℕ)
-    → firstCause (connectedCauses s) ≡ (firstCause (loadCauses buildNeeds s) else cause8 (machineIn s) (content 2 s))
+    → firstCause (connectedCauses s) ≡ (firstCause (loadCauses buildNeeds s) else cause8 (machineIn s) (wordIn s))
 unfolding connectedCauses
 connected-causes-are s =
-    let eight = cause8 (machineIn s) (content 2 s) in
+    let eight = cause8 (machineIn s) (wordIn s) in
     cause-append (loadCauses buildNeeds s) (eight ∷ [])
     ∙ ap (λ (c : Check). firstCause (loadCauses buildNeeds s) else c) (cause-one eight)
 
@@ -157,20 +157,20 @@ module _ (s : List ℕ) (clear : firstCause (connectedCauses s) ≡ Clear) where
   pub clear-load : firstCause (loadCauses buildNeeds s) ≡ Clear
   clear-load = both-clear _ _ (sym (connected-causes-are s) ∙ clear) .0
 
-  pub clear-eight : cause8 (machineIn s) (content 2 s) ≡ Clear
+  pub clear-eight : cause8 (machineIn s) (wordIn s) ≡ Clear
   clear-eight = both-clear _ _ (sym (connected-causes-are s) ∙ clear) .1
 
   -- so the machine is within its limits, the word within its own and separates, and the table is strongly connected
   pub clear-proper : Proper (machineIn s)
   clear-proper = load-proper buildNeeds s clear-load
 
-  pub clear-distinguishes : Distinguishes (machineIn s) (content 2 s)
+  pub clear-distinguishes : Distinguishes (machineIn s) (wordIn s)
   clear-distinguishes = word-distinguishes buildNeeds s refl clear-load
 
   pub clear-strongly : StronglyConnected (machineIn s)
-  clear-strongly = clear-connected (machineIn s) (content 2 s) clear-proper (clear-distinguishes .commands) clear-eight
+  clear-strongly = clear-connected (machineIn s) (wordIn s) clear-proper (clear-distinguishes .commands) clear-eight
 
 -- and they are clear where those of loading and 8 are
-pub all-clear : (s : List ℕ) → firstCause (loadCauses buildNeeds s) ≡ Clear → cause8 (machineIn s) (content 2 s) ≡ Clear
+pub all-clear : (s : List ℕ) → firstCause (loadCauses buildNeeds s) ≡ Clear → cause8 (machineIn s) (wordIn s) ≡ Clear
     → firstCause (connectedCauses s) ≡ Clear
 all-clear s load eight = connected-causes-are s ∙ (rw (load, eight) (else-clear Clear))

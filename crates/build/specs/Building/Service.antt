@@ -11,7 +11,7 @@ use Rattle.sheet.specs.declared.check.Check.{Check}
 use Rattle.sheet.specs.declared.check.Check.the-variants.{Clear, Refused}
 use Rattle.sheet.specs.Check.{_else_, firstCause, refusedOr}
 use Rattle.sheet.specs.Check.Laws.{both-clear, else-clear, else-refused, else-assoc, cause-one, cause-append}
-use Rattle.sheet.specs.Reader.{recordOf, content}
+use Rattle.sheet.specs.Reader.{wordIn, sequenceIn, wordRecord}
 use Rattle.sheet.specs.Writing.{written}
 use Rattle.machine.specs.Limits.{mostWord, mostSequence}
 use Rattle.machine.specs.Machine.{Mealy, run, Proper, Commands}
@@ -38,19 +38,19 @@ use Rattle.build.specs.Building.Connection.{refused-unconnected, connect
 
 -- ---- the causes in order
 connected-then-room : (room : ℕ) (s : List ℕ) → firstCause (buildCauses room s)
-    ≡ (firstCause (connectedCauses s) else cause9 room (length (sequence (machineIn s) (content 2 s))))
+    ≡ (firstCause (connectedCauses s) else cause9 room (length (sequence (machineIn s) (wordIn s))))
 unfolding buildCauses
 connected-then-room room s =
-    let nine = cause9 room (length (sequence (machineIn s) (content 2 s))) in
+    let nine = cause9 room (length (sequence (machineIn s) (wordIn s))) in
     cause-append (connectedCauses s) (nine ∷ [])
     ∙ ap (λ (c : Check). firstCause (connectedCauses s) else c) (cause-one nine)
 
 pub build-causes-are : (room : ℕ) (s : List ℕ) → firstCause (buildCauses room s)
     ≡ (firstCause (loadCauses buildNeeds s)
-    else (cause8 (machineIn s) (content 2 s) else cause9 room (length (sequence (machineIn s) (content 2 s)))))
+    else (cause8 (machineIn s) (wordIn s) else cause9 room (length (sequence (machineIn s) (wordIn s)))))
 build-causes-are room s =
     connected-then-room room s
-    ∙ ap (λ (c : Check). c else cause9 room (length (sequence (machineIn s) (content 2 s)))) (connected-causes-are s)
+    ∙ ap (λ (c : Check). c else cause9 room (length (sequence (machineIn s) (wordIn s)))) (connected-causes-are s)
     ∙ else-assoc _ _ _
 
 module _ (room : ℕ) (s : List ℕ) where
@@ -61,23 +61,23 @@ module _ (room : ℕ) (s : List ℕ) where
 
   -- where these are clear, it is 9
   pub room-cause : firstCause (connectedCauses s) ≡ Clear
-      → firstCause (buildCauses room s) ≡ cause9 room (length (sequence (machineIn s) (content 2 s)))
+      → firstCause (buildCauses room s) ≡ cause9 room (length (sequence (machineIn s) (wordIn s)))
   room-cause e = connected-then-room room s ∙ (rw e (else-clear _))
 
   -- ---- where all are clear
   module _ (e : firstCause (buildCauses room s) ≡ Clear) where
     parts-clear : (firstCause (loadCauses buildNeeds s) ≡ Clear)
-        × ((cause8 (machineIn s) (content 2 s) else cause9 room (length (sequence (machineIn s) (content 2 s))))
+        × ((cause8 (machineIn s) (wordIn s) else cause9 room (length (sequence (machineIn s) (wordIn s))))
         ≡ Clear)
     parts-clear = both-clear _ _ (sym (build-causes-are room s) ∙ e)
 
     pub load-clear : firstCause (loadCauses buildNeeds s) ≡ Clear
     load-clear = parts-clear .0
 
-    pub eight-clear : cause8 (machineIn s) (content 2 s) ≡ Clear
+    pub eight-clear : cause8 (machineIn s) (wordIn s) ≡ Clear
     eight-clear = both-clear _ _ (parts-clear .1) .0
 
-    pub room-enough : length (sequence (machineIn s) (content 2 s)) ≤ room
+    pub room-enough : length (sequence (machineIn s) (wordIn s)) ≤ room
     room-enough = clear-room _ _ (both-clear _ _ (parts-clear .1) .1)
 
   -- ---- the answer and the buffer
@@ -86,7 +86,7 @@ module _ (room : ℕ) (s : List ℕ) where
   building-refused e = rw e
 
   pub building-clear : firstCause (buildCauses room s) ≡ Clear
-      → building room s ≡ Built (length (sequence (machineIn s) (content 2 s)))
+      → building room s ≡ Built (length (sequence (machineIn s) (wordIn s)))
   unfolding building
   building-clear e = rw e
 
@@ -100,15 +100,15 @@ module _ (room : ℕ) (s : List ℕ) where
 
   -- an answer of built: nothing is refused, and the number is the sequence's length
   pub answer-built : {n : ℕ} → building room s ≡ Built n
-      → (firstCause (buildCauses room s) ≡ Clear) × (n ≡ length (sequence (machineIn s) (content 2 s)))
+      → (firstCause (buildCauses room s) ≡ Clear) × (n ≡ length (sequence (machineIn s) (wordIn s)))
   unfolding building
-  answer-built {n} e = built-by (firstCause (buildCauses room s)) (length (sequence (machineIn s) (content 2 s))) e
+  answer-built {n} e = built-by (firstCause (buildCauses room s)) (length (sequence (machineIn s) (wordIn s))) e
 
   -- an answer of refused: that is the first cause
   pub answer-refused : {a b : ℕ} → building room s ≡ RefusedAnswer a b → firstCause (buildCauses room s) ≡ Refused a b
   unfolding building
   answer-refused {a} {b} e =
-      refused-by (firstCause (buildCauses room s)) (length (sequence (machineIn s) (content 2 s))) e
+      refused-by (firstCause (buildCauses room s)) (length (sequence (machineIn s) (wordIn s))) e
 
 module _ (s buffer : List ℕ) where
   pub buffer-refused : {a b : ℕ} → firstCause (buildCauses (length buffer) s) ≡ Refused a b
@@ -117,7 +117,7 @@ module _ (s buffer : List ℕ) where
   buffer-refused e = rw e
 
   pub buffer-clear : firstCause (buildCauses (length buffer) s) ≡ Clear
-      → bufferAfter s buffer ≡ written (sequence (machineIn s) (content 2 s)) buffer
+      → bufferAfter s buffer ≡ written (sequence (machineIn s) (wordIn s)) buffer
   unfolding bufferAfter
   buffer-clear e = rw e
 
@@ -135,28 +135,28 @@ module _ (room : ℕ) (s : List ℕ) where
         word = both-clear _ _ (sym (word-causes-are s) ∙ word) .0;
         separates = d .separates;
         connected =
-            clear-connected (machineIn s) (content 2 s) (load-proper buildNeeds s load) (d .commands)
+            clear-connected (machineIn s) (wordIn s) (load-proper buildNeeds s load) (d .commands)
             (eight-clear room s e);
         fits = room-enough room s e;
       }
 
   pub buildable-clear : Buildable room s → firstCause (buildCauses room s) ≡ Clear
   buildable-clear h =
-      let six : cause6 (machineIn s) (content 2 s) ≡ Clear =
-      separates-clear (machineIn s) (content 2 s) (h .separates) in
+      let six : cause6 (machineIn s) (wordIn s) ≡ Clear =
+      separates-clear (machineIn s) (wordIn s) (h .separates) in
       let word : firstCause (wordCauses true s) ≡ Clear = word-causes-are s ∙ (rw (h .word, six) (else-clear Clear)) in
       let load : firstCause (loadCauses buildNeeds s) ≡ Clear =
       load-causes-are buildNeeds s ∙ (rw (h .machine, word) (else-clear Clear)) in
-      let commands : Commands mostWord (machineIn s .k) (content 2 s) =
-      clear-commands 5 mostWord (machineIn s .k) (recordOf 2 s) (content 2 s) (h .word) in
+      let commands : Commands mostWord (machineIn s .k) (wordIn s) =
+      clear-commands 5 mostWord (machineIn s .k) (wordRecord s) (wordIn s) (h .word) in
       let eight =
-      connected-clear (machineIn s) (content 2 s) (machine-proper buildNeeds s (h .machine)) commands (h .connected) in
+      connected-clear (machineIn s) (wordIn s) (machine-proper buildNeeds s (h .machine)) commands (h .connected) in
       room-cause room s (all-clear s load eight) ∙ room-clear _ _ (h .fits)
 
   pub built-buildable : {n : ℕ} → building room s ≡ Built n → Buildable room s
   built-buildable e = clear-buildable (answer-built room s e .0)
 
-  pub buildable-built : Buildable room s → building room s ≡ Built (length (sequence (machineIn s) (content 2 s)))
+  pub buildable-built : Buildable room s → building room s ≡ Built (length (sequence (machineIn s) (wordIn s)))
   buildable-built h = building-clear room s (buildable-clear h)
 
 -- ---- a refusal
@@ -174,25 +174,25 @@ which (Refused n p) d e h = one (sym (else-refused n p (d else e)) ∙ h)
 -- any length leads on; or 9, with the built length, which is above the room
 pub data RefusedFor (room : ℕ) (s : List ℕ) (a b : ℕ) : Type 0 where
   early : firstCause (loadCauses buildNeeds s) ≡ Refused a b → RefusedFor room s a b
-  unconnected : a ≡ 8 → NotConnected (machineIn s) (content 2 s) b → RefusedFor room s a b
-  narrow : a ≡ 9 → b ≡ length (sequence (machineIn s) (content 2 s)) → room < b → RefusedFor room s a b
+  unconnected : a ≡ 8 → NotConnected (machineIn s) (wordIn s) b → RefusedFor room s a b
+  narrow : a ≡ 9 → b ≡ length (sequence (machineIn s) (wordIn s)) → room < b → RefusedFor room s a b
 
 module _ (room : ℕ) (s : List ℕ) where
-  narrow-by : {a b : ℕ} → cause9 room (length (sequence (machineIn s) (content 2 s))) ≡ Refused a b
+  narrow-by : {a b : ℕ} → cause9 room (length (sequence (machineIn s) (wordIn s))) ≡ Refused a b
       → RefusedFor room s a b
   narrow-by {a} {b} e =
       let t = room-refused _ _ e in
       narrow (t .0) (t .1 .0) (omega (arith, t .1))
 
   why : {a b : ℕ}
-      → Which (firstCause (loadCauses buildNeeds s)) (cause8 (machineIn s) (content 2 s))
-      (cause9 room (length (sequence (machineIn s) (content 2 s)))) a b
+      → Which (firstCause (loadCauses buildNeeds s)) (cause8 (machineIn s) (wordIn s))
+      (cause9 room (length (sequence (machineIn s) (wordIn s)))) a b
       → RefusedFor room s a b
   why (one e) = early e
   why (two l e) =
       let proper = load-proper buildNeeds s l in
       let r =
-      refused-unconnected (machineIn s) (content 2 s) proper (word-distinguishes buildNeeds s refl l .commands) e in
+      refused-unconnected (machineIn s) (wordIn s) proper (word-distinguishes buildNeeds s refl l .commands) e in
       unconnected (r .0) (r .1)
   why (three l c e) = narrow-by e
 
@@ -237,42 +237,42 @@ sequence-built M w proper commands clear =
 
 -- in a room of 20,355 bytes cause 9 is never present
 pub always-fits : (room : ℕ) (s : List ℕ) → mostSequence ≤ room → firstCause (loadCauses buildNeeds s) ≡ Clear
-    → cause8 (machineIn s) (content 2 s) ≡ Clear → firstCause (buildCauses room s) ≡ Clear
+    → cause8 (machineIn s) (wordIn s) ≡ Clear → firstCause (buildCauses room s) ≡ Clear
 always-fits room s l load eight =
     let proper = load-proper buildNeeds s load in
     let xs =
-    sequence-built (machineIn s) (content 2 s) proper (word-distinguishes buildNeeds s refl load .commands) eight in
+    sequence-built (machineIn s) (wordIn s) proper (word-distinguishes buildNeeds s refl load .commands) eight in
     room-cause room s (all-clear s load eight) ∙ room-clear _ _ (omega (arith, xs .commands .few))
 
 -- an answer of built shows all that of the sequence
 pub built-sequence : (room : ℕ) (s : List ℕ) {n : ℕ} → building room s ≡ Built n
-    → BuiltSequence (machineIn s) (content 2 s) (sequence (machineIn s) (content 2 s)) n
+    → BuiltSequence (machineIn s) (wordIn s) (sequence (machineIn s) (wordIn s)) n
 built-sequence room s e =
     let a = answer-built room s e in
     let load = load-clear room s (a .0) in
     let d = word-distinguishes buildNeeds s refl load in
     rw (a .1)
-    (sequence-built (machineIn s) (content 2 s) (load-proper buildNeeds s load) (d .commands)
+    (sequence-built (machineIn s) (wordIn s) (load-proper buildNeeds s load) (d .commands)
     (eight-clear room s (a .0)))
 
 -- and of the buffer: its first bytes are the sequence, the later ones as they were
 pub built-buffer : (s buffer : List ℕ) {n : ℕ} → building (length buffer) s ≡ Built n
-    → (take n (bufferAfter s buffer) ≡ sequence (machineIn s) (content 2 s))
+    → (take n (bufferAfter s buffer) ≡ sequence (machineIn s) (wordIn s))
     × (drop n (bufferAfter s buffer) ≡ drop n buffer)
 built-buffer s buffer e =
     let a = answer-built (length buffer) s e in
     let after = buffer-clear s buffer (a .0) in
-    let xs = sequence (machineIn s) (content 2 s) in
+    let xs = sequence (machineIn s) (wordIn s) in
     rw (a .1, after) (take-append-seam xs (drop (length xs) buffer), drop-append-seam xs (drop (length xs) buffer))
 
 -- a sheet with the same machine and word, and what is built as its sequence, is answered certified wherever
 -- certifying refuses nothing
 pub built-certification : (room : ℕ) (s : List ℕ) {n : ℕ} → building room s ≡ Built n
     → (marksRoom : ℕ) (with-sequence : List ℕ) → machineIn with-sequence ≡ machineIn s
-    → content 2 with-sequence ≡ content 2 s → content 3 with-sequence ≡ sequence (machineIn s) (content 2 s)
+    → wordIn with-sequence ≡ wordIn s → sequenceIn with-sequence ≡ sequence (machineIn s) (wordIn s)
     → firstCause (certifyCauses marksRoom with-sequence) ≡ Clear
     → certification marksRoom with-sequence
-    ≡ CertifiedAnswer (count (marks (machineIn s) (content 2 s) (sequence (machineIn s) (content 2 s))))
+    ≡ CertifiedAnswer (count (marks (machineIn s) (wordIn s) (sequence (machineIn s) (wordIn s))))
 built-certification room s e marksRoom with-sequence me we xe clear =
     let sequence-facts = built-sequence room s e in
     certification-clear marksRoom with-sequence clear ∙ (rw (me, we, xe) (sequence-facts .outcome))

@@ -15,14 +15,15 @@ use Rattle.sheet.specs.declared.check.Check.the-variants.{Clear}
 use Rattle.sheet.specs.Check.{refusal_with_if_, _else_, firstCause, first}
 use Rattle.sheet.specs.Check.Laws.{absent, else-clear, else-end}
 use Rattle.sheet.specs.Format.{recordAt, offset, end, kindOf, cause1, cause2, causeAt, parseStep, parseFrom, parse}
-use Rattle.sheet.specs.Format.{parsed, ofKind, _or_, find}
-use Rattle.sheet.specs.Reader.{sheetCauses, when, needed, refusalOf, recordOf, part, partBytes, content}
-use Rattle.sheet.specs.Writing.{written}
+use Rattle.sheet.specs.Format.{parsed, ofKind, _or_, find, standard}
+use Rattle.sheet.specs.Reader.{sheetCauses, when, needed, refusalOf, recordOf, part, partBytes, content, wordIn}
+use Rattle.sheet.specs.Writing.{headerOf, written}
+use Rattle.sheet.specs.Joining.{joined, fresh}
 use Rattle.machine.specs.House.{housePayload, house, houseWord}
 use Rattle.machine.specs.Machine.{noAnswer, machineOf, run, answers}
 use Rattle.machine.specs.Causes.{cause3, cause4, cause12, commandsCause, cause6, machineIn, tableCauses}
 use Rattle.machine.specs.Causes.{machineCauses, wordCauses, loadCauses}
-use Rattle.certify.specs.Marks.Twin.{twin, single}
+use Rattle.certify.specs.Marks.Twin.{twinTable, twin, singleTable, single}
 use Rattle.certify.specs.declared.answer.Answer.the-variants.{Certified}
 use Rattle.certify.specs.Certification.{cause9, outcome}
 use Rattle.certify.specs.Certification.Twin.{twin-built, single-built}
@@ -34,17 +35,21 @@ use Rattle.build.specs.Building.{cause8, connectedCauses, buildCauses, b
 use Rattle.build.specs.Building.Service.{building-clear, buffer-clear}
 
 -- ---- the sheets
+-- that of a machine's payload and a word
+abbrev pub unitSheet : List ℕ → List ℕ → List ℕ
+unitSheet table word = joined (fresh (standard .machine) table ∷ fresh (standard .word) word ∷ [])
+
 -- the twin's, with its word 0
-unfoldable pub twinSheet : List ℕ
-twinSheet = 10 ∷ 0 ∷ 0 ∷ 0 ∷ 1 ∷ 0 ∷ 2 ∷ 2 ∷ 1 ∷ 0 ∷ 0 ∷ 5 ∷ 0 ∷ 1 ∷ 1 ∷ 5 ∷ 1 ∷ 0 ∷ 0 ∷ 0 ∷ 2 ∷ 0 ∷ 0 ∷ []
+abbrev pub twinSheet : List ℕ
+twinSheet = unitSheet twinTable (0 ∷ [])
 
--- the same, with entry (1, 0) leading to 1
-unfoldable pub disconnectedSheet : List ℕ
-disconnectedSheet = 10 ∷ 0 ∷ 0 ∷ 0 ∷ 1 ∷ 0 ∷ 2 ∷ 2 ∷ 1 ∷ 0 ∷ 0 ∷ 5 ∷ 1 ∷ 1 ∷ 1 ∷ 5 ∷ 1 ∷ 0 ∷ 0 ∷ 0 ∷ 2 ∷ 0 ∷ 0 ∷ []
+-- the twin's table, with entry (1, 0) leading to 1
+abbrev pub disconnectedTable : List ℕ
+disconnectedTable = 2 ∷ 2 ∷ 1 ∷ 0 ∷ 0 ∷ 5 ∷ 1 ∷ 1 ∷ 1 ∷ 5 ∷ []
 
--- that of one state and one command, with the word 0 and an answer
-unfoldable pub singleSheet : ℕ → List ℕ
-singleSheet answer = 4 ∷ 0 ∷ 0 ∷ 0 ∷ 1 ∷ 0 ∷ 1 ∷ 1 ∷ 0 ∷ answer ∷ 1 ∷ 0 ∷ 0 ∷ 0 ∷ 2 ∷ 0 ∷ 0 ∷ []
+-- the sheet of one state and one command, with the word 0 and an answer
+abbrev pub singleSheet : ℕ → List ℕ
+singleSheet answer = unitSheet (singleTable answer) (0 ∷ [])
 
 -- ---- the twin's sequence
 pub twin-sequence : sequence twin (0 ∷ []) ≡ 0 ∷ 0 ∷ 0 ∷ 0 ∷ 0 ∷ 0 ∷ 1 ∷ 0 ∷ 0 ∷ 0 ∷ 1 ∷ 0 ∷ []
@@ -58,16 +63,16 @@ twin-certified = ap (outcome twin (0 ∷ [])) twin-sequence ∙ twin-built
 
 -- the machine of the sheet is the twin, of which the two facts above speak
 pub twin-machine : machineIn twinSheet ≡ twin
-unfolding twin twinSheet machineOf machineIn content partBytes part refusalOf sheetCauses firstCause _else_
+unfolding joined headerOf twin machineOf machineIn content partBytes part refusalOf sheetCauses firstCause _else_
     refusal_with_if_ parsed parse parseFrom recordAt end kindOf cause1 cause2 causeAt parseStep find ofKind _or_ offset
 twin-machine = refl
 
-twin-word : content 2 twinSheet ≡ 0 ∷ []
-unfolding twinSheet machineOf machineIn content partBytes part refusalOf sheetCauses firstCause _else_ refusal_with_if_
-    parsed parse parseFrom recordAt end kindOf cause1 cause2 causeAt parseStep find ofKind _or_ offset
+twin-word : wordIn twinSheet ≡ 0 ∷ []
+unfolding joined headerOf machineOf machineIn content partBytes part refusalOf sheetCauses firstCause _else_
+    refusal_with_if_ parsed parse parseFrom recordAt end kindOf cause1 cause2 causeAt parseStep find ofKind _or_ offset
 twin-word = refl
 
-twin-built-sequence : sequence (machineIn twinSheet) (content 2 twinSheet)
+twin-built-sequence : sequence (machineIn twinSheet) (wordIn twinSheet)
     ≡ 0 ∷ 0 ∷ 0 ∷ 0 ∷ 0 ∷ 0 ∷ 1 ∷ 0 ∷ 0 ∷ 0 ∷ 1 ∷ 0 ∷ []
 twin-built-sequence = ap₂ sequence twin-machine twin-word ∙ twin-sequence
 
@@ -82,11 +87,11 @@ twelve-clear answer place some e =
     ap₂ _else_ (absent 12 place (ne-eqb answer noAnswer some)) e ∙ else-clear Clear
 
 twin-clear : (room : ℕ) → 12 ≤ room → firstCause (buildCauses room twinSheet) ≡ Clear
-unfolding twinSheet refusal_with_if_ _else_ firstCause first recordAt offset end kindOf cause1 cause2 causeAt parseStep
-    parseFrom parse parsed ofKind _or_ find sheetCauses when needed refusalOf recordOf part partBytes content machineOf
-    run answers cause3 cause4 cause12 commandsCause cause6 machineIn tableCauses machineCauses wordCauses loadCauses
-    cause9 guard orElse firstOf firstString firstPath transfer following T nthState firstBlocks opening approach test
-    stateTests tests sequence cause8 connectedCauses buildCauses
+unfolding joined headerOf refusal_with_if_ _else_ firstCause first recordAt offset end kindOf cause1 cause2 causeAt
+    parseStep parseFrom parse parsed ofKind _or_ find sheetCauses when needed refusalOf recordOf part partBytes content
+    machineOf run answers cause3 cause4 cause12 commandsCause cause6 machineIn tableCauses machineCauses wordCauses
+    loadCauses cause9 guard orElse firstOf firstString firstPath transfer following T nthState firstBlocks opening
+    approach test stateTests tests sequence cause8 connectedCauses buildCauses
 twin-clear room l = nine-clear room 12 l
 
 pub twin-building : (room : ℕ) → 12 ≤ room → building room twinSheet ≡ Built 12
@@ -100,8 +105,8 @@ twin-buffer buffer l =
     ∙ ap (λ (xs : List ℕ). written xs buffer) twin-built-sequence
 
 -- ---- where entry (1, 0) goes to 1, cause 8 is present at 1, whatever the room
-pub disconnected-building : (room : ℕ) → building room disconnectedSheet ≡ Refused 8 1
-unfolding building disconnectedSheet refusal_with_if_ _else_ firstCause first recordAt offset end kindOf cause1 cause2
+pub disconnected-building : (room : ℕ) → building room (unitSheet disconnectedTable (0 ∷ [])) ≡ Refused 8 1
+unfolding joined headerOf building refusal_with_if_ _else_ firstCause first recordAt offset end kindOf cause1 cause2
     causeAt parseStep parseFrom parse parsed ofKind _or_ find sheetCauses when needed refusalOf recordOf part partBytes
     content machineOf run answers cause3 cause4 cause12 commandsCause cause6 machineIn tableCauses machineCauses
     wordCauses loadCauses cause9 guard orElse firstOf firstString firstPath transfer following T nthState firstBlocks
@@ -118,22 +123,22 @@ pub single-certified : (answer : ℕ) → outcome (single answer) (0 ∷ []) (se
 single-certified answer = ap (outcome (single answer) (0 ∷ [])) (single-sequence answer) ∙ single-built answer
 
 single-machine : (answer : ℕ) → machineIn (singleSheet answer) ≡ single answer
-unfolding single singleSheet machineOf machineIn content partBytes part refusalOf sheetCauses firstCause _else_
+unfolding joined headerOf single machineOf machineIn content partBytes part refusalOf sheetCauses firstCause _else_
     refusal_with_if_ parsed parse parseFrom recordAt end kindOf cause1 cause2 causeAt parseStep find ofKind _or_ offset
 single-machine answer = refl
 
-single-word : (answer : ℕ) → content 2 (singleSheet answer) ≡ 0 ∷ []
-unfolding singleSheet machineOf machineIn content partBytes part refusalOf sheetCauses firstCause _else_
+single-word : (answer : ℕ) → wordIn (singleSheet answer) ≡ 0 ∷ []
+unfolding joined headerOf machineOf machineIn content partBytes part refusalOf sheetCauses firstCause _else_
     refusal_with_if_ parsed parse parseFrom recordAt end kindOf cause1 cause2 causeAt parseStep find ofKind _or_ offset
 single-word answer = refl
 
 single-built-sequence : (answer : ℕ)
-    → sequence (machineIn (singleSheet answer)) (content 2 (singleSheet answer)) ≡ 0 ∷ 0 ∷ 0 ∷ 0 ∷ []
+    → sequence (machineIn (singleSheet answer)) (wordIn (singleSheet answer)) ≡ 0 ∷ 0 ∷ 0 ∷ 0 ∷ []
 single-built-sequence answer = ap₂ sequence (single-machine answer) (single-word answer) ∙ single-sequence answer
 
 single-clear : (answer room : ℕ) → (answer ≡ noAnswer → ⊥) → 4 ≤ room
     → firstCause (buildCauses room (singleSheet answer)) ≡ Clear
-unfolding singleSheet refusal_with_if_ _else_ firstCause first recordAt offset end kindOf cause1 cause2 causeAt
+unfolding joined headerOf refusal_with_if_ _else_ firstCause first recordAt offset end kindOf cause1 cause2 causeAt
     parseStep parseFrom parse parsed ofKind _or_ find sheetCauses when needed refusalOf recordOf part partBytes content
     machineOf run answers cause3 cause4 cause12 commandsCause cause6 machineIn tableCauses machineCauses wordCauses
     loadCauses cause9 guard orElse firstOf firstString firstPath transfer following T nthState firstBlocks opening

@@ -3,13 +3,12 @@
 -- start of another. M is the machine, w the word; a split of the sequence says where a block stands.
 use Prim.Native.Nat.{ℕ, zero, suc, _+_, _-_, _≤_, _<_}
 use mathlib.Core.Path.{_≡_, refl, sym, ap, ap₂, _∙_}
-use mathlib.Core.Bool.{Bool, true, false}
+use mathlib.Core.Logic.{inl, inr}
 use mathlib.Core.List.{List, [], _∷_, _++_, append-assoc, append-nil}
 use native.Mathlib.Omega.{arith}
 use native.Mathlib.Numerals.{add-one}
 use native.Mathlib.Nat.{add-zero, add-suc, not-suc-le-zero, le-refl, le-of-suc-le}
-use borrow.Author.Tests.{eqb-true, eqb-false}
-use lib.Dec.{eqb}
+use Rattle.facts.specs.Numbers.{equal-or-not}
 use lib.ListN.{length, getD, take, drop, length-append}
 use lib.Seq.{take-append-seam, drop-append-seam, getD-append-seam}
 use borrow.Author.Count.{below-more}
@@ -145,21 +144,15 @@ module _ (M : Mealy) (w : List ℕ) (h : Blocks M w) where
   ended-here : (xs : List ℕ) → Ended xs → {ys : List ℕ} → ys ≡ [] → Ended (xs ++ ys)
   ended-here xs o e = rw (e, append-nil) o
 
-  ended-by : (i : ℕ) (xs : List ℕ) (p s : ℕ) → Ended xs → (b : Bool) → eqb p s ≡ b
-      → ((p ≡ s → ⊥) → Ended (xs ++ T M w p ++ approach M w i (run M p (T M w p)) s))
-      → Ended (xs ++ approach M w (suc i) p s)
-  ended-by i xs p s o true e on = ended-here xs o (rw (eqb-true p s e) (approach-here M w (suc i) s))
-  ended-by i xs p s o false e on =
-      let ne = eqb-false p s e in
-      rw (approach-on M w i p s ne, ← append-assoc) (on ne)
-
   ended-approach : (i : ℕ) (xs : List ℕ) (p s : ℕ) → Ended xs → run M (M .start) xs ≡ p
       → Ended (xs ++ approach M w i p s)
   ended-approach zero xs p s o e = ended-here xs o (approach-none M w p s)
-  ended-approach (suc i) xs p s o e =
-      ended-by i xs p s o (eqb p s) refl
-      (λ ne. ended-approach i (xs ++ T M w p) (run M p (T M w p)) s (ended-more xs p (rw (← e) (ended-stays xs o)) e)
-      (run-append M (M .start) xs (T M w p) ∙ ap (λ (x : ℕ). run M x (T M w p)) e))
+  ended-approach (suc i) xs p s o e = elim (equal-or-not p s) [
+    | inl q ↦ ended-here xs o (rw q (approach-here M w (suc i) s))
+    | inr ne ↦ rw (approach-on M w i p s ne, ← append-assoc)
+        (ended-approach i (xs ++ T M w p) (run M p (T M w p)) s (ended-more xs p (rw (← e) (ended-stays xs o)) e)
+        (run-append M (M .start) xs (T M w p) ∙ ap (λ (x : ℕ). run M x (T M w p)) e))
+  ]
 
   -- the test of an entry behind a beginning
   module _ (xs : List ℕ) (p s c : ℕ) (o : Ended xs) (e : run M (M .start) xs ≡ p) (sl : s < M .n) (cl : c < M .k) where

@@ -2,10 +2,12 @@
 use Prim.Native.Nat.{ℕ, zero, suc, _+_, _-_, _≤_, _<_}
 use mathlib.Core.Path.{_≡_, refl, ap}
 use mathlib.Core.Bool.{Bool, true, false}
+use mathlib.Core.Logic.{inl, inr}
 use native.Mathlib.Omega.{arith}
-use borrow.Author.Tests.{eq-eqb, ne-eqb, eqb-true, eqb-false, leb-true, leb-false}
+use borrow.Author.Tests.{eq-eqb, ne-eqb, le-leb, lt-leb}
 use lib.Arith.{lt-of-le-ne}
-use lib.Dec.{eqb, leb}
+use lib.Dec.{leb}
+use Rattle.facts.specs.Numbers.{equal-or-not, less-or-not}
 use Rattle.machine.specs.Machine.{Mealy, Proper}
 use Rattle.build.specs.Sequence.{nextOr, following, nthState}
 
@@ -17,11 +19,10 @@ pub data After (n s t : ℕ) : Type 0 where
 
 pub following-is : (n s : ℕ) → s < n → After n s (following n s)
 unfolding following
-following-is n s l = go (eqb (s + 1) n) refl
-  where
-    go : (b : Bool) → eqb (s + 1) n ≡ b → After n s (nextOr b s)
-    go true e = around (eqb-true _ _ e) refl
-    go false e = let ne = eqb-false (s + 1) n e in let m : s + 1 < n = lt-of-le-ne (omega arith) ne in on m refl
+following-is n s l = elim (equal-or-not (s + 1) n) [
+  | inl e ↦ around e (rw (eq-eqb (s + 1) n e))
+  | inr o ↦ on (lt-of-le-ne (omega arith) o) (rw (ne-eqb (s + 1) n o))
+]
 
 after-below : {n s t : ℕ} → s < n → After n s t → t < n
 after-below l (around e q) = omega arith
@@ -52,11 +53,8 @@ data Gap (n p s g : ℕ) : Type 0 where
 
 gap-is : (n p s : ℕ) → Gap n p s (gap n p s)
 unfolding gap
-gap-is n p s = go (leb p s) refl
-  where
-    go : (b : Bool) → leb p s ≡ b → Gap n p s (gapOr b n p s)
-    go true e = ahead (leb-true _ _ e) refl
-    go false e = round-about (leb-false _ _ e) refl
+gap-is n p s =
+    elim (less-or-not s p) [ inl l ↦ round-about l (rw (lt-leb p s l)) | inr l ↦ ahead l (rw (le-leb p s l)) ]
 
 below-by : {n p s g : ℕ} → p < n → s < n → Gap n p s g → g < n
 below-by pl sl (ahead l e) = omega arith
@@ -74,12 +72,12 @@ pub gap-none : (n p s : ℕ) → p < n → gap n p s ≡ 0 → p ≡ s
 gap-none n p s pl z = none-by pl (gap-is n p s) z
 
 step-by : {n p s q g h : ℕ} → p < n → s < n → (p ≡ s → ⊥) → After n p q → Gap n p s g → Gap n q s h → h + 1 ≡ g
-step-by {p = p} {s = s} pl sl ne (around a b) (ahead l e) (ahead m f) = let z : p ≡ s = omega arith in absurd (ne z)
+step-by pl sl ne (around a b) (ahead l e) (ahead m f) = absurd (ne (omega arith))
 step-by pl sl ne (around a b) (ahead l e) (round-about m f) = omega arith
 step-by pl sl ne (around a b) (round-about l e) (ahead m f) = omega arith
 step-by pl sl ne (around a b) (round-about l e) (round-about m f) = omega arith
-step-by {p = p} {s = s} pl sl ne (on a b) (ahead l e) (ahead m f) = omega arith
-step-by {p = p} {s = s} pl sl ne (on a b) (ahead l e) (round-about m f) = let z : p ≡ s = omega arith in absurd (ne z)
+step-by pl sl ne (on a b) (ahead l e) (ahead m f) = omega arith
+step-by pl sl ne (on a b) (ahead l e) (round-about m f) = absurd (ne (omega arith))
 step-by pl sl ne (on a b) (round-about l e) (ahead m f) = omega arith
 step-by pl sl ne (on a b) (round-about l e) (round-about m f) = omega arith
 

@@ -1,13 +1,14 @@
 -- The laws of the prescribed sequence: where each part of it leads.
 use Prim.Native.Nat.{ℕ, zero, suc, _-_, _≤_, _<_}
 use mathlib.Core.Path.{_≡_, refl, sym, ap, _∙_}
-use mathlib.Core.Bool.{Bool, true, false}
+use mathlib.Core.Logic.{inl, inr}
 use mathlib.Core.List.{List, [], _∷_, _++_}
 use mathlib.Core.Option.{Option·getD}
 use native.Mathlib.Omega.{arith}
-use borrow.Author.Tests.{eq-eqb, ne-eqb, eqb-true, eqb-false}
-use lib.Dec.{eqb}
-use lib.ListN.{length, getD}
+use borrow.Author.Tests.{eq-eqb, ne-eqb}
+use lib.ListN.{length}
+use Rattle.facts.specs.Lists.{Below}
+use Rattle.facts.specs.Numbers.{equal-or-not}
 use Rattle.machine.specs.Machine.{Mealy, run, Proper}
 use Rattle.machine.specs.Machine.Laws.{run-none, run-append, run-cons}
 use Rattle.build.specs.Sequence.{following, B, T, nthState, firstBlocks, opening, approach, test, stateTests}
@@ -22,7 +23,7 @@ pub record Blocks (M : Mealy) (w : List ℕ) : Type 0 where
   pub some : 1 ≤ length w
   pub leads : (s : ℕ) → s < M .n → run M s (T M w s) ≡ following (M .n) s
   pub begins : (s : ℕ) → s < M .n → (t : List ℕ) × (T M w s ≡ w ++ t)
-  pub low : (s : ℕ) → s < M .n → (i : ℕ) → i < length (T M w s) → getD (T M w s) i 0 < M .k
+  pub low : (s : ℕ) → s < M .n → Below (M .k) (T M w s)
   pub short : (s : ℕ) → s < M .n → length (T M w s) ≤ blockBound M w
 
 -- ---- one more of each part
@@ -91,22 +92,17 @@ module _ (M : Mealy) (w : List ℕ) (h : Blocks M w) where
   same-at : (i j s : ℕ) → approach M w i s s ≡ approach M w j s s
   same-at i j s = approach-here M w i s ∙ sym (approach-here M w j s)
 
-  same-by : (i j p s : ℕ) → p < M .n → (b : Bool) → eqb p s ≡ b
-      → ((p ≡ s → ⊥) → approach M w i (following (M .n) p) s ≡ approach M w j (following (M .n) p) s)
-      → approach M w (suc i) p s ≡ approach M w (suc j) p s
-  same-by i j p s pl true e on = rw (eqb-true p s e) (same-at (suc i) (suc j) s)
-  same-by i j p s pl false e on =
-      let ne = eqb-false p s e in
-      approach-step i p s pl ne ∙ ap (λ (xs : List ℕ). T M w p ++ xs) (on ne) ∙ sym (approach-step j p s pl ne)
-
   approach-same : (i j p s : ℕ) → p < M .n → s < M .n → gap (M .n) p s ≤ i → gap (M .n) p s ≤ j
       → approach M w i p s ≡ approach M w j p s
   approach-same zero j p s pl sl li lj = rw (gap-none (M .n) p s pl (omega arith)) (same-at zero j s)
   approach-same (suc i) zero p s pl sl li lj = rw (gap-none (M .n) p s pl (omega arith)) (same-at (suc i) zero s)
-  approach-same (suc i) (suc j) p s pl sl li lj =
-      same-by i j p s pl (eqb p s) refl
-      (λ ne. let st = gap-step (M .n) p s pl sl ne in
-      approach-same i j (following (M .n) p) s (following-below (M .n) p pl) sl (omega arith) (omega arith))
+  approach-same (suc i) (suc j) p s pl sl li lj = elim (equal-or-not p s) [
+    | inl e ↦ rw e (same-at (suc i) (suc j) s)
+    | inr ne ↦ (let st = gap-step (M .n) p s pl sl ne in
+        let on =
+        approach-same i j (following (M .n) p) s (following-below (M .n) p pl) sl (omega arith) (omega arith) in
+        approach-step i p s pl ne ∙ ap (λ (xs : List ℕ). T M w p ++ xs) on ∙ sym (approach-step j p s pl ne))
+  ]
 
   -- the same, for the n times of the definition
   pub approach-more : (p s : ℕ) → p < M .n → s < M .n → (p ≡ s → ⊥)
@@ -120,25 +116,17 @@ module _ (M : Mealy) (w : List ℕ) (h : Blocks M w) where
   reached-at : (i s : ℕ) → run M s (approach M w i s s) ≡ s
   reached-at i s = ap (run M s) (approach-here M w i s) ∙ run-none M s
 
-  reached-by : (i p s : ℕ) → p < M .n → (b : Bool) → eqb p s ≡ b
-      → ((p ≡ s → ⊥) → run M (following (M .n) p) (approach M w i (following (M .n) p) s) ≡ s)
-      → run M p (approach M w (suc i) p s) ≡ s
-  reached-by i p s pl true e on = rw (eqb-true p s e) (reached-at (suc i) s)
-  reached-by i p s pl false e on =
-      let ne = eqb-false p s e in
-      let rest = approach M w i (following (M .n) p) s in
-      ap (run M p) (approach-step i p s pl ne)
-      ∙ run-append M p (T M w p) rest
-      ∙ ap (λ (x : ℕ). run M x rest) (h .leads p pl)
-      ∙ on ne
-
   reaches : (i p s : ℕ) → p < M .n → s < M .n → gap (M .n) p s ≤ i → run M p (approach M w i p s) ≡ s
   reaches zero p s pl sl l = rw (gap-none (M .n) p s pl (omega arith)) (reached-at zero s)
-  reaches (suc i) p s pl sl l =
-      reached-by i p s pl (eqb p s) refl
-      (λ ne.
-      let st = gap-step (M .n) p s pl sl ne in
-      reaches i (following (M .n) p) s (following-below (M .n) p pl) sl (omega arith))
+  reaches (suc i) p s pl sl l = elim (equal-or-not p s) [
+    | inl e ↦ rw e (reached-at (suc i) s)
+    | inr ne ↦ (let st = gap-step (M .n) p s pl sl ne in
+        let rest = approach M w i (following (M .n) p) s in
+        ap (run M p) (approach-step i p s pl ne)
+        ∙ run-append M p (T M w p) rest
+        ∙ ap (λ (x : ℕ). run M x rest) (h .leads p pl)
+        ∙ reaches i (following (M .n) p) s (following-below (M .n) p pl) sl (omega arith))
+  ]
 
   pub approach-reaches : (p s : ℕ) → p < M .n → s < M .n → run M p (approach M w (M .n) p s) ≡ s
   approach-reaches p s pl sl = let g = gap-below (M .n) p s pl sl in reaches (M .n) p s pl sl (omega arith)

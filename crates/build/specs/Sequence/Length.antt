@@ -1,16 +1,15 @@
 -- The commands of the prescribed sequence are the machine's, and its length is within the length formula (§6.4), so
 -- never above the limit of a sequence. M is the machine, w the word.
 use Prim.Native.Nat.{ℕ, zero, suc, _+_, _*_, _≤_, _<_}
-use mathlib.Core.Path.{_≡_, refl}
-use mathlib.Core.Bool.{Bool, true, false}
+use mathlib.Core.Path.{_≡_}
+use mathlib.Core.Logic.{inl, inr}
 use mathlib.Core.List.{List, [], _∷_, _++_}
 use native.Mathlib.Omega.{arith}
 use native.Mathlib.Numerals.{add-one}
 use native.Mathlib.Nat.{mul-le-mul, mul-le-mul-right, suc-mul, zero-mul, mul-assoc}
-use borrow.Author.Tests.{eqb-true, eqb-false}
-use lib.Dec.{eqb}
-use lib.ListN.{length, getD, length-append}
-use Rattle.facts.specs.Lists.{low-append}
+use lib.ListN.{length, length-append}
+use Rattle.facts.specs.Lists.{Below, low-append}
+use Rattle.facts.specs.Numbers.{equal-or-not}
 use Rattle.machine.specs.Limits.{mostStates, mostEntries, mostWord, mostSequence}
 use Rattle.machine.specs.Machine.{Mealy, run, Proper}
 use Rattle.machine.specs.Machine.Laws.{run-none, run-append, proper-entries}
@@ -23,7 +22,7 @@ use Rattle.build.specs.Sequence.Laws.{state-tests-none, state-tests-more
 
 -- ---- lists of commands below k and of at most m commands
 record Short (k m : ℕ) (xs : List ℕ) : Type 0 where
-  low : (i : ℕ) → i < length xs → getD xs i 0 < k
+  low : Below k xs
   few : length xs ≤ m
 
 short-append : {k m n : ℕ} (xs ys : List ℕ) → Short k m xs → Short k n ys → Short k (m + n) (xs ++ ys)
@@ -61,27 +60,16 @@ module _ (M : Mealy) (w : List ℕ) (h : Blocks M w) where
   opening-short = rw (opening-is M w h, add-one) (first-blocks-short (suc (M .n)))
 
   -- at most one block for each state of the gap
-  approach-by : (i p s : ℕ) → p < M .n → (b : Bool) → eqb p s ≡ b → {g : ℕ}
-      → ((p ≡ s → ⊥) → (d : ℕ) × (g ≡ suc d) × Short (M .k) (d * block) (approach M w i (following (M .n) p) s))
-      → Short (M .k) (g * block) (approach M w (suc i) p s)
-  approach-by i p s pl true e on =
-      rw (eqb-true p s e) (short-within (omega arith) (short-none (M .k) (approach-here M w (suc i) s)))
-  approach-by i p s pl false e on =
-      let ne = eqb-false p s e in
-      let o = on ne in
-      rw (o .1, suc-mul, approach-step M w h i p s pl ne)
-      (short-within (omega arith)
-      (short-append (T M w p) (approach M w i (following (M .n) p) s) (block-short p pl) (o .2)))
-
   approach-short : (i p s : ℕ) → p < M .n → s < M .n → Short (M .k) (gap (M .n) p s * block) (approach M w i p s)
   approach-short zero p s pl sl = short-within (omega arith) (short-none (M .k) (approach-none M w p s))
-  approach-short (suc i) p s pl sl =
-      approach-by i p s pl (eqb p s) refl
-      (λ ne. let st = gap-step (M .n) p s pl sl ne in (
-        gap (M .n) (following (M .n) p) s,
-        omega arith,
-        approach-short i (following (M .n) p) s (following-below (M .n) p pl) sl,
-      ))
+  approach-short (suc i) p s pl sl = elim (equal-or-not p s) [
+    | inl e ↦ rw e (short-within (omega arith) (short-none (M .k) (approach-here M w (suc i) s)))
+    | inr ne ↦ (let q = following (M .n) p in
+        let more : gap (M .n) p s ≡ suc (gap (M .n) q s) = omega (arith, gap-step (M .n) p s pl sl ne) in
+        rw (more, suc-mul, approach-step M w h i p s pl ne)
+        (short-within (omega arith) (short-append (T M w p) (approach M w i q s) (block-short p pl)
+        (approach-short i q s (following-below (M .n) p pl) sl))))
+  ]
 
   -- the length of a test at most
   testLength : ℕ
@@ -137,8 +125,7 @@ module _ (M : Mealy) (w : List ℕ) (h : Blocks M w) where
   unfolding block
   approach-length i p s pl sl = approach-short i p s pl sl .few
 
-  pub approach-low : (i p s : ℕ) → p < M .n → s < M .n → (j : ℕ) → j < length (approach M w i p s)
-      → getD (approach M w i p s) j 0 < M .k
+  pub approach-low : (i p s : ℕ) → p < M .n → s < M .n → Below (M .k) (approach M w i p s)
   approach-low i p s pl sl = approach-short i p s pl sl .low
 
   pub test-length : (p s c : ℕ) → p < M .n → s < M .n → c < M .k → length (test M w p s c) ≤ M .n * blockBound M w + 1
@@ -168,7 +155,7 @@ module _ (M : Mealy) (w : List ℕ) (h : Blocks M w) where
   sequence-length = sequence-short .few
 
   -- every command is below k
-  pub sequence-low : (i : ℕ) → i < length (sequence M w) → getD (sequence M w) i 0 < M .k
+  pub sequence-low : Below (M .k) (sequence M w)
   sequence-low = sequence-short .low
 
 -- ---- on a machine and a word within the limits

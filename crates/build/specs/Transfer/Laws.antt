@@ -2,16 +2,15 @@
 -- string of any length leads.
 use Prim.Native.Nat.{ℕ, zero, suc, _≤_, _<_}
 use mathlib.Core.Path.{_≡_, refl, sym, ap, _∙_}
-use mathlib.Core.Bool.{Bool, true, false}
+use mathlib.Core.Logic.{inl, inr}
 use mathlib.Core.List.{List, [], _∷_, _++_}
 use mathlib.Core.Option.{none, some}
 use native.Mathlib.Omega.{arith}
 use lib.ListN.{length, take, drop, length-append, length-take, length-drop, take-append-drop}
-use lib.Dec.{ltb}
-use borrow.Author.Tests.{ltb-true, ltb-false}
+use Rattle.facts.specs.Numbers.{less-or-not}
 use Rattle.facts.specs.Lists.{low-append, low-take, low-drop}
 use Rattle.facts.specs.Pigeonhole.{pigeonhole}
-use Rattle.facts.specs.FirstOf.{some-none, Seen, nothing, value, seen, first-some, least-first, some-first, none-first}
+use Rattle.facts.specs.FirstOf.{some-none, nothing, value, seen, first-some, least-first, some-first, none-first}
 use Rattle.facts.specs.ByteOrder.{first-one}
 use Rattle.machine.specs.Machine.{Mealy, run, Proper}
 use Rattle.machine.specs.Machine.Laws.{run-none, run-cons, run-append, run-stays}
@@ -42,20 +41,15 @@ cut-length i j u l k = simp (length-append, length-take, length-drop) (omega ari
 pub leads-short : (M : Mealy) (a b : ℕ) → Proper M → a < M .n → (most : ℕ) (u : List ℕ) → length u ≤ most
     → Leads M a b u → (v : List ℕ) × (length v < M .n) × (Leads M a b v)
 leads-short M a b p l zero u k h = (u, omega arith, h)
-leads-short M a b p l (suc most) u k h = go (ltb (length u) (M .n)) refl (λ v. leads-short M a b p l most v)
-  where
-    go : (t : Bool) → ltb (length u) (M .n) ≡ t
-        → ((v : List ℕ) → length v ≤ most → Leads M a b v → (w : List ℕ) × (length w < M .n) × (Leads M a b w))
-        → (v : List ℕ) × (length v < M .n) × (Leads M a b v)
-    go true e again = (u, ltb-true (length u) (M .n) e, h)
-    go false e again =
-        let long = ltb-false (length u) (M .n) e in
-        let r =
-        pigeonhole (M .n) (λ i. run M a (take i u))
-        (λ i _. run-stays M p a (take i u) l (low-take (M .k) i u (h .commands))) in
-        let inside : r .1 ≤ length u = omega (arith, r .3) in
-        again (take (r .0) u ++ drop (r .1) u) (omega (arith, cut-length (r .0) (r .1) u (r .2) inside))
-        (leads-cut M a b (r .0) (r .1) u h (r .4))
+leads-short M a b p l (suc most) u k h = elim (less-or-not (length u) (M .n)) [
+  | inl few ↦ (u, few, h)
+  | inr long ↦ (let r =
+      pigeonhole (M .n) (λ i. run M a (take i u))
+      (λ i _. run-stays M p a (take i u) l (low-take (M .k) i u (h .commands))) in
+      let inside : r .1 ≤ length u = omega (arith, r .3) in
+      leads-short M a b p l most (take (r .0) u ++ drop (r .1) u)
+      (omega (arith, cut-length (r .0) (r .1) u (r .2) inside)) (leads-cut M a b (r .0) (r .1) u h (r .4)))
+]
 
 -- ---- transfers
 -- a transfer is a path of the least length below n that has one
@@ -123,11 +117,10 @@ none-leads M p a b l e u h = some-none (leads-some M p a b l u h .1) e
 
 -- where no string leads there is no transfer
 pub leads-none : (M : Mealy) (a b : ℕ) → ((u : List ℕ) → Leads M a b u → ⊥) → transfer M a b ≡ none
-leads-none M a b h = go (seen (transfer M a b))
-  where
-    go : Seen (transfer M a b) → transfer M a b ≡ none
-    go (nothing e) = e
-    go (value t e) = absurd (h t (path-leads M b (length t) a (transfer-path M a b e .found)))
+leads-none M a b h = elim (seen (transfer M a b)) [
+  | nothing e ↦ e
+  | value t e ↦ absurd (h t (path-leads M b (length t) a (transfer-path M a b e .found)))
+]
 
 -- and a transfer is the one that is computed
 pub is-transfer : (M : Mealy) → Proper M → (a b : ℕ) {t : List ℕ} → IsTransfer M a b t → transfer M a b ≡ some t
@@ -156,29 +149,20 @@ pub transfer-rest : (M : Mealy) (a b c : ℕ) {u : List ℕ} → transfer M a b 
 transfer-rest M a b c {u} e =
     let h = transfer-path M a b e in
     let s = path-step M b (length u) a (h .found) in
-    rest-of (path-state M b (suc (length u)) a (h .found)) h (s .command) (s .rest) (s .low) (s .found) (s .string)
-  where
-    passed-by : (m : ℕ) → a < M .n → c < M .k → Seen (firstPath M b m (M .next a c)) → firstPath M b (suc m) a ≡ none
-        → firstPath M b m (M .next a c) ≡ none
-    passed-by m al cl (nothing q) p = q
-    passed-by m al cl (value t q) p = absurd (some-none (some-path M b m a c al cl q .1) p)
-
-    rest-of : a < M .n → Shortest M a b (c ∷ u) → (d : ℕ) (v : List ℕ) → d < M .k
-        → firstPath M b (length u) (M .next a d) ≡ some v → (c ∷ u) ≡ (d ∷ v)
-        → (c < M .k) × (transfer M (M .next a c) b ≡ some u)
-    rest-of al h d v dl f q =
-        let head : c ≡ d = cc in
-        let tail : u ≡ v = cc in
-        let low : c < M .k = omega arith in (
-          low,
-          path-transfer M (M .next a c) b
-              (record {
-                few = omega (arith, h .few);
-                found = ap (λ (x : ℕ). firstPath M b (length u) (M .next a x)) head ∙ f ∙ ap some (sym tail);
-                passed = λ m l. passed-by m al low (seen (firstPath M b m (M .next a c)))
-                    (h .passed (suc m) (omega arith));
-              }),
-        )
+    let al = path-state M b (suc (length u)) a (h .found) in
+    let head : c ≡ s .command = cc (s .string) in
+    let tail : u ≡ s .rest = cc (s .string) in
+    let low : c < M .k = omega (arith, s .low) in (
+      low,
+      path-transfer M (M .next a c) b (record {
+        few = omega (arith, h .few);
+        found = ap (λ (x : ℕ). firstPath M b (length u) (M .next a x)) head ∙ s .found ∙ ap some (sym tail);
+        passed = λ m l. elim (seen (firstPath M b m (M .next a c))) [
+          | nothing q ↦ q
+          | value t q ↦ absurd (some-none (some-path M b m a c al low q .1) (h .passed (suc m) (omega arith)))
+        ];
+      }),
+    )
 
 -- and so behind any front of it
 pub transfer-drop : (M : Mealy) (a b : ℕ) (p q : List ℕ) → transfer M a b ≡ some (p ++ q)

@@ -9,7 +9,7 @@ use Rattle.sheet.specs.declared.check.Check.the-variants.{Clear}
 use Rattle.sheet.specs.Check.{_else_, firstCause}
 use Rattle.sheet.specs.Check.Bounds.{WhereRefused, place-of, place-else}
 use Rattle.sheet.specs.Values.{Fits}
-use Rattle.sheet.specs.Reader.{recordOf, content}
+use Rattle.sheet.specs.Reader.{wordIn, sequenceIn, sequenceRecord}
 use Rattle.sheet.specs.Reader.Bounds.{Small}
 use Rattle.machine.specs.Limits.{mostSequence}
 use Rattle.machine.specs.Machine.{Mealy}
@@ -29,24 +29,25 @@ use Rattle.certify.specs.Certification.{sequenceNeeds, cause7, cause9, m
 use Rattle.certify.specs.Certification.{certification, valuesOf}
 use Rattle.certify.specs.Certification.Laws.{room-refused, sequence-causes-are, load-clear, sequence-commands}
 use Rattle.certify.specs.Certification.Contract.{number-is, certification-says}
+use Rattle.sheet.specs.Format.{standard}
 
 -- ---- refusals
 -- of the causes of loading, 7 and 9, for a service that certifies, whether it needs the answers or not
 pub sequence-small : (answers : Bool) (room : ℕ) (s : List ℕ)
     → WhereRefused Small (firstCause (sequenceCauses answers room s))
 sequence-small answers room s =
-    let xs = content 3 s in
+    let xs = sequenceIn s in
     let needs = sequenceNeeds answers in
     place-of Small (sequence-causes-are answers room s)
     (place-else Small (firstCause (loadCauses needs s))
-    (cause7 (machineIn s .k) (recordOf 3 s) xs else cause9 room (markBytes xs)) (load-small needs s)
-    (λ q. place-else Small (cause7 (machineIn s .k) (recordOf 3 s) xs) (cause9 room (markBytes xs))
-    (commands-small s (load-short needs s q) 7 mostSequence (machineIn s .k) 3 (omega arith))
+    (cause7 (machineIn s .k) (sequenceRecord s) xs else cause9 room (markBytes xs)) (load-small needs s)
+    (λ q. place-else Small (cause7 (machineIn s .k) (sequenceRecord s) xs) (cause9 room (markBytes xs))
+    (commands-small s (load-short needs s q) 7 mostSequence (machineIn s .k) (standard .sequence) (omega arith))
     (λ t n p e.
     let h = room-refused room (markBytes xs) e in
     record {
       number = omega (arith, h .0);
-      place = omega (arith, h .1 .0, clear-commands 7 mostSequence (machineIn s .k) (recordOf 3 s) xs t .few);
+      place = omega (arith, h .1 .0, clear-commands 7 mostSequence (machineIn s .k) (sequenceRecord s) xs t .few);
     })))
 
 -- ---- results, where nothing is refused
@@ -59,9 +60,9 @@ pub certification-fits : (room : ℕ) (s : List ℕ) → Fits (valuesOf (certifi
 certification-fits room s = go (certification room s) refl
   where
     few : {n : ℕ} → firstCause (certifyCauses room s) ≡ Clear
-        → RecognisedNumber (machineIn s) (content 2 s) (content 3 s) n → n ≤ mostSequence + 1
+        → RecognisedNumber (machineIn s) (wordIn s) (sequenceIn s) n → n ≤ mostSequence + 1
     few e h =
-        omega (arith, number-small (machineIn s) (content 2 s) (content 3 s) h, sequence-commands false room s e .few)
+        omega (arith, number-small (machineIn s) (wordIn s) (sequenceIn s) h, sequence-commands false room s e .few)
 
     go : (x : Answer) → certification room s ≡ x → Fits (valuesOf (certification room s))
     go (Certified n) e =
@@ -75,7 +76,7 @@ certification-fits room s = go (certification room s) refl
           a = omega arith;
           b = omega (
             arith,
-            open-small (machineIn s) (content 2 s) (content 3 s) v (h .open-number),
+            open-small (machineIn s) (wordIn s) (sequenceIn s) v (h .open-number),
             proper-entries (machineIn s) proper,
           );
         })

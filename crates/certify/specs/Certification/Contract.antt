@@ -1,18 +1,17 @@
 -- The contract of certifying holds of the definitions: what the answer says, and what stands in the buffer.
-use Prim.Native.Nat.{ℕ, zero, suc, _≤_}
+use Prim.Native.Nat.{ℕ}
 use mathlib.Core.Path.{_≡_, refl, sym, ap, _∙_}
-use mathlib.Core.Bool.{Bool, true, false}
+use mathlib.Core.Logic.{inl, inr}
 use mathlib.Core.List.{List}
 use native.Mathlib.Omega.{arith}
-use lib.Dec.{eqb}
 use lib.ListN.{length, getD, drop}
 use lib.Seq.{take-append-seam, drop-append-seam}
-use borrow.Author.Tests.{eqb-true, eqb-false}
+use Rattle.facts.specs.Numbers.{bit-zero, equal-or-not}
 use Rattle.sheet.specs.declared.check.Check.{Check}
 use Rattle.sheet.specs.declared.check.Check.the-variants.{Clear, Refused}
 use Rattle.sheet.specs.Check.{firstCause, refusedOr}
 use Rattle.sheet.specs.Values.Laws.{returns-specified}
-use Rattle.sheet.specs.Reader.{content}
+use Rattle.sheet.specs.Reader.{wordIn, sequenceIn}
 use Rattle.machine.specs.Machine.{Mealy, stateAt}
 use Rattle.machine.specs.Causes.{machineIn}
 use Rattle.certify.specs.declared.answer.Answer.{Answer}
@@ -30,17 +29,12 @@ use Rattle.certify.specs.Certification.Laws.{outcome-clear, outcome-open
 use Rattle.certify.specs.Certification.Laws.{certification-clear, after-refused, after-clear}
 
 -- ---- the marks and their number, as the rules say them
-bit-not-one : (n : ℕ) → n ≤ 1 → (n ≡ 1 → ⊥) → n ≡ 0
-bit-not-one zero l h = refl
-bit-not-one (suc zero) l h = absurd (h refl)
-bit-not-one (suc (suc n)) l h = let z : ⊥ = omega arith in absurd z
-
 module _ (M : Mealy) (w xs : List ℕ) where
   pub marks-of : MarksOf M w xs (marks M w xs)
   marks-of = record {
     long = marks-length M w xs;
     marked = λ p. (marked-recognised M w xs p, recognised-marked M w xs p);
-    otherwise = λ p h. bit-not-one _ (marks-bits M w xs p) (λ e. h (marked-recognised M w xs p e));
+    otherwise = λ p h. bit-zero (marks-bits M w xs p) (λ e. h (marked-recognised M w xs p e));
   }
 
   marks-number : {n : ℕ} → n ≡ count (marks M w xs) → RecognisedNumber M w xs n
@@ -50,14 +44,13 @@ module _ (M : Mealy) (w xs : List ℕ) where
   of-exact : (ms : List ℕ) → MarksOf M w xs ms → Exact xs (stateAt M xs) (OccursAt w xs) ms
   of-exact ms h = record {
     long = h .long;
-    bits = λ p. bit p (eqb (getD (marks M w xs) p 0) 1) refl;
+    bits = λ p. elim (equal-or-not (getD (marks M w xs) p 0) 1) [
+      | inl e ↦ omega (arith, h .marked p .1 (marked-recognised M w xs p e))
+      | inr o ↦ omega (arith, h .otherwise p (λ r. o (recognised-marked M w xs p r)))
+    ];
     sound = λ p e. recognised-closure M w xs p (h .marked p .0 e);
     complete = λ p l c. h .marked p .1 (closure-recognised M w xs p c);
   }
-    where
-      bit : (p : ℕ) (b : Bool) → eqb (getD (marks M w xs) p 0) 1 ≡ b → getD ms p 0 ≤ 1
-      bit p true e = omega (arith, h .marked p .1 (marked-recognised M w xs p (eqb-true _ _ e)))
-      bit p false e = omega (arith, h .otherwise p (λ r. eqb-false _ _ e (recognised-marked M w xs p r)))
 
   pub number-is : {n : ℕ} → RecognisedNumber M w xs n → n ≡ count (marks M w xs)
   number-is h = h .number ∙ ap count (marks-unique M w xs (h .marks) (of-exact (h .marks) (h .are)))
@@ -85,10 +78,10 @@ module _ (room : ℕ) (s : List ℕ) where
   M = machineIn s
 
   abbrev w : List ℕ
-  w = content 2 s
+  w = wordIn s
 
   abbrev xs : List ℕ
-  xs = content 3 s
+  xs = sequenceIn s
 
   answer-certified : (n : ℕ) → certification room s ≡ CertifiedAnswer n → CertifiedWith room s n
   unfolding certification outcome
@@ -146,13 +139,13 @@ module _ (M : Mealy) (w xs buffer : List ℕ) where
 
 module _ (s before : List ℕ) where
   buffer-marked : firstCause (certifyCauses (length before) s) ≡ Clear
-      → MarksOf (machineIn s) (content 2 s) (content 3 s) (keptIn (content 3 s) (marksAfter s before))
-  buffer-marked e = rw (after-clear s before e) (kept-marked (machineIn s) (content 2 s) (content 3 s) before)
+      → MarksOf (machineIn s) (wordIn s) (sequenceIn s) (keptIn (sequenceIn s) (marksAfter s before))
+  buffer-marked e = rw (after-clear s before e) (kept-marked (machineIn s) (wordIn s) (sequenceIn s) before)
 
   later-by : (c : Check) → firstCause (certifyCauses (length before) s) ≡ c
-      → drop (markBytes (content 3 s)) (marksAfter s before) ≡ drop (markBytes (content 3 s)) before
-  later-by Clear e = rw (after-clear s before e) (kept-later (machineIn s) (content 2 s) (content 3 s) before)
-  later-by (Refused n p) e = ap (drop (markBytes (content 3 s))) (after-refused s before e)
+      → drop (markBytes (sequenceIn s)) (marksAfter s before) ≡ drop (markBytes (sequenceIn s)) before
+  later-by Clear e = rw (after-clear s before e) (kept-later (machineIn s) (wordIn s) (sequenceIn s) before)
+  later-by (Refused n p) e = ap (drop (markBytes (sequenceIn s))) (after-refused s before e)
 
   holds : Certifies s before (marksAfter s before) (certification (length before) s)
   holds = record {

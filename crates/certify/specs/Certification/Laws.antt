@@ -3,18 +3,19 @@
 use Prim.Native.Nat.{ℕ, _+_, _*_, _≤_, _<_}
 use mathlib.Core.Path.{_≡_, refl, sym, ap, ap₂, _∙_}
 use mathlib.Core.Bool.{Bool, true, false, true≢false, not}
+use mathlib.Core.Logic.{inl, inr}
 use mathlib.Core.List.{List, [], _∷_}
-use borrow.Author.Tests.{eq-eqb, eqb-true, le-ltb, ltb-true, ltb-false, not-true, not-false}
+use borrow.Author.Tests.{eq-eqb, ne-eqb, eqb-true, eqb-false, le-ltb, ltb-true, ltb-false, not-true, not-false}
 use lib.Dec.{ltb}
 use lib.ListN.{length, getD}
-use Rattle.facts.specs.Tests.{both-true}
+use Rattle.facts.specs.Tests.{true-or-false, both-true}
 use Rattle.sheet.specs.declared.check.Check.{Check}
 use Rattle.sheet.specs.declared.check.Check.the-variants.{Clear, Refused}
 use Rattle.sheet.specs.Check.{refusal_with_if_, _else_, firstCause, first}
 use Rattle.sheet.specs.Check.Laws.{cause-two, cause-append, absent, present, clear-absent, both-clear, else-clear}
 use Rattle.sheet.specs.Check.Laws.{else-refused, first-clear, first-clear-at, first-found, Present, first-present}
 use Rattle.sheet.specs.Check.Laws.{present-test}
-use Rattle.sheet.specs.Reader.{recordOf, content}
+use Rattle.sheet.specs.Reader.{wordIn, sequenceIn, sequenceRecord}
 use Rattle.sheet.specs.Writing.{written}
 use Rattle.machine.specs.Limits.{mostSequence}
 use Rattle.machine.specs.Machine.{Mealy, stateAt, Commands}
@@ -137,25 +138,19 @@ module _ (M : Mealy) (w xs : List ℕ) where
   rows : Check
   rows = first (M .n) (λ s. first (M .k) (entry s))
 
-  open-by : (b : Bool) → marked (marks M w xs) 0 ≡ b → {a v : ℕ}
-      → ((refusal 11 with 0 if not b) else rows) ≡ Refused a v → (a ≡ 11) × OpenNumber M w xs v
-  unfolding rows
-  open-by true m {a} {v} e =
-      let on : rows ≡ Refused a v = sym (ap (λ (c : Check). c else rows) (absent 11 0 refl) ∙ else-clear rows) ∙ e in
-      in-rows (marked-recognised M w xs 0 (marked-true (marks M w xs) 0 m)) (first-present (M .n) _ on)
-  open-by false m {a} {v} e =
-      let zero : Refused 11 0 ≡ Refused a v =
-      sym (ap (λ (c : Check). c else rows) (present 11 0 refl) ∙ else-refused 11 0 rows) ∙ e in
-      (cc, start-open (λ r. true≢false (sym (true-marked (marks M w xs) 0 (recognised-marked M w xs 0 r)) ∙ m)) (cc))
-
   pub refused-open : {a v : ℕ} → openIn M w xs ≡ Refused a v → (a ≡ 11) × OpenNumber M w xs v
   unfolding openIn openCause rows
-  refused-open e = open-by (marked (marks M w xs) 0) refl e
+  refused-open {a} {v} e = elim (true-or-false (marked (marks M w xs) 0)) [
+    | inl m ↦ (let on = sym (ap (λ (c : Check). c else rows) (absent 11 0 (ap not m)) ∙ else-clear rows) ∙ e in
+        in-rows (marked-recognised M w xs 0 (marked-true (marks M w xs) 0 m)) (first-present (M .n) _ on))
+    | inr m ↦ (let zero : Refused 11 0 ≡ Refused a v =
+        sym (ap (λ (c : Check). c else rows) (present 11 0 (ap not m)) ∙ else-refused 11 0 rows) ∙ e in
+        (cc, start-open (λ r. eqb-false _ _ m (recognised-marked M w xs 0 r)) cc))
+  ]
 
   -- the other direction: an open number is the one that is refused with
-  unmarked : (b : Bool) → marked (marks M w xs) 0 ≡ b → (Recognised M w xs 0 → ⊥) → marked (marks M w xs) 0 ≡ false
-  unmarked true e h = absurd (h (marked-recognised M w xs 0 (marked-true (marks M w xs) 0 e)))
-  unmarked false e h = e
+  unmarked : (Recognised M w xs 0 → ⊥) → marked (marks M w xs) 0 ≡ false
+  unmarked h = ne-eqb _ _ (λ e. h (marked-recognised M w xs 0 e))
 
   unverified : (s c : ℕ) (b : Bool) → verified M xs (marks M w xs) s c ≡ b → (Verified M w xs s c → ⊥)
       → verified M xs (marks M w xs) s c ≡ false
@@ -181,7 +176,7 @@ module _ (M : Mealy) (w xs : List ℕ) where
   pub open-refused : {v : ℕ} → OpenNumber M w xs v → openIn M w xs ≡ Refused 11 v
   unfolding openIn openCause rows
   open-refused (start-open h e) =
-      ap (λ (c : Check). c else rows) (present 11 0 (ap not (unmarked _ refl h)))
+      ap (λ (c : Check). c else rows) (present 11 0 (ap not (unmarked h)))
       ∙ else-refused 11 0 rows
       ∙ ap (Refused 11) (sym e)
   open-refused (entry-open s c ls lc r h before row e) =
@@ -213,7 +208,7 @@ unfolding certification
 certification-refused room s e = rw e
 
 pub certification-clear : (room : ℕ) (s : List ℕ) → firstCause (certifyCauses room s) ≡ Clear
-    → certification room s ≡ outcome (machineIn s) (content 2 s) (content 3 s)
+    → certification room s ≡ outcome (machineIn s) (wordIn s) (sequenceIn s)
 unfolding certification
 certification-clear room s e = rw e
 
@@ -223,7 +218,7 @@ unfolding marksAfter
 after-refused s buffer e = rw e
 
 pub after-clear : (s buffer : List ℕ) → firstCause (certifyCauses (length buffer) s) ≡ Clear
-    → marksAfter s buffer ≡ kept (marks (machineIn s) (content 2 s) (content 3 s)) buffer
+    → marksAfter s buffer ≡ kept (marks (machineIn s) (wordIn s) (sequenceIn s)) buffer
 unfolding marksAfter
 after-clear s buffer e = rw e
 
@@ -250,27 +245,29 @@ room-refused room bytes e =
 
 pub sequence-causes-are : (answers : Bool) (room : ℕ) (s : List ℕ) → firstCause (sequenceCauses answers room s)
     ≡ (firstCause (loadCauses (sequenceNeeds answers) s)
-    else (cause7 (machineIn s .k) (recordOf 3 s) (content 3 s) else cause9 room (markBytes (content 3 s))))
+    else (cause7 (machineIn s .k) (sequenceRecord s) (sequenceIn s) else cause9 room (markBytes (sequenceIn s))))
 unfolding sequenceCauses
 sequence-causes-are answers room s =
-    let seven = cause7 (machineIn s .k) (recordOf 3 s) (content 3 s) in
-    let nine = cause9 room (markBytes (content 3 s)) in
+    let seven = cause7 (machineIn s .k) (sequenceRecord s) (sequenceIn s) in
+    let nine = cause9 room (markBytes (sequenceIn s)) in
     cause-append (loadCauses (sequenceNeeds answers) s) (seven ∷ nine ∷ [])
     ∙ ap (λ (c : Check). firstCause (loadCauses (sequenceNeeds answers) s) else c) (cause-two seven nine)
 
 module _ (answers : Bool) (room : ℕ) (s : List ℕ) (e : firstCause (sequenceCauses answers room s) ≡ Clear) where
   both-parts : (firstCause (loadCauses (sequenceNeeds answers) s) ≡ Clear)
-      × ((cause7 (machineIn s .k) (recordOf 3 s) (content 3 s) else cause9 room (markBytes (content 3 s))) ≡ Clear)
+      × ((cause7 (machineIn s .k) (sequenceRecord s) (sequenceIn s) else cause9 room (markBytes (sequenceIn s)))
+      ≡ Clear)
   both-parts = both-clear _ _ (sym (sequence-causes-are answers room s) ∙ e)
 
   pub load-clear : firstCause (loadCauses (sequenceNeeds answers) s) ≡ Clear
   load-clear = both-parts .0
 
-  pub sequence-commands : Commands mostSequence (machineIn s .k) (content 3 s)
+  pub sequence-commands : Commands mostSequence (machineIn s .k) (sequenceIn s)
   sequence-commands =
-      clear-commands 7 mostSequence (machineIn s .k) (recordOf 3 s) (content 3 s) (both-clear _ _ (both-parts .1) .0)
+      clear-commands 7 mostSequence (machineIn s .k) (sequenceRecord s) (sequenceIn s)
+      (both-clear _ _ (both-parts .1) .0)
 
-  pub room-enough : markBytes (content 3 s) ≤ room
+  pub room-enough : markBytes (sequenceIn s) ≤ room
   room-enough = clear-room _ _ (both-clear _ _ (both-parts .1) .1)
 
 -- certifying refuses no sheet that a service which needs the answers takes

@@ -2,9 +2,9 @@
 -- their cases. Nothing here has to be believed: the service's contract does not name it.
 use Prim.Native.Nat.{ℕ, _+_, _*_, _<_}
 use mathlib.Core.Path.{_≡_, sym, ap, _∙_}
-use mathlib.Core.Bool.{Bool, true, false, true≢false, not}
+use mathlib.Core.Bool.{Bool, true, true≢false, not}
 use mathlib.Core.List.{List}
-use mathlib.Core.Logic.{⊎-elim}
+use mathlib.Core.Logic.{inl, inr}
 use lib.Dec.{eqb}
 use lib.ListN.{getD}
 use borrow.Author.Tests.{ne-eqb, eqb-false}
@@ -44,14 +44,13 @@ open-known M xs ms known sound all =
     (λ c lc. ap (λ (b : Bool). refusal 11 with 1 + (s * M .k + c) if b) (test s c ls lc))))
   where
     test : (s c : ℕ) → s < M .n → c < M .k → eqb (getD known (s * M .k + c) 0) 0 ≡ not (verified M xs ms s c)
-    test s c ls lc =
-        ⊎-elim (λ (e : verified M xs ms s c ≡ true). ne-eqb _ _ (all s c ls lc e) ∙ sym (ap not e))
-        (λ (e : verified M xs ms s c ≡ false).
-        ⊎-elim (λ (z : eqb (getD known (s * M .k + c) 0) 0 ≡ true). z ∙ sym (ap not e))
-        (λ (z : eqb (getD known (s * M .k + c) 0) 0 ≡ false).
-        absurd (true≢false (sym (sound s c ls lc (eqb-false _ _ z)) ∙ e)))
-        (true-or-false (eqb (getD known (s * M .k + c) 0) 0)))
-        (true-or-false (verified M xs ms s c))
+    test s c ls lc = elim (true-or-false (verified M xs ms s c)) [
+      | inl e ↦ rw e (ne-eqb _ _ (all s c ls lc e))
+      | inr e ↦ rw e (elim (true-or-false (eqb (getD known (s * M .k + c) 0) 0)) [
+        | inl z ↦ z
+        | inr z ↦ absurd (true≢false (sym (sound s c ls lc (eqb-false _ _ z)) ∙ e))
+      ])
+    ]
 
 -- ---- answers and their values by their cases
 pub answer-of-clear : (n : ℕ) {c : Check} → c ≡ Clear → CertifiedAnswer n ≡ answerOf c n

@@ -4,13 +4,14 @@ use Prim.Native.Nat.{ℕ, zero, suc, _+_, _-_, _≤_}
 use mathlib.Core.Path.{_≡_, sym, ap, _∙_}
 use mathlib.Core.Bool.{Bool, true, false}
 use mathlib.Core.List.{List}
-use mathlib.Core.Logic.{_⊎_, inl, inr, ⊎-elim}
+use mathlib.Core.Logic.{_⊎_, inl, inr}
 use native.Mathlib.Omega.{arith}
 use lib.Dec.{leb, eqb}
 use lib.ListN.{length, getD, take, drop, length-take, length-drop}
 use lib.Seq.{ext-getD}
 use borrow.Author.Tests.{le-leb, leb-true, eq-eqb, eqb-true, eqb-false}
 use Rattle.facts.specs.Tests.{both-true, either-true, or-left, or-right, true-or-false}
+use Rattle.facts.specs.Numbers.{equal-or-not}
 use Rattle.facts.specs.Lists.{same, same-refl, same-equal}
 use Rattle.machine.specs.Machine.{Mealy, stateAt}
 use Rattle.certify.specs.Recognition.{OccursAt, Closure, rule1, rule2, Recognised}
@@ -33,8 +34,7 @@ true-occurs w xs p h = rw (le-leb _ _ (h .inside), h .commands) (same-refl w)
 
 pub occurs-fails : (w xs : List ℕ) (p : ℕ) → (OccursAt w xs p → ⊥) → false ≡ occursAt w xs p
 occurs-fails w xs p n =
-    ⊎-elim (λ (e : occursAt w xs p ≡ true). absurd (n (occurs-true w xs p e))) (λ (e : occursAt w xs p ≡ false). sym e)
-    (true-or-false (occursAt w xs p))
+    elim (true-or-false (occursAt w xs p)) [ inl e ↦ absurd (n (occurs-true w xs p e)) | inr e ↦ sym e ]
 
 -- ---- rule 2
 module _ (xs : List ℕ) (state : ℕ → ℕ) (ms : List ℕ) where
@@ -107,10 +107,10 @@ module _ (xs : List ℕ) (state : ℕ → ℕ) (ms : List ℕ) where
 
   grown-from : (r : ℕ) → getD (grown xs state ms) r 0 ≡ 1 → (getD ms r 0 ≡ 1) ⊎ (ByRule2 r)
   unfolding grown
-  grown-from r e =
-      ⊎-elim (λ (h : marked ms r ≡ true). inl (marked-true ms r h))
-      (λ (h : byRule2 xs state ms r ≡ true). inr (by-rule2-true r h))
-      (either-true (marked ms r) (byRule2 xs state ms r) (marks-by-true xs _ r e))
+  grown-from r e = elim (either-true (marked ms r) (byRule2 xs state ms r) (marks-by-true xs _ r e)) [
+    | inl h ↦ inl (marked-true ms r h)
+    | inr h ↦ inr (by-rule2-true r h)
+  ]
 
 -- ---- growing until nothing is added
 -- a list of marks of all places that rule 2 adds nothing to
@@ -133,11 +133,10 @@ module _ (xs : List ℕ) (state : ℕ → ℕ) where
       → P (settled f xs state ms)
   unfolding settled
   settled-has P on zero ms h = h
-  settled-has P on (suc f) ms h =
-      ⊎-elim (λ (e : eqb (count (grown xs state ms)) (count ms) ≡ true). rw (settled-ends f ms e) h)
-      (λ (e : eqb (count (grown xs state ms)) (count ms) ≡ false).
-      rw (settled-on f ms e) (settled-has P on f (grown xs state ms) (on ms h)))
-      (true-or-false (eqb (count (grown xs state ms)) (count ms)))
+  settled-has P on (suc f) ms h = elim (true-or-false (eqb (count (grown xs state ms)) (count ms))) [
+    | inl e ↦ rw (settled-ends f ms e) h
+    | inr e ↦ rw (settled-on f ms e) (settled-has P on f (grown xs state ms) (on ms h))
+  ]
 
   module _ (ms : List ℕ) (long : length ms ≡ length xs + 1) where
     grown-above : (p : ℕ) → getD ms p 0 ≡ 1 → getD (grown xs state ms) p 0 ≡ 1
@@ -153,15 +152,14 @@ module _ (xs : List ℕ) (state : ℕ → ℕ) where
   unfolding settled
   settled-stable zero ms long enough =
       full-stable ms long (omega (arith, count-most (grown xs state ms), grown-length xs state ms))
-  settled-stable (suc f) ms long enough =
-      ⊎-elim (λ (e : eqb (count (grown xs state ms)) (count ms) ≡ true).
-      rw (settled-ends f ms e) (full-stable ms long (omega (arith, eqb-true (count (grown xs state ms)) (count ms) e))))
-      (λ (e : eqb (count (grown xs state ms)) (count ms) ≡ false).
-      let more = grown-length xs state ms in
-      let rise = count-below ms (grown xs state ms) (omega arith) (grown-above ms long) in
-      rw (settled-on f ms e)
-      (settled-stable f (grown xs state ms) more (omega (arith, eqb-false (count (grown xs state ms)) (count ms) e))))
-      (true-or-false (eqb (count (grown xs state ms)) (count ms)))
+  settled-stable (suc f) ms long enough = elim (true-or-false (eqb (count (grown xs state ms)) (count ms))) [
+    | inl e ↦ rw (settled-ends f ms e)
+        (full-stable ms long (omega (arith, eqb-true (count (grown xs state ms)) (count ms) e)))
+    | inr e ↦ (let more = grown-length xs state ms in
+        let rise = count-below ms (grown xs state ms) (omega arith) (grown-above ms long) in
+        rw (settled-on f ms e)
+        (settled-stable f (grown xs state ms) more (omega (arith, eqb-false (count (grown xs state ms)) (count ms) e))))
+  ]
 
 -- ---- the smallest set, as marks
 -- one mark for each place, 0 or 1, and 1 exactly in the smallest set
@@ -201,21 +199,11 @@ module _ (xs : List ℕ) (state : ℕ → ℕ) (Base : ℕ → Type 0) where
 
   -- there is one such list
   pub exact-unique : (a b : List ℕ) → Exact xs state Base a → Exact xs state Base b → a ≡ b
-  exact-unique a b ha hb = ext-getD 0 a b (ha .long ∙ sym (hb .long)) (λ p l. each p (omega (arith, ha .long)))
-    where
-      each : (p : ℕ) → p ≤ length xs → getD a p 0 ≡ getD b p 0
-      each p l =
-          ⊎-elim (λ (e : eqb (getD a p 0) 1 ≡ true).
-          let x = eqb-true _ _ e in x ∙ sym (hb .complete p l (ha .sound p x)))
-          (λ (e : eqb (getD a p 0) 1 ≡ false).
-          ⊎-elim (λ (d : eqb (getD b p 0) 1 ≡ true).
-          absurd (eqb-false _ _ e (ha .complete p l (hb .sound p (eqb-true _ _ d)))))
-          (λ (d : eqb (getD b p 0) 1 ≡ false).
-          let u = eqb-false (getD a p 0) 1 e in
-          let v = eqb-false (getD b p 0) 1 d in
-          omega (arith, ha .bits p, hb .bits p))
-          (true-or-false (eqb (getD b p 0) 1)))
-          (true-or-false (eqb (getD a p 0) 1))
+  exact-unique a b ha hb = ext-getD 0 a b (ha .long ∙ sym (hb .long)) (λ p l. elim (equal-or-not (getD a p 0) 1) [
+    | inl x ↦ x ∙ sym (hb .complete p (omega (arith, ha .long)) (ha .sound p x))
+    | inr u ↦ (let v : getD b p 0 ≡ 1 → ⊥ = λ x. u (ha .complete p (omega (arith, ha .long)) (hb .sound p x)) in
+        omega (arith, ha .bits p, hb .bits p))
+  ])
 
   module _ (base : ℕ → Bool) (from : (p : ℕ) → base p ≡ true → Base p) (to : (p : ℕ) → Base p → base p ≡ true) where
     -- what stays so while a list grows
@@ -235,11 +223,11 @@ module _ (xs : List ℕ) (state : ℕ → ℕ) (Base : ℕ → Type 0) where
     grows ms h = record {
       long = grown-length xs state ms;
       bits = grown-bits xs state ms;
-      sound = λ p e.
-          ⊎-elim (h .sound p)
-          (by-rule2-sound ms p (omega (arith, marked-inside (grown xs state ms) p e, grown-length xs state ms))
-          (h .sound))
-          (grown-from xs state ms p e);
+      sound = λ p e. elim (grown-from xs state ms p e) [
+        | inl q ↦ h .sound p q
+        | inr q ↦ by-rule2-sound ms p (omega (arith, marked-inside (grown xs state ms) p e, grown-length xs state ms))
+            (h .sound) q
+      ];
       holds = λ p l b. grown-keeps xs state ms p l (h .holds p l b);
     }
 

@@ -3,33 +3,32 @@ use Prim.Native.Nat.{ℕ, zero, suc, _+_, _≤_, _<_}
 use mathlib.Core.Path.{_≡_, refl, sym, ap, _∙_}
 use mathlib.Core.Bool.{Bool, true, false}
 use mathlib.Core.List.{List, [], _∷_, _++_}
-use mathlib.Core.Logic.{⊎-elim}
+use mathlib.Core.Logic.{inl, inr}
 use native.Mathlib.Omega.{arith}
 use native.Mathlib.Nat.{le-of-suc-le-suc, eq-or-lt-of-le, not-suc-le-zero}
 use lib.Dec.{eqb}
 use lib.ListN.{length, getD, take}
-use native.Mathlib.Numerals.{add-one}
-use lib.Seq.{take-suc}
 use borrow.Author.Tests.{eq-eqb, eqb-true}
-use Rattle.facts.specs.Tests.{either-true, or-left, or-right}
+use Rattle.facts.specs.Tests.{either-true, or-left, or-right, true-or-false}
+use Rattle.facts.specs.Lists.{take-more}
 use Rattle.certify.specs.Marks.{any, tabulate, mark, marksBy, Bits, marked, count}
 
 -- ---- any
 pub any-found : (n : ℕ) (f : ℕ → Bool) → any n f ≡ true → (i : ℕ) × (i < n) × (f i ≡ true)
 unfolding any
 any-found zero f e = let z : _≡_ {A = ℕ} 0 1 = cc in absurd (omega arith)
-any-found (suc n) f e =
-    ⊎-elim (λ (h : any n f ≡ true). let r = any-found n f h in (r .0, omega (arith, r .1), r .2))
-    (λ (h : f n ≡ true). (n, omega arith, h))
-    (either-true (any n f) (f n) e)
+any-found (suc n) f e = elim (either-true (any n f) (f n) e) [
+  | inl h ↦ (let r = any-found n f h in (r .0, omega (arith, r .1), r .2))
+  | inr h ↦ (n, omega arith, h)
+]
 
 pub any-holds : (n : ℕ) (f : ℕ → Bool) (i : ℕ) → i < n → f i ≡ true → any n f ≡ true
 unfolding any
 any-holds zero f i l e = absurd (not-suc-le-zero l)
-any-holds (suc n) f i l e =
-    ⊎-elim (λ (q : i ≡ n). or-right (any n f) (rw (← q) e))
-    (λ (q : i < n). or-left (f n) (any-holds n f i q e))
-    (eq-or-lt-of-le (le-of-suc-le-suc l))
+any-holds (suc n) f i l e = elim (eq-or-lt-of-le (le-of-suc-le-suc l)) [
+  | inl q ↦ or-right (any n f) (rw (← q) e)
+  | inr q ↦ or-left (f n) (any-holds n f i q e)
+]
 
 -- ---- lists by their elements
 pub tabulate-length : (n : ℕ) (f : ℕ → ℕ) → length (tabulate n f) ≡ n
@@ -108,8 +107,7 @@ pub count-next : (a : List ℕ) (i : ℕ) → i < length a
     → count (take (i + 1) a) ≡ count (take i a) + mark (eqb (getD a i 0) 1)
 unfolding count
 count-next a i l =
-    ap (λ (j : ℕ). count (take j a)) (add-one i)
-    ∙ ap count (take-suc a i 0 l)
+    ap count (take-more a i l)
     ∙ count-append (take i a) (getD a i 0 ∷ [])
     ∙ (let z : count (getD a i 0 ∷ []) ≡ mark (eqb (getD a i 0) 1) = omega arith in
     ap (λ (n : ℕ). count (take i a) + n) z)
@@ -125,11 +123,10 @@ module _ where
   shifted m a n b h p e = h (suc p) e
 
   mark-below : (m n : ℕ) → (m ≡ 1 → n ≡ 1) → mark (eqb m 1) ≤ mark (eqb n 1)
-  mark-below m n h = go (eqb m 1) refl
-    where
-      go : (t : Bool) → eqb m 1 ≡ t → mark (eqb m 1) ≤ mark (eqb n 1)
-      go true e = rw (e, eq-eqb n 1 (h (eqb-true m 1 e))) (omega arith)
-      go false e = rw e (omega arith)
+  mark-below m n h = elim (true-or-false (eqb m 1)) [
+    | inl e ↦ rw (e, eq-eqb n 1 (h (eqb-true m 1 e))) (omega arith)
+    | inr e ↦ rw e (omega arith)
+  ]
 
   pub count-below : (a b : List ℕ) → length a ≡ length b → ((p : ℕ) → getD a p 0 ≡ 1 → getD b p 0 ≡ 1)
       → count a ≤ count b
@@ -146,16 +143,13 @@ module _ where
   count-same [] [] l h c p e = e
   count-same [] (n ∷ b) l h c p e = let z : ⊥ = omega arith in absurd z
   count-same (m ∷ a) [] l h c p e = let z : ⊥ = omega arith in absurd z
-  count-same (m ∷ a) (n ∷ b) l h c zero e = go (eqb m 1) refl
-    where
-      go : (t : Bool) → eqb m 1 ≡ t → m ≡ 1
-      go true q = eqb-true m 1 q
-      go false q =
-          let k : length a ≡ length b = omega arith in
-          let u : mark (eqb n 1) ≡ 1 = ap mark (eq-eqb n 1 e) in
-          let v : mark (eqb m 1) ≡ 0 = ap mark q in
-          let z : ⊥ = omega (arith, count-below a b k (shifted m a n b h)) in
-          absurd z
+  count-same (m ∷ a) (n ∷ b) l h c zero e = elim (true-or-false (eqb m 1)) [
+    | inl q ↦ eqb-true m 1 q
+    | inr q ↦ (let k : length a ≡ length b = omega arith in
+        let below = count-below a b k (shifted m a n b h) in
+        let z : ⊥ = omega (arith, below, ap mark (eq-eqb n 1 e), ap mark q) in
+        absurd z)
+  ]
   count-same (m ∷ a) (n ∷ b) l h c (suc p) e =
       let k : length a ≡ length b = omega arith in
       count-same a b k (shifted m a n b h) (omega (arith, mark-below m n (h 0))) p e

@@ -2,17 +2,24 @@
 -- the definitions.
 use Prim.Native.Nat.{ℕ}
 use mathlib.Core.Path.{_≡_, refl}
-use mathlib.Core.List.{[], _∷_}
+use mathlib.Core.List.{List, [], _∷_}
 use Rattle.machine.specs.Machine.{Mealy, machineOf, stateAt, run}
 use Rattle.certify.specs.Marks.{any, tabulate, marksBy, count, occursAt, byRule2, grown, settled, closure, marks}
+use Rattle.sheet.specs.Format.{standard}
 
--- the twin (§10.2)
+-- the twin (§10.2): the payload of its record, and the machine
+abbrev pub twinTable : List ℕ
+twinTable = 2 ∷ 2 ∷ 1 ∷ 0 ∷ 0 ∷ 5 ∷ 0 ∷ 1 ∷ 1 ∷ 5 ∷ []
+
 unfoldable pub twin : Mealy
-twin = machineOf (2 ∷ 2 ∷ 1 ∷ 0 ∷ 0 ∷ 5 ∷ 0 ∷ 1 ∷ 1 ∷ 5 ∷ [])
+twin = machineOf standard twinTable
 
 -- one state and one command, with any answer
+abbrev pub singleTable : ℕ → List ℕ
+singleTable answer = 1 ∷ 1 ∷ 0 ∷ answer ∷ []
+
 unfoldable pub single : ℕ → Mealy
-single answer = machineOf (1 ∷ 1 ∷ 0 ∷ answer ∷ [])
+single answer = machineOf standard (singleTable answer)
 
 pub marks-built : marks twin (0 ∷ []) (0 ∷ 0 ∷ 0 ∷ 0 ∷ 0 ∷ 0 ∷ 1 ∷ 0 ∷ 0 ∷ 0 ∷ 1 ∷ 0 ∷ [])
     ≡ 1 ∷ 1 ∷ 1 ∷ 1 ∷ 1 ∷ 1 ∷ 1 ∷ 1 ∷ 1 ∷ 1 ∷ 1 ∷ 1 ∷ 1 ∷ []

@@ -1,20 +1,19 @@
 -- What the desk orders as the specification says it and as it is computed agree, for a machine and a word that starting
 -- does not refuse.
 use Prim.Native.Nat.{ℕ, suc, _+_, _-_, _≤_, _<_}
-use mathlib.Core.Path.{_≡_, refl, sym, ap, ap₂, _∙_}
-use mathlib.Core.Bool.{Bool, true, false}
+use mathlib.Core.Path.{_≡_, refl, sym, ap, ap₂, subst, _∙_}
+use mathlib.Core.Logic.{inl, inr}
 use mathlib.Core.List.{List, _∷_, _++_, append-assoc}
-use mathlib.Core.Option.{none, some}
+use mathlib.Core.Option.{some}
 use native.Mathlib.Omega.{arith}
-use lib.Dec.{ltb}
 use lib.ListN.{length, getD, take, drop, length-append, take-append-drop, List·getD-append}
 use lib.Seq.{ext-getD, getD-take, length-take-le, take-append-add, drop-append-add, drop-cons}
-use borrow.Author.Tests.{ltb-true, ltb-false}
+use Rattle.facts.specs.Numbers.{less-or-not}
 use Rattle.facts.specs.CommonPrefix.{agreed, Agreed, agreed-holds, agreed-is}
-use Rattle.facts.specs.FirstOf.{Seen, nothing, value, seen}
+use Rattle.facts.specs.FirstOf.{nothing, value, seen}
 use Rattle.sheet.specs.declared.check.Check.the-variants.{Clear}
 use Rattle.sheet.specs.Check.{firstCause}
-use Rattle.sheet.specs.Reader.{content}
+use Rattle.sheet.specs.Reader.{wordIn}
 use Rattle.machine.specs.Machine.{Mealy, run, answers, Proper, Distinguishes}
 use Rattle.machine.specs.Machine.Laws.{run-append, run-stays, answers-append, answers-length, answers-take}
 use Rattle.machine.specs.Causes.{machineIn}
@@ -25,12 +24,9 @@ use Rattle.build.specs.Building.Connection.{clear-proper, clear-distinguishes, 
 use Rattle.desk.specs.declared.desk.Order.{Order}
 use Rattle.desk.specs.declared.desk.Order.the-variants.{Command, Home, Stranger}
 use Rattle.desk.specs.Desk.{Course, RightFrom, Ordered, word-next, transfer-next, home, strange}
-use Rattle.desk.specs.Desk.{no-state, differing}
-use Rattle.desk.specs.Desk.{beganIn, course, orderAt, orderOf}
-use Rattle.desk.specs.Desk.Laws.{first-answers, first-none, first-one}
+use Rattle.desk.specs.Desk.{no-state, differing, beganIn, course, orderAt, orderOf}
+use Rattle.desk.specs.Desk.Laws.{first-answers, first-none, first-one, at-home, course-is, Along}
 use Rattle.desk.specs.Desk.Laws.{began-is, order-reading, order-none, order-some, at-stranger, at-command}
-use Rattle.desk.specs.Desk.Laws.{at-home}
-use Rattle.desk.specs.Desk.Laws.{course-is, Along}
 
 -- the answers to the front of a course are the first of its answers
 front-answers : (M : Mealy) (s : ℕ) (u v : List ℕ) (i : ℕ) → i < length u
@@ -46,7 +42,7 @@ pub record Suited (M : Mealy) (w : List ℕ) : Type 0 where
   pub word : Distinguishes M w
   pub connected : StronglyConnected M
 
-pub clear-suited : (s : List ℕ) → firstCause (connectedCauses s) ≡ Clear → Suited (machineIn s) (content 2 s)
+pub clear-suited : (s : List ℕ) → firstCause (connectedCauses s) ≡ Clear → Suited (machineIn s) (wordIn s)
 clear-suited s clear = record {
   proper = clear-proper s clear;
   word = clear-distinguishes s clear;
@@ -107,12 +103,9 @@ module _ (M : Mealy) (w : List ℕ) (suited : Suited M w) where
       let pe : p ≡ length w + (p - length w) = omega arith in
       let front : take p xs ≡ w ++ take (p - length w) (h .homeward) =
       ap₂ take pe (h .commands) ∙ take-append-add w (h .homeward) (p - length w) in
-      let rest : drop p xs ≡ drop (p - length w) (h .homeward) = behind p xs h pe in
+      let rest : drop p xs ≡ drop (p - length w) (h .homeward) =
+      ap₂ drop pe (h .commands) ∙ drop-append-add w (h .homeward) (p - length w) in
       rw (front, rest) a
-    where
-      behind : (p : ℕ) (xs : List ℕ) (h : Course M w s xs) → p ≡ length w + (p - length w)
-          → drop p xs ≡ drop (p - length w) (h .homeward)
-      behind p xs h pe = ap₂ drop pe (h .commands) ∙ drop-append-add w (h .homeward) (p - length w)
 
   -- ---- the word's answers are right where the unit began in s
   word-right : (s : ℕ) (xs ys : List ℕ) → Course M w s xs → length w ≤ length ys → answers M s w ≡ take (length w) ys
@@ -138,50 +131,36 @@ module _ (M : Mealy) (w : List ℕ) (suited : Suited M w) where
 
   -- ---- from what is computed to what is said
   ordered-by : (s : ℕ) (ys : List ℕ) → s < M .n → length w ≤ length ys → answers M s w ≡ take (length w) ys → (p : ℕ)
-      → Agreed (answers M s (course M w s)) ys p → (t u : Bool) → ltb p (length (course M w s)) ≡ t
-      → ltb p (length ys) ≡ u → Ordered M w ys (orderAt (course M w s) ys p)
-  ordered-by s ys sl l e p a true true te ue =
+      → Agreed (answers M s (course M w s)) ys p → Ordered M w ys (orderAt (course M w s) ys p)
+  ordered-by s ys sl l e p a =
       let xs = course M w s in
       let h = course-course s sl in
-      let pl = ltb-true p (length xs) te in
-      let yl = ltb-true p (length ys) ue in
       let many = answers-length M s xs in
-      let here = a .here (omega (arith, many)) yl in
-      let behind : p < length w → ⊥ = λ k. here (word-right s xs ys h l e p k) in
-      rw (at-stranger xs ys pl yl) (strange {p = p} (differing s xs h (omega arith) yl pl (a .before) here))
-  ordered-by s ys sl l e p a true false te ue =
-      let xs = course M w s in
-      let pl = ltb-true p (length xs) te in
-      let yl = ltb-false p (length ys) ue in
-      let all : p ≡ length ys = omega (arith, a .in-second) in
-      rw (at-command xs ys pl yl)
-      (transfer-next s xs (course-course s sl) l (omega arith) (λ i il. a .before i (omega arith))
-      (ap (λ (i : ℕ). getD xs i 0) all))
-  ordered-by s ys sl l e p a false u te ue =
-      let xs = course M w s in
-      let pl = ltb-false p (length xs) te in
-      let many = answers-length M s xs in
-      rw (at-home xs ys pl)
-      (home s xs (course-course s sl) (omega (arith, a .in-second)) (λ i il. a .before i (omega arith)) refl)
+      elim (less-or-not p (length xs)) [
+        | inl pl ↦ elim (less-or-not p (length ys)) [
+          | inl yl ↦ (let here = a .here (omega (arith, many)) yl in
+              let behind : p < length w → ⊥ = λ k. here (word-right s xs ys h l e p k) in
+              rw (at-stranger xs ys pl yl) (strange {p = p} (differing s xs h (omega arith) yl pl (a .before) here)))
+          | inr yl ↦ (let all : p ≡ length ys = omega (arith, a .in-second) in
+              rw (at-command xs ys pl yl)
+              (transfer-next s xs h l (omega arith) (λ i il. a .before i (omega arith))
+              (ap (λ (i : ℕ). getD xs i 0) all)))
+        ]
+        | inr pl ↦ rw (at-home xs ys pl)
+            (home s xs h (omega (arith, a .in-second)) (λ i il. a .before i (omega arith)) refl)
+      ]
 
   pub order-ordered : (ys : List ℕ) → Ordered M w ys (orderOf M w ys)
-  order-ordered ys = go (ltb (length ys) (length w)) refl
-    where
-      read : length w ≤ length ys → Seen (beganIn M w ys) → Ordered M w ys (orderOf M w ys)
-      read l (nothing e) =
-          rw (order-none M w ys l e)
+  order-ordered ys = elim (less-or-not (length ys) (length w)) [
+    | inl l ↦ rw (order-reading M w ys l) (word-next l refl)
+    | inr l ↦ elim (seen (beganIn M w ys)) [
+      | nothing e ↦ rw (order-none M w ys l e)
           (strange (no-state l refl (first-none M w (take (length w) ys) (M .n) (sym (began-is M w ys) ∙ e))))
-      read l (value s e) =
-          let f = first-answers M w (take (length w) ys) (M .n) (sym (began-is M w ys) ∙ e) in
-          let xs = course M w s in
-          let right = agreed (answers M s xs) ys in
+      | value s e ↦ (let f = first-answers M w (take (length w) ys) (M .n) (sym (began-is M w ys) ∙ e) in
           rw (order-some M w ys l e)
-          (ordered-by s ys (f .0) l (f .1) right (agreed-holds (answers M s xs) ys) (ltb right (length xs))
-          (ltb right (length ys)) refl refl)
-
-      go : (t : Bool) → ltb (length ys) (length w) ≡ t → Ordered M w ys (orderOf M w ys)
-      go true e = let l = ltb-true (length ys) (length w) e in rw (order-reading M w ys l) (word-next l refl)
-      go false e = read (ltb-false (length ys) (length w) e) (seen (beganIn M w ys))
+          (ordered-by s ys (f .0) l (f .1) _ (agreed-holds (answers M s (course M w s)) ys)))
+    ]
+  ]
 
   -- ---- and back
   began-right : (s : ℕ) (xs ys : List ℕ) → Course M w s xs → (p : ℕ) → length w ≤ p → p ≤ length ys
@@ -204,13 +183,11 @@ module _ (M : Mealy) (w : List ℕ) (suited : Suited M w) where
   pub ordered-order : (ys : List ℕ) {o : Order} → Ordered M w ys o → o ≡ orderOf M w ys
   ordered-order ys (word-next l e) = ap Command e ∙ sym (order-reading M w ys l)
   ordered-order ys (strange (no-state l e h)) =
-      ap Stranger e ∙ sym (order-none M w ys l (none-there (seen (beganIn M w ys))))
-    where
-      none-there : Seen (beganIn M w ys) → beganIn M w ys ≡ none
-      none-there (nothing q) = q
-      none-there (value s q) =
-          let f = first-answers M w (take (length w) ys) (M .n) (sym (began-is M w ys) ∙ q) in
-          absurd (h s (f .0) (f .1))
+      ap Stranger e ∙ sym (order-none M w ys l (elim (seen (beganIn M w ys)) [
+        | nothing q ↦ q
+        | value s q ↦ (let f = first-answers M w (take (length w) ys) (M .n) (sym (began-is M w ys) ∙ q) in
+            absurd (h s (f .0) (f .1)))
+      ]))
   ordered-order ys (transfer-next s xs h l k r e) =
       let many = answers-length M s xs in
       let a : Agreed (answers M s xs) ys (length ys) = record {
@@ -245,10 +222,6 @@ module _ (M : Mealy) (w : List ℕ) (suited : Suited M w) where
       → (s : ℕ) × (v : List ℕ) × (u : List ℕ) × Along M w s v (c ∷ u) ys
   order-along ys {c} l e = go (order-ordered ys) e
     where
-      along-same : (s : ℕ) (v : List ℕ) {rest rest′ zs : List ℕ} → rest ≡ rest′ → zs ≡ ys → Along M w s v rest zs
-          → Along M w s v rest′ ys
-      along-same s v re ze a = rw (← re, ← ze) a
-
       go : {o : Order} → Ordered M w ys o → o ≡ Command c
           → (s : ℕ) × (v : List ℕ) × (u : List ℕ) × Along M w s v (c ∷ u) ys
       go (word-next k q) f = let z : ⊥ = omega arith in absurd z
@@ -269,5 +242,6 @@ module _ (M : Mealy) (w : List ℕ) (suited : Suited M w) where
             s,
             take (length ys) xs,
             drop (suc (length ys)) xs,
-            along-same s (take (length ys) xs) next given (course-along s xs h (length ys) k),
+            subst (Along M w s (take (length ys) xs) (c ∷ drop (suc (length ys)) xs)) given
+                (rw (← next) (course-along s xs h (length ys) k)),
           )

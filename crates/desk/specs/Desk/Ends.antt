@@ -2,24 +2,25 @@
 -- its end changes nothing; and what order and phase say of each other.
 use Prim.Native.Nat.{ℕ, _+_, _≤_, _<_}
 use mathlib.Core.Path.{_≡_, refl, sym, ap, _∙_}
-use mathlib.Core.Bool.{Bool, true, false, true≢false, cond}
+use mathlib.Core.Bool.{true, false, true≢false}
+use mathlib.Core.Logic.{inl, inr}
 use mathlib.Core.List.{List, _++_}
 use native.Mathlib.Omega.{arith}
 use lib.Dec.{ltb}
 use lib.ListN.{length, length-append}
-use borrow.Author.Tests.{lt-ltb, ltb-true, ltb-false}
-use Rattle.facts.specs.Tests.{if-true}
+use borrow.Author.Tests.{lt-ltb, le-ltb}
+use Rattle.facts.specs.Tests.{true-or-false, if-true}
+use Rattle.facts.specs.Numbers.{less-or-not}
 use Rattle.facts.specs.CommonPrefix.{agreed, agreed-longer, agreed-differ}
-use Rattle.facts.specs.FirstOf.{Seen, nothing, value, seen}
+use Rattle.facts.specs.FirstOf.{nothing, value, seen}
 use Rattle.machine.specs.Machine.{Mealy, answers}
 use Rattle.machine.specs.Machine.Laws.{answers-length}
 use Rattle.desk.specs.declared.desk.Order.{Order}
 use Rattle.desk.specs.declared.desk.Order.the-variants.{Command, Home, Stranger}
 use Rattle.desk.specs.declared.desk.Phase.the-variants.{Reading, Driving, Home as HomePhase}
 use Rattle.desk.specs.declared.desk.Phase.the-variants.{Stranger as StrangerPhase}
-use Rattle.desk.specs.Desk.{beganIn, course, orderAt, orderOf, isEnd, stateAfter, phaseFor, phaseOf}
-use Rattle.desk.specs.Desk.Laws.{began-more, order-reading, order-none}
-use Rattle.desk.specs.Desk.Laws.{order-some}
+use Rattle.desk.specs.Desk.{beganIn, course, orderAt, orderOf, isEnd, phaseFor, phaseOf}
+use Rattle.desk.specs.Desk.Laws.{began-more, order-reading, order-none, order-some}
 use Rattle.desk.specs.Desk.Laws.{at-stranger, at-command, at-home, course-short}
 
 -- a command is no end
@@ -29,72 +30,54 @@ command-ends e t = let z : false ≡ true = cc in absurd (true≢false (sym z))
 module _ (M : Mealy) (w ys : List ℕ) where
   -- before the word is answered there is no end
   pub end-read : isEnd (orderOf M w ys) ≡ true → length w ≤ length ys
-  end-read t = go (ltb (length ys) (length w)) refl
-    where
-      go : (b : Bool) → ltb (length ys) (length w) ≡ b → length w ≤ length ys
-      go true e = command-ends (order-reading M w ys (ltb-true (length ys) (length w) e)) t
-      go false e = ltb-false (length ys) (length w) e
+  end-read t = elim (less-or-not (length ys) (length w)) [
+    | inl l ↦ command-ends (order-reading M w ys l) t
+    | inr l ↦ l
+  ]
 
   -- ---- the bound
   pub order-ends : 1 ≤ M .n → length w + M .n ≤ length ys + 1 → isEnd (orderOf M w ys) ≡ true
-  order-ends one l = go (seen (beganIn M w ys))
+  order-ends one l =
+      let read : length w ≤ length ys = omega arith in
+      elim (seen (beganIn M w ys)) [
+        | nothing e ↦ ap isEnd (order-none M w ys read e)
+        | value s e ↦ ap isEnd (order-some M w ys read e)
+            ∙ at (course M w s) _ (omega (arith, course-short M w s one))
+      ]
     where
-      read : length w ≤ length ys
-      read = omega arith
-
-      at : (xs : List ℕ) (right : ℕ) → length xs ≤ length ys → (b : Bool) → ltb right (length xs) ≡ b
-          → isEnd (orderAt xs ys right) ≡ true
-      at xs right k true e =
-          let low = ltb-true right (length xs) e in
-          ap isEnd (at-stranger xs ys low (omega arith))
-      at xs right k false e = ap isEnd (at-home xs ys (ltb-false right (length xs) e))
-
-      go : Seen (beganIn M w ys) → isEnd (orderOf M w ys) ≡ true
-      go (nothing e) = ap isEnd (order-none M w ys read e)
-      go (value s e) =
-          let right = agreed (answers M s (course M w s)) ys in
-          ap isEnd (order-some M w ys read e)
-          ∙ at (course M w s) right (omega (arith, course-short M w s one)) (ltb right (length (course M w s))) refl
+      at : (xs : List ℕ) (right : ℕ) → length xs ≤ length ys → isEnd (orderAt xs ys right) ≡ true
+      at xs right k = elim (less-or-not right (length xs)) [
+        | inl low ↦ ap isEnd (at-stranger xs ys low (omega arith))
+        | inr all ↦ ap isEnd (at-home xs ys all)
+      ]
 
   -- ---- what comes after an end
   pub order-repeats : isEnd (orderOf M w ys) ≡ true → (zs : List ℕ) → orderOf M w (ys ++ zs) ≡ orderOf M w ys
-  order-repeats t zs = go (seen (beganIn M w ys))
+  order-repeats t zs =
+      let read = end-read t in
+      let later : length w ≤ length (ys ++ zs) = omega (arith, read, length-append ys zs) in
+      elim (seen (beganIn M w ys)) [
+        | nothing e ↦ order-none M w (ys ++ zs) later (began-more M w ys read zs ∙ e) ∙ sym (order-none M w ys read e)
+        | value s e ↦ (let here = order-some M w ys read e in
+            order-some M w (ys ++ zs) later (began-more M w ys read zs ∙ e)
+            ∙ at s (course M w s) (ap isEnd (sym here) ∙ t)
+            ∙ sym here)
+      ]
     where
-      read : length w ≤ length ys
-      read = end-read t
-
-      later : length w ≤ length (ys ++ zs)
-      later = omega (arith, read, length-append ys zs)
-
-      at : (s : ℕ) (xs : List ℕ) (b d : Bool) → ltb (agreed (answers M s xs) ys) (length xs) ≡ b
-          → ltb (agreed (answers M s xs) ys) (length ys) ≡ d
-          → isEnd (orderAt xs ys (agreed (answers M s xs) ys)) ≡ true
+      at : (s : ℕ) (xs : List ℕ) → isEnd (orderAt xs ys (agreed (answers M s xs) ys)) ≡ true
           → orderAt xs (ys ++ zs) (agreed (answers M s xs) (ys ++ zs)) ≡ orderAt xs ys (agreed (answers M s xs) ys)
-      at s xs true true be de u =
-          let low = ltb-true _ _ be in
-          let inside = ltb-true _ _ de in
-          ap (orderAt xs (ys ++ zs)) (agreed-differ (answers M s xs) ys zs inside)
-          ∙ at-stranger xs (ys ++ zs) low (omega (arith, length-append ys zs))
-          ∙ sym (at-stranger xs ys low inside)
-      at s xs true false be de u = command-ends (at-command xs ys (ltb-true _ _ be) (ltb-false _ _ de)) u
-      at s xs false d be de u =
-          let all = ltb-false _ _ be in
-          ap (orderAt xs (ys ++ zs))
-          (agreed-longer (answers M s xs) ys zs (omega (arith, answers-length M s xs)))
-          ∙ at-home xs (ys ++ zs) all
-          ∙ sym (at-home xs ys all)
-
-      go : Seen (beganIn M w ys) → orderOf M w (ys ++ zs) ≡ orderOf M w ys
-      go (nothing e) =
-          order-none M w (ys ++ zs) later (began-more M w ys read zs ∙ e) ∙ sym (order-none M w ys read e)
-      go (value s e) =
-          let xs = course M w s in
-          let here = order-some M w ys read e in
-          order-some M w (ys ++ zs) later (began-more M w ys read zs ∙ e)
-          ∙ at s xs (ltb (agreed (answers M s xs) ys) (length xs)) (ltb (agreed (answers M s xs) ys) (length ys)) refl
-          refl
-          (ap isEnd (sym here) ∙ t)
-          ∙ sym here
+      at s xs u = elim (less-or-not (agreed (answers M s xs) ys) (length xs)) [
+        | inl low ↦ elim (less-or-not (agreed (answers M s xs) ys) (length ys)) [
+          | inl inside ↦ ap (orderAt xs (ys ++ zs)) (agreed-differ (answers M s xs) ys zs inside)
+              ∙ at-stranger xs (ys ++ zs) low (omega (arith, length-append ys zs))
+              ∙ sym (at-stranger xs ys low inside)
+          | inr all ↦ command-ends (at-command xs ys low all) u
+        ]
+        | inr all ↦ ap (orderAt xs (ys ++ zs))
+            (agreed-longer (answers M s xs) ys zs (omega (arith, answers-length M s xs)))
+            ∙ at-home xs (ys ++ zs) all
+            ∙ sym (at-home xs ys all)
+      ]
 
   -- ---- the phase of an order
   pub phase-reading : length ys < length w → phaseOf M w ys ≡ Reading (length ys)
@@ -112,13 +95,10 @@ module _ (M : Mealy) (w ys : List ℕ) where
   -- ---- and what a phase says
   phase-read-by : (o : Order) {p : ℕ} → phaseFor M w ys o ≡ Reading p → (length ys < length w) × (p ≡ length ys)
   unfolding phaseFor
-  phase-read-by (Command c) {p} e = go (ltb (length ys) (length w)) refl e
-    where
-      go : (b : Bool) → ltb (length ys) (length w) ≡ b
-          → cond b (Reading (length ys)) (Driving (stateAfter M w (length ys) (beganIn M w ys))) ≡ Reading p
-          → (length ys < length w) × (p ≡ length ys)
-      go true t q = (ltb-true (length ys) (length w) t, cc)
-      go false t q = let z : _≡_ {A = ℕ} 0 1 = cc in absurd (omega arith)
+  phase-read-by (Command c) e = elim (less-or-not (length ys) (length w)) [
+    | inl l ↦ (l, cc (rw (lt-ltb _ _ l) at e))
+    | inr l ↦ (let z : _≡_ {A = ℕ} 0 1 = cc (rw (le-ltb _ _ l) at e) in absurd (omega arith))
+  ]
   phase-read-by (Home n) e = let z : _≡_ {A = ℕ} 0 1 = cc in absurd (omega arith)
   phase-read-by (Stranger q) e = let z : _≡_ {A = ℕ} 0 1 = cc in absurd (omega arith)
 
@@ -130,13 +110,10 @@ module _ (M : Mealy) (w ys : List ℕ) where
   phase-driven-by : (o : Order) {t : ℕ} → phaseFor M w ys o ≡ Driving t
       → (length w ≤ length ys) × ((c : ℕ) × (o ≡ Command c))
   unfolding phaseFor
-  phase-driven-by (Command c) {t} e = (go (ltb (length ys) (length w)) refl e, (c, refl))
-    where
-      go : (b : Bool) → ltb (length ys) (length w) ≡ b
-          → cond b (Reading (length ys)) (Driving (stateAfter M w (length ys) (beganIn M w ys))) ≡ Driving t
-          → length w ≤ length ys
-      go true k q = let z : _≡_ {A = ℕ} 0 1 = cc in absurd (omega arith)
-      go false k q = ltb-false (length ys) (length w) k
+  phase-driven-by (Command c) e = elim (less-or-not (length ys) (length w)) [
+    | inl l ↦ (let z : _≡_ {A = ℕ} 0 1 = cc (rw (lt-ltb _ _ l) at e) in absurd (omega arith))
+    | inr l ↦ (l, (c, refl))
+  ]
   phase-driven-by (Home n) e = let z : _≡_ {A = ℕ} 0 1 = cc in absurd (omega arith)
   phase-driven-by (Stranger q) e = let z : _≡_ {A = ℕ} 0 1 = cc in absurd (omega arith)
 
@@ -149,15 +126,10 @@ module _ (M : Mealy) (w ys : List ℕ) where
   -- an end: that is ordered
   phase-end-by : (o : Order) {n : ℕ} → phaseFor M w ys o ≡ HomePhase n → o ≡ Home n
   unfolding phaseFor
-  phase-end-by (Command c) {n} e = go (ltb (length ys) (length w)) e
-    where
-      go : (b : Bool) → cond b (Reading (length ys)) (Driving (stateAfter M w (length ys) (beganIn M w ys)))
-          ≡ HomePhase n
-          → Command c ≡ Home n
-      go true q = let z : _≡_ {A = ℕ} 0 1 = cc in absurd (omega arith)
-      go false q = let z : _≡_ {A = ℕ} 0 1 = cc in absurd (omega arith)
+  phase-end-by (Command c) e =
+      elim (true-or-false (ltb (length ys) (length w))) [ inl t ↦ cc (rw t at e) | inr t ↦ cc (rw t at e) ]
   phase-end-by (Home m) e = cc
-  phase-end-by (Stranger q) e = let z : _≡_ {A = ℕ} 0 1 = cc in absurd (omega arith)
+  phase-end-by (Stranger q) e = cc
 
   pub phase-at-home : {n : ℕ} → phaseOf M w ys ≡ HomePhase n → orderOf M w ys ≡ Home n
   unfolding phaseOf
@@ -165,14 +137,9 @@ module _ (M : Mealy) (w ys : List ℕ) where
 
   phase-strange-by : (o : Order) {p : ℕ} → phaseFor M w ys o ≡ StrangerPhase p → o ≡ Stranger p
   unfolding phaseFor
-  phase-strange-by (Command c) {p} e = go (ltb (length ys) (length w)) e
-    where
-      go : (b : Bool) → cond b (Reading (length ys)) (Driving (stateAfter M w (length ys) (beganIn M w ys)))
-          ≡ StrangerPhase p
-          → Command c ≡ Stranger p
-      go true q = let z : _≡_ {A = ℕ} 0 1 = cc in absurd (omega arith)
-      go false q = let z : _≡_ {A = ℕ} 0 1 = cc in absurd (omega arith)
-  phase-strange-by (Home m) e = let z : _≡_ {A = ℕ} 0 1 = cc in absurd (omega arith)
+  phase-strange-by (Command c) e =
+      elim (true-or-false (ltb (length ys) (length w))) [ inl t ↦ cc (rw t at e) | inr t ↦ cc (rw t at e) ]
+  phase-strange-by (Home m) e = cc
   phase-strange-by (Stranger q) e = cc
 
   pub phase-at-stranger : {p : ℕ} → phaseOf M w ys ≡ StrangerPhase p → orderOf M w ys ≡ Stranger p

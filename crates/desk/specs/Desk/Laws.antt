@@ -2,7 +2,8 @@
 -- of a unit whose answers are right so far.
 use Prim.Native.Nat.{ℕ, _+_, _-_, _≤_, _<_}
 use mathlib.Core.Path.{_≡_, refl, sym, ap, ap₂, _∙_}
-use mathlib.Core.Bool.{Bool, true, false}
+use mathlib.Core.Bool.{true}
+use mathlib.Core.Logic.{inl, inr}
 use mathlib.Core.List.{List, [], _∷_, _++_, append-assoc, append-nil}
 use mathlib.Core.Option.{Option, none, some, Option·getD, mem-unique}
 use native.Mathlib.Omega.{arith}
@@ -10,10 +11,10 @@ use lib.ListN.{length, getD, take, length-append}
 use lib.Seq.{take-append-seam, take-append-le, take-at, getD-append-seam}
 use borrow.Author.Tests.{lt-ltb, le-ltb}
 use borrow.Author.Count.{below-more}
-use Rattle.facts.specs.Tests.{if-true, if-false}
+use Rattle.facts.specs.Tests.{true-or-false, if-true, if-false}
 use Rattle.facts.specs.Lists.{same, same-refl, same-equal}
 use Rattle.facts.specs.CommonPrefix.{agreed, agreed-front, agreed-then}
-use Rattle.facts.specs.FirstOf.{some-none, Seen, nothing, value, seen, guard, guard-some, guard-true, guard-false}
+use Rattle.facts.specs.FirstOf.{some-none, nothing, value, seen, guard, guard-some, guard-true, guard-false}
 use Rattle.facts.specs.FirstOf.{firstOf, first-some, least-first, none-first, first-none as each-none}
 use Rattle.machine.specs.Machine.{Mealy, run, answers, Separates}
 use Rattle.machine.specs.Machine.Laws.{run-none, run-cons, run-append, answers-none, answers-cons, answers-append}
@@ -48,11 +49,10 @@ module _ (M : Mealy) (w ys : List ℕ) where
   first-passed m e d =
       none-first (m + 1) (λ s. guard (same (answers M s w) ys) (some s))
       (λ i l. below-more (λ s. guard (same (answers M s w) ys) (some s) ≡ none) m (each-none m _ e)
-      (go (same (answers M m w) ys) refl) i l)
-    where
-      go : (t : Bool) → same (answers M m w) ys ≡ t → guard t (some m) ≡ none
-      go true q = absurd (d (same-equal (answers M m w) ys q))
-      go false q = guard-false (some m) refl
+      (elim (true-or-false (same (answers M m w) ys)) [
+        | inl q ↦ absurd (d (same-equal (answers M m w) ys q))
+        | inr q ↦ guard-false (some m) q
+      ]) i l)
 
   -- what is found is a state that answers so
   pub first-answers : (m : ℕ) {s : ℕ} → firstState M w ys m ≡ some s → (s < m) × (answers M s w ≡ ys)
@@ -70,13 +70,10 @@ module _ (M : Mealy) (w ys : List ℕ) where
 
   -- the word separates: the one state that answers so is found
   pub first-one : Separates M w → (s : ℕ) → s < M .n → answers M s w ≡ ys → firstState M w ys (M .n) ≡ some s
-  first-one h s l e = go (seen (firstState M w ys (M .n)))
-    where
-      go : Seen (firstState M w ys (M .n)) → firstState M w ys (M .n) ≡ some s
-      go (nothing p) = absurd (first-none (M .n) p s l e)
-      go (value r p) =
-          let f = first-answers (M .n) p in
-          p ∙ ap some (h r s (f .0) l (f .1 ∙ sym e))
+  first-one h s l e = elim (seen (firstState M w ys (M .n))) [
+    | nothing p ↦ absurd (first-none (M .n) p s l e)
+    | value r p ↦ (let f = first-answers (M .n) p in p ∙ ap some (h r s (f .0) l (f .1 ∙ sym e)))
+  ]
 
 -- ---- the order by it
 module _ (M : Mealy) (w ys : List ℕ) where
@@ -128,12 +125,10 @@ module _ (M : Mealy) (w : List ℕ) (s : ℕ) where
   -- it has at most L + n - 1 commands
   pub course-short : 1 ≤ M .n → length (course M w s) + 1 ≤ length w + M .n
   unfolding course
-  course-short p = go (transfer M (run M s w) (M .start)) refl
-    where
-      go : (o : Option (List ℕ)) → transfer M (run M s w) (M .start) ≡ o
-          → length (w ++ Option·getD o []) + 1 ≤ length w + M .n
-      go none e = omega (arith, length-append w [])
-      go (some t) e = omega (arith, length-append w t, transfer-below M (run M s w) (M .start) e)
+  course-short p = elim (seen (transfer M (run M s w) (M .start))) [
+    | nothing e ↦ rw e (omega (arith, length-append w []))
+    | value t e ↦ rw e (omega (arith, length-append w t, transfer-below M (run M s w) (M .start) e))
+  ]
 
 -- ---- along the course: a unit that began in s was sent the commands v and gave the answers ys, all right, the word's
 -- among them; what is left is the transfer from where it is

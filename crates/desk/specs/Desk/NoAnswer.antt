@@ -9,7 +9,7 @@ use lib.Seq.{getD-take}
 use Rattle.facts.specs.Lists.{Below, low-append}
 use Rattle.sheet.specs.declared.check.Check.the-variants.{Clear}
 use Rattle.sheet.specs.Check.{firstCause}
-use Rattle.sheet.specs.Reader.{content}
+use Rattle.sheet.specs.Reader.{wordIn}
 use Rattle.machine.specs.Machine.{Mealy, noAnswer, answers}
 use Rattle.machine.specs.Machine.Laws.{answers-always}
 use Rattle.machine.specs.Causes.{machineIn}
@@ -25,7 +25,7 @@ module _ (s : List ℕ) (clear : firstCause (connectedCauses s) ≡ Clear) where
   M = machineIn s
 
   abbrev word : List ℕ
-  word = content 2 s
+  word = wordIn s
 
   abbrev suited : Suited M word
   suited = clear-suited s clear

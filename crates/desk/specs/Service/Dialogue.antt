@@ -12,7 +12,7 @@ use lib.Seq.{take-at}
 use Rattle.sheet.specs.declared.check.Check.{Check}
 use Rattle.sheet.specs.declared.check.Check.the-variants.{Clear, Refused}
 use Rattle.sheet.specs.Check.{firstCause, refusedOr}
-use Rattle.sheet.specs.Reader.{content}
+use Rattle.sheet.specs.Reader.{wordIn}
 use Rattle.machine.specs.Machine.{run, answers}
 use Rattle.machine.specs.Causes.{machineIn}
 use Rattle.build.specs.Building.{connectedCauses}
@@ -43,7 +43,7 @@ first-by Clear a e = (refl, cc)
 first-by (Refused n p) a e = let z : _≡_ {A = ℕ} 0 1 = cc in absurd (omega arith)
 
 pub starting-first : (s : List ℕ) → firstCause (connectedCauses s) ≡ Clear
-    → starting s ≡ FirstCommand (getD (content 2 s) 0 0)
+    → starting s ≡ FirstCommand (getD (wordIn s) 0 0)
 unfolding starting
 starting-first s e = rw e
 
@@ -54,9 +54,9 @@ starting-refused s e = rw e
 
 -- a first command: nothing is refused, and it is the word's first
 pub starting-clear : (s : List ℕ) {c : ℕ} → starting s ≡ FirstCommand c
-    → (firstCause (connectedCauses s) ≡ Clear) × (c ≡ getD (content 2 s) 0 0)
+    → (firstCause (connectedCauses s) ≡ Clear) × (c ≡ getD (wordIn s) 0 0)
 unfolding starting
-starting-clear s e = first-by (firstCause (connectedCauses s)) (getD (content 2 s) 0 0) e
+starting-clear s e = first-by (firstCause (connectedCauses s)) (getD (wordIn s) 0 0) e
 
 -- ---- every order is the specified one
 module _ (s : List ℕ) where
@@ -68,24 +68,24 @@ module _ (s : List ℕ) where
   dialogue-order (begun r h e) =
       let k = starting-clear s (sym (h .first .is) ∙ e) in
       let long = clear-distinguishes s (k .0) .commands .some in
-      ap Command (k .1) ∙ sym (order-reading (machineIn s) (content 2 s) [] (omega arith))
+      ap Command (k .1) ∙ sym (order-reading (machineIn s) (wordIn s) [] (omega arith))
   dialogue-order (continued {ys} y r g h) = h .order s ys (dialogue-reached g) .is
 
   module _ {ys : List ℕ} {d : Desk} {o : Order} (g : Dialogue s ys d o) where
-    suited : Suited (machineIn s) (content 2 s)
+    suited : Suited (machineIn s) (wordIn s)
     suited = clear-suited s (dialogue-reached g .clear)
 
     -- and as the specification says it
-    pub dialogue-ordered : Ordered (machineIn s) (content 2 s) ys o
+    pub dialogue-ordered : Ordered (machineIn s) (wordIn s) ys o
     dialogue-ordered =
         rw (dialogue-order g)
-        (order-ordered (machineIn s) (content 2 s) suited ys)
+        (order-ordered (machineIn s) (wordIn s) suited ys)
 
     -- after L + n - 1 answers, whatever they are, the desk has ended
-    pub dialogue-ends : length (content 2 s) + machineIn s .n ≤ length ys + 1 → isEnd o ≡ true
+    pub dialogue-ends : length (wordIn s) + machineIn s .n ≤ length ys + 1 → isEnd o ≡ true
     dialogue-ends l =
         ap isEnd (dialogue-order g)
-        ∙ order-ends (machineIn s) (content 2 s) ys (suited .proper .some-states) l
+        ∙ order-ends (machineIn s) (wordIn s) ys (suited .proper .some-states) l
 
     -- the desk has ended where its order is an end, and its end is that order
     pub dialogue-ended : isEnd o ≡ true → endOf (d .phase) ≡ some o
@@ -94,23 +94,23 @@ module _ (s : List ℕ) where
         go : (x : Order) → x ≡ orderOn s ys → isEnd x ≡ true → endOf (d .phase) ≡ some x
         go (Command c) e u = let z : false ≡ true = u in absurd (true≢false (sym z))
         go (Home n) e u =
-            ap endOf (dialogue-reached g .phase ∙ phase-home (machineIn s) (content 2 s) ys (sym e))
+            ap endOf (dialogue-reached g .phase ∙ phase-home (machineIn s) (wordIn s) ys (sym e))
         go (Stranger p) e u =
-            ap endOf (dialogue-reached g .phase ∙ phase-stranger (machineIn s) (content 2 s) ys (sym e))
+            ap endOf (dialogue-reached g .phase ∙ phase-stranger (machineIn s) (wordIn s) ys (sym e))
 
     -- the desk says that it reads until the word is answered, with the position in the word
-    pub dialogue-reads : length ys < length (content 2 s) → d .phase ≡ Reading (length ys)
-    dialogue-reads l = dialogue-reached g .phase ∙ phase-reading (machineIn s) (content 2 s) ys l
+    pub dialogue-reads : length ys < length (wordIn s) → d .phase ≡ Reading (length ys)
+    dialogue-reads l = dialogue-reached g .phase ∙ phase-reading (machineIn s) (wordIn s) ys l
 
     -- and where it then sends a command, that it drives, with the state reached: that to which the commands sent so
     -- far, the first of the course of the state in which the unit began, lead from that state
-    pub dialogue-drives : length (content 2 s) ≤ length ys → {c : ℕ} → o ≡ Command c
-        → (b : ℕ) × (xs : List ℕ) × Course (machineIn s) (content 2 s) b xs
+    pub dialogue-drives : length (wordIn s) ≤ length ys → {c : ℕ} → o ≡ Command c
+        → (b : ℕ) × (xs : List ℕ) × Course (machineIn s) (wordIn s) b xs
         × (ys ≡ answers (machineIn s) b (take (length ys) xs))
         × (d .phase ≡ Driving (run (machineIn s) b (take (length ys) xs)))
     dialogue-drives l {c} e =
         let M = machineIn s in
-        let w = content 2 s in
+        let w = wordIn s in
         let a =
         order-along M w suited ys l (sym (dialogue-order g) ∙ e) in
         let on = a .3 in
@@ -129,19 +129,19 @@ module _ (s : List ℕ) where
     pub dialogue-repeats : isEnd o ≡ true → (zs : List ℕ) (e : Desk) (p : Order) → Dialogue s (ys ++ zs) e p → p ≡ o
     dialogue-repeats t zs e p f =
         dialogue-order f
-        ∙ order-repeats (machineIn s) (content 2 s) ys (ap isEnd (sym (dialogue-order g)) ∙ t) zs
+        ∙ order-repeats (machineIn s) (wordIn s) ys (ap isEnd (sym (dialogue-order g)) ∙ t) zs
         ∙ sym (dialogue-order g)
 
 -- ---- why stranger is told
 pub stranger-why : (s : List ℕ) {ys : List ℕ} {d : Desk} {p : ℕ} → Dialogue s ys d (Stranger p)
-    → Strange (machineIn s) (content 2 s) ys p
+    → Strange (machineIn s) (wordIn s) ys p
 stranger-why s {ys} {d} {p} g = go (dialogue-ordered s g) refl
   where
-    go : {o : Order} → Ordered (machineIn s) (content 2 s) ys o → o ≡ Stranger p
-        → Strange (machineIn s) (content 2 s) ys p
+    go : {o : Order} → Ordered (machineIn s) (wordIn s) ys o → o ≡ Stranger p
+        → Strange (machineIn s) (wordIn s) ys p
     go (word-next k q) f = let z : _≡_ {A = ℕ} 0 1 = cc in absurd (omega arith)
     go (transfer-next t xs h k yl r q) f = let z : _≡_ {A = ℕ} 0 1 = cc in absurd (omega arith)
     go (home t xs h k r q) f = let z : _≡_ {A = ℕ} 0 1 = cc in absurd (omega arith)
     go (strange {p = q} why) f =
         let same-place : q ≡ p = cc in
-        subst (λ (x : ℕ). Strange (machineIn s) (content 2 s) ys x) same-place why
+        subst (λ (x : ℕ). Strange (machineIn s) (wordIn s) ys x) same-place why

@@ -3,17 +3,16 @@
 -- that is assigned to the start.
 use Prim.Native.Nat.{ℕ, zero, suc, _+_, _≤_, _<_}
 use mathlib.Core.Path.{_≡_, refl, sym, ap, ap₂, _∙_}
-use mathlib.Core.Bool.{Bool, true, false}
+use mathlib.Core.Logic.{inl, inr}
 use mathlib.Core.List.{List, [], _∷_, _++_, append-assoc, append-nil}
 use native.Mathlib.Omega.{arith}
-use lib.Dec.{ltb}
 use lib.ListN.{length, getD, take, drop, length-append, List·getD-append}
 use lib.Seq.{take-all, take-length, length-take-le, take-suc, drop-cons, drop-length}
-use borrow.Author.Tests.{ltb-true, ltb-false}
+use Rattle.facts.specs.Numbers.{less-or-not}
 use Rattle.facts.specs.Lists.{Below, low-append, low-take}
 use Rattle.sheet.specs.declared.check.Check.the-variants.{Clear}
 use Rattle.sheet.specs.Check.{firstCause}
-use Rattle.sheet.specs.Reader.{content}
+use Rattle.sheet.specs.Reader.{wordIn}
 use Rattle.machine.specs.Machine.{Mealy, run, answers, Proper}
 use Rattle.machine.specs.Machine.Laws.{run-append, answers-none, answers-cons, answers-append, answers-length}
 use Rattle.machine.specs.Causes.{machineIn}
@@ -46,8 +45,8 @@ pub data UnitDialogue (s : List ℕ) (U : Unit (machineIn s .n) (machineIn s .k)
 -- and the unit is in the state that is assigned to the start. Stranger is not among them
 pub data Brought (s : List ℕ) (U : Unit (machineIn s .n) (machineIn s .k)) (r : Isomorphism (machineIn s) U)
     (xs : List ℕ) : Order → Type 0 where
-  under-way : {c : ℕ} → length xs + 1 < length (content 2 s) + machineIn s .n → Brought s U r xs (Command c)
-  at-home : {n : ℕ} → n ≡ length xs → length xs + 1 ≤ length (content 2 s) + machineIn s .n
+  under-way : {c : ℕ} → length xs + 1 < length (wordIn s) + machineIn s .n → Brought s U r xs (Command c)
+  at-home : {n : ℕ} → n ≡ length xs → length xs + 1 ≤ length (wordIn s) + machineIn s .n
       → presentState (machineIn s .n) (machineIn s .k) U xs ≡ r .assigned (machineIn s .start)
       → Brought s U r xs (Home n)
 
@@ -58,20 +57,14 @@ module _ (M : Mealy) (w : List ℕ) (suited : Suited M w) (s : ℕ) (xs : List �
   answered i l = answers-length M s (take i xs) ∙ length-take-le i xs l
 
   pub course-asks : (i : ℕ) → i < length xs → orderOf M w (answers M s (take i xs)) ≡ Command (getD xs i 0)
-  course-asks i l = go (ltb i (length w)) refl
-    where
-      go : (b : Bool) → ltb i (length w) ≡ b → orderOf M w (answers M s (take i xs)) ≡ Command (getD xs i 0)
-      go true e =
-          let low = ltb-true i (length w) e in
-          let size = answered i (omega arith) in
-          order-reading M w (answers M s (take i xs)) (omega arith)
-          ∙ ap (λ (j : ℕ). Command (getD w j 0)) size
-          ∙ ap Command
-          (sym (ap (λ (x : List ℕ). getD x i 0) (h .commands) ∙ List·getD-append w (h .homeward) 0 i low))
-      go false e =
-          along-command M w
-          (course-along M w suited s xs h i (ltb-false i (length w) e))
-          (getD xs i 0) (drop (suc i) xs) (drop-cons xs i 0 l) (suited .word .separates)
+  course-asks i l = elim (less-or-not i (length w)) [
+    | inl low ↦ (let size = answered i (omega arith) in
+        order-reading M w (answers M s (take i xs)) (omega arith)
+        ∙ ap (λ (j : ℕ). Command (getD w j 0)) size
+        ∙ ap Command (sym (ap (λ (x : List ℕ). getD x i 0) (h .commands) ∙ List·getD-append w (h .homeward) 0 i low)))
+    | inr k ↦ along-command M w (course-along M w suited s xs h i k) (getD xs i 0) (drop (suc i) xs)
+        (drop-cons xs i 0 l) (suited .word .separates)
+  ]
 
   pub course-home : orderOf M w (answers M s xs) ≡ Home (length xs)
   course-home =
@@ -108,7 +101,7 @@ module _ (s : List ℕ) (U : Unit (machineIn s .n) (machineIn s .k)) where
     M = machineIn s
 
     abbrev w : List ℕ
-    w = content 2 s
+    w = wordIn s
 
     suited : Suited M w
     suited = clear-suited s clear
@@ -171,52 +164,38 @@ module _ (s : List ℕ) (U : Unit (machineIn s .n) (machineIn s .k)) where
     -- one command more, where there is one
     one-more : {xs : List ℕ} {d : Desk} {c : ℕ} → Dialogue s (own xs) d (Command c) → OnWay xs
         → OnWay (xs ++ (c ∷ []))
-    one-more {xs} {d} {c} g h = go (ltb (length xs) (length all)) refl
-      where
-        is : Command c ≡ orderOn s (own (take (length xs) all))
-        is = dialogue-order s g ∙ ap (λ (x : List ℕ). orderOn s (own x)) (h .front)
-
-        go : (b : Bool) → ltb (length xs) (length all) ≡ b → OnWay (xs ++ (c ∷ []))
-        go true e =
-            let l = ltb-true (length xs) (length all) e in
-            let same-command : Command c ≡ Command (getD all (length xs) 0) = is ∙ asks (length xs) l in
-            let next : c ≡ getD all (length xs) 0 = cc in
-            let long : length (xs ++ (c ∷ [])) ≡ suc (length xs) = omega (arith, length-append xs (c ∷ [])) in
-            record {
-              few = omega arith;
-              front =
-                  ap₂ (λ (x : List ℕ) (y : ℕ). x ++ (y ∷ [])) (h .front) next
-                  ∙ sym (take-suc all (length xs) 0 l)
-                  ∙ ap (λ (n : ℕ). take n all) (sym long);
-            }
-        go false e =
-            let l = ltb-false (length xs) (length all) e in
-            let z : Command c ≡ Home (length all) =
-            is ∙ ap (λ (x : List ℕ). orderOn s (own x)) (take-all (length xs) all l) ∙ homes in
-            let impossible : _≡_ {A = ℕ} 0 1 = cc in
-            absurd (omega arith)
+    one-more {xs} {d} {c} g h =
+        let is = dialogue-order s g ∙ ap (λ (x : List ℕ). orderOn s (own x)) (h .front) in
+        elim (less-or-not (length xs) (length all)) [
+          | inl l ↦ (let next : c ≡ getD all (length xs) 0 = cc (is ∙ asks (length xs) l) in
+              let long : length (xs ++ (c ∷ [])) ≡ suc (length xs) = omega (arith, length-append xs (c ∷ [])) in
+              record {
+                few = omega arith;
+                front =
+                    ap₂ (λ (x : List ℕ) (y : ℕ). x ++ (y ∷ [])) (h .front) next
+                    ∙ sym (take-suc all (length xs) 0 l)
+                    ∙ ap (λ (n : ℕ). take n all) (sym long);
+              })
+          | inr l ↦ (let whole = ap (λ (x : List ℕ). orderOn s (own x)) (take-all (length xs) all l) in
+              let impossible : _≡_ {A = ℕ} 0 1 = cc (is ∙ whole ∙ homes) in
+              absurd (omega arith))
+        ]
 
     on-way : {xs : List ℕ} {d : Desk} {o : Order} → UnitDialogue s U xs d o → OnWay xs
     on-way (started r h e) = record { few = omega arith; front = refl }
     on-way (sent {xs} {d} {c} r g h) = one-more (unit-dialogue g) (on-way g)
 
     brought : {xs : List ℕ} {d : Desk} {o : Order} → Dialogue s (own xs) d o → OnWay xs → Brought s U iso xs o
-    brought {xs} {d} {o} g h = go (ltb (length xs) (length all)) refl
-      where
-        is : o ≡ orderOn s (own (take (length xs) all))
-        is = dialogue-order s g ∙ ap (λ (x : List ℕ). orderOn s (own x)) (h .front)
-
-        go : (b : Bool) → ltb (length xs) (length all) ≡ b → Brought s U iso xs o
-        go true e =
-            let l = ltb-true (length xs) (length all) e in
-            rw (is ∙ asks (length xs) l) (under-way (omega (arith, all-short)))
-        go false e =
-            let l = ltb-false (length xs) (length all) e in
-            let whole : take (length xs) all ≡ all = take-all (length xs) all l in
-            let these : xs ≡ all = h .front ∙ whole in
-            rw (is ∙ ap (λ (x : List ℕ). orderOn s (own x)) whole ∙ homes)
-            (at-home (sym (ap length these)) (omega (arith, all-short, h .few))
-            (ap (presentState (M .n) (M .k) U) these ∙ stands))
+    brought {xs} g h =
+        let is = dialogue-order s g ∙ ap (λ (x : List ℕ). orderOn s (own x)) (h .front) in
+        elim (less-or-not (length xs) (length all)) [
+          | inl l ↦ rw (is ∙ asks (length xs) l) (under-way (omega (arith, all-short)))
+          | inr l ↦ (let whole : take (length xs) all ≡ all = take-all (length xs) all l in
+              let these : xs ≡ all = h .front ∙ whole in
+              rw (is ∙ ap (λ (x : List ℕ). orderOn s (own x)) whole ∙ homes)
+              (at-home (sym (ap length these)) (omega (arith, all-short, h .few))
+              (ap (presentState (M .n) (M .k) U) these ∙ stands)))
+        ]
 
 -- the claim (§13.3)
 pub brought-home : (s : List ℕ) (U : Unit (machineIn s .n) (machineIn s .k)) (r : Isomorphism (machineIn s) U)
@@ -234,7 +213,7 @@ pub record EndsHome (s : List ℕ) (U : Unit (machineIn s .n) (machineIn s .k)) 
   pub extends : commands ≡ xs ++ further
   pub desk : Desk
   pub dialogue : UnitDialogue s U commands desk (Home (length commands))
-  pub few : length commands + 1 ≤ length (content 2 s) + machineIn s .n
+  pub few : length commands + 1 ≤ length (wordIn s) + machineIn s .n
   pub stands : presentState (machineIn s .n) (machineIn s .k) U commands ≡ r .assigned (machineIn s .start)
 
 -- step returns whenever it is called, by its proof: so each dialogue with the unit goes on to that end
@@ -243,7 +222,7 @@ module _ (s : List ℕ) (U : Unit (machineIn s .n) (machineIn s .k)) (r : Isomor
     → (t : Stepped) × Steps d (U .answer (presentState (machineIn s .n) (machineIn s .k) U xs) c) t) where
   -- it is there
   ends-here : {xs : List ℕ} {d : Desk} {n : ℕ} → UnitDialogue s U xs d (Home n) → n ≡ length xs
-      → length xs + 1 ≤ length (content 2 s) + machineIn s .n
+      → length xs + 1 ≤ length (wordIn s) + machineIn s .n
       → presentState (machineIn s .n) (machineIn s .k) U xs ≡ r .assigned (machineIn s .start) → EndsHome s U r xs
   ends-here {xs} {d} g e k q = record {
     commands = xs;
@@ -268,7 +247,7 @@ module _ (s : List ℕ) (U : Unit (machineIn s .n) (machineIn s .k)) (r : Isomor
   }
 
   ends-within : (left : ℕ) {xs : List ℕ} {d : Desk} {o : Order}
-      → length (content 2 s) + machineIn s .n ≤ length xs + 1 + left → UnitDialogue s U xs d o → Brought s U r xs o
+      → length (wordIn s) + machineIn s .n ≤ length xs + 1 + left → UnitDialogue s U xs d o → Brought s U r xs o
       → EndsHome s U r xs
   ends-within zero l g (under-way k) = let z : ⊥ = omega arith in absurd z
   ends-within zero l g (at-home e k q) = ends-here g e k q
@@ -279,4 +258,4 @@ module _ (s : List ℕ) (U : Unit (machineIn s .n) (machineIn s .k)) (r : Isomor
   ends-within (suc left) l g (at-home e k q) = ends-here g e k q
 
   pub ends-home : {xs : List ℕ} {d : Desk} {o : Order} → UnitDialogue s U xs d o → EndsHome s U r xs
-  ends-home g = ends-within (length (content 2 s) + machineIn s .n) (omega arith) g (brought-home s U r g)
+  ends-home g = ends-within (length (wordIn s) + machineIn s .n) (omega arith) g (brought-home s U r g)

@@ -1,13 +1,14 @@
 -- The laws of numbers in decimal: their equations without a bound.
 use Prim.Native.Nat.{ℕ, zero, suc, _+_, _/_, _%_, _≤_, _<_}
-use mathlib.Core.Path.{_≡_, refl, sym, ap, _∙_}
-use mathlib.Core.Bool.{Bool, true, false}
+use mathlib.Core.Path.{_≡_, sym, ap, _∙_}
+use mathlib.Core.Bool.{Bool}
 use mathlib.Core.List.{List, [], _∷_, _++_}
+use mathlib.Core.Logic.{inl, inr}
 use native.Mathlib.Omega.{arith}
 use native.Mathlib.Numerals.{add-one}
 use native.Mathlib.Nat.{div-lt-self}
-use borrow.Author.Tests.{lt-ltb, le-ltb, ltb-true, ltb-false}
-use lib.Dec.{ltb}
+use borrow.Author.Tests.{lt-ltb, le-ltb}
+use Rattle.facts.specs.Numbers.{less-or-not}
 use Rattle.facts.specs.Decimal.{lastDigit, decimalWithin, decimal}
 
 -- ---- with a bound
@@ -27,17 +28,11 @@ shorter n h = div-lt-self {n = n} {k = 10} (omega arith) (omega arith)
 enough : (f g n : ℕ) → n < f → n < g → decimalWithin f n ≡ decimalWithin g n
 enough zero g n a b = let z : ⊥ = omega arith in absurd z
 enough (suc f) zero n a b = let z : ⊥ = omega arith in absurd z
-enough (suc f) (suc g) n a b = go (ltb n 10) refl (enough f g (n / 10))
-  where
-    go : (t : Bool) → ltb n 10 ≡ t → (n / 10 < f → n / 10 < g → decimalWithin f (n / 10) ≡ decimalWithin g (n / 10))
-        → decimalWithin (suc f) n ≡ decimalWithin (suc g) n
-    go true e again = within-digit f n (ltb-true n 10 e) ∙ sym (within-digit g n (ltb-true n 10 e))
-    go false e again =
-        let h : 10 ≤ n = ltb-false n 10 e in
-        let less : n / 10 < n = shorter n h in
-        within-more f n h
-        ∙ ap (λ (l : List ℕ). l ++ ((48 + n % 10) ∷ [])) (again (omega arith) (omega arith))
-        ∙ sym (within-more g n h)
+enough (suc f) (suc g) n a b = elim (less-or-not n 10) [
+  | inl h ↦ within-digit f n h ∙ sym (within-digit g n h)
+  | inr h ↦ (let less = shorter n h in
+      rw (within-more f n h, within-more g n h, enough f g (n / 10) (omega arith) (omega arith)))
+]
 
 -- ---- without
 -- one digit

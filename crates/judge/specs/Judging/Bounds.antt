@@ -11,9 +11,10 @@ use Rattle.sheet.specs.declared.check.Check.the-variants.{Clear}
 use Rattle.sheet.specs.Check.{firstCause}
 use Rattle.sheet.specs.Check.Bounds.{WhereRefused, place-of, place-cause, place-else}
 use Rattle.sheet.specs.Values.{Fits}
-use Rattle.sheet.specs.Reader.{recordOf, content}
+use Rattle.sheet.specs.Reader.{wordIn, sequenceIn, answersIn, answersRecord}
 use Rattle.sheet.specs.Reader.Laws.{record-inside}
-use Rattle.sheet.specs.Reader.Bounds.{Small, Bytes, content-bytes}
+use Rattle.facts.specs.Bytes.{Bytes}
+use Rattle.sheet.specs.Reader.Bounds.{Small, content-bytes}
 use Rattle.machine.specs.Limits.{mostSequence}
 use Rattle.machine.specs.Machine.{Mealy, Proper, Commands, stateAt}
 use Rattle.machine.specs.Machine.Laws.{answer-at, state-stays, proper-entries}
@@ -29,19 +30,24 @@ use Rattle.judge.specs.Judging.{cause10, judgeCauses, judgement, valuesO
 use Rattle.judge.specs.Judging.Verdict.{Judged, passed, wrong, unheard, unfinished}
 use Rattle.judge.specs.Judging.Laws.{cause10-is, judge-causes-are, few-answers, judged-proper, judged-commands}
 use Rattle.judge.specs.Judging.Laws.{Result, refused, not-certified, judged, judgement-result}
+use Rattle.sheet.specs.Format.{standard}
 
 -- ---- refusals
 -- of the causes of certifying and 10
 pub judge-small : (room : ℕ) (s : List ℕ) → WhereRefused Small (firstCause (judgeCauses room s))
 judge-small room s =
     place-of Small (judge-causes-are room s)
-    (place-else Small (firstCause (sequenceCauses true room s)) (cause10 (recordOf 4 s) (content 3 s) (content 4 s))
+    (place-else Small (firstCause (sequenceCauses true room s)) (cause10 (answersRecord s) (sequenceIn s) (answersIn s))
     (sequence-small true room s)
-    (λ q. place-of Small (sym (cause10-is (recordOf 4 s) (content 3 s) (content 4 s)))
-    (place-cause Small 10 (recordOf 4 s .start) _
+    (λ q. place-of Small (sym (cause10-is (answersRecord s) (sequenceIn s) (answersIn s)))
+    (place-cause Small 10 (answersRecord s .start) _
     (λ t. record {
       number = omega arith;
-      place = omega (arith, record-inside 4 s, load-short (sequenceNeeds true) s (load-clear true room s q));
+      place = omega (
+        arith,
+        record-inside standard (standard .answers) s,
+        load-short (sequenceNeeds true) s (load-clear true room s q),
+      );
     }))))
 
 -- ---- the values
@@ -50,27 +56,27 @@ module _ (room : ℕ) (s : List ℕ) (bytes : Bytes s) where
     abbrev proper : Proper (machineIn s)
     proper = judged-proper room s e
 
-    abbrev commands : Commands mostSequence (machineIn s .k) (content 3 s)
+    abbrev commands : Commands mostSequence (machineIn s .k) (sequenceIn s)
     commands = judged-commands room s e
 
-    judged-fits : {a : Answer} → Judged (machineIn s) (content 3 s) (content 4 s) a → Fits (valuesOf a)
+    judged-fits : {a : Answer} → Judged (machineIn s) (sequenceIn s) (answersIn s) a → Fits (valuesOf a)
     judged-fits (passed y n t) = record {
       place = omega (arith, commands .few);
       a = omega arith;
       b = omega (
         arith,
         proper .few-states,
-        state-stays (machineIn s) proper (content 3 s) (commands .low) (length (content 3 s)),
+        state-stays (machineIn s) proper (sequenceIn s) (commands .low) (length (sequenceIn s)),
       );
     }
     judged-fits (wrong {place = p} l r d n x y) =
-        let inside : p < length (content 3 s) = omega (arith, few-answers room s e) in
+        let inside : p < length (sequenceIn s) = omega (arith, few-answers room s e) in
         record {
           place = omega (arith, commands .few);
           a =
-              rw (x, answer-at (machineIn s) (content 3 s) p inside)
-              (answer-byte s bytes (stateAt (machineIn s) (content 3 s) p) (getD (content 3 s) p 0));
-          b = rw y (content-bytes 4 s bytes p);
+              rw (x, answer-at (machineIn s) (sequenceIn s) p inside)
+              (answer-byte s bytes (stateAt (machineIn s) (sequenceIn s) p) (getD (sequenceIn s) p 0));
+          b = rw y (content-bytes standard (standard .answers) s bytes p);
         }
     judged-fits (unheard {place = p} l r n y) = record {
       place = omega (arith, few-answers room s e, commands .few);
@@ -88,7 +94,7 @@ module _ (room : ℕ) (s : List ℕ) (bytes : Bytes s) where
   result-fits (not-certified e o) = record {
     place = omega (
       arith,
-      open-small (machineIn s) (content 2 s) (content 3 s) _ o,
+      open-small (machineIn s) (wordIn s) (sequenceIn s) _ o,
       proper-entries (machineIn s) (proper e),
     );
     a = omega arith;
@@ -113,7 +119,7 @@ result-pass room s (refused {n = n} {p = p} e) c =
     let z : ⊥ = omega (arith, judge-small room s n p e .number) in
     absurd z
 result-pass room s (not-certified e o) c = let z : ⊥ = omega arith in absurd z
-result-pass room s (judged e h j) c = judged-pass (machineIn s) (content 3 s) (content 4 s) j c
+result-pass room s (judged e h j) c = judged-pass (machineIn s) (sequenceIn s) (answersIn s) j c
 
 pub class-pass : (room : ℕ) (s : List ℕ) → valuesOf (judgement room s) .class ≡ 100
     → (size : ℕ) × (judgement room s ≡ Pass size (valuesOf (judgement room s) .b))

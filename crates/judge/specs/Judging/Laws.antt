@@ -13,7 +13,7 @@ use Rattle.sheet.specs.declared.check.Check.the-variants.{Clear, Refused}
 use Rattle.sheet.specs.declared.record.Record.{Record}
 use Rattle.sheet.specs.Check.{refusal_with_if_, _else_, firstCause, refusedOr, unlessRefused}
 use Rattle.sheet.specs.Check.Laws.{clear-refused, clear-absent, both-clear, cause-one, cause-append}
-use Rattle.sheet.specs.Reader.{recordOf, content}
+use Rattle.sheet.specs.Reader.{wordIn, sequenceIn, answersIn, answersRecord}
 use Rattle.machine.specs.Limits.{mostSequence}
 use Rattle.machine.specs.Machine.{answers, stateAt, Separates, Proper, Commands}
 use Rattle.machine.specs.Causes.{machineIn, loadCauses}
@@ -41,16 +41,16 @@ unfolding cause10
 cause10-is r xs ys = refl
 
 pub judge-causes-are : (room : ℕ) (s : List ℕ) → firstCause (judgeCauses room s)
-    ≡ (firstCause (sequenceCauses true room s) else cause10 (recordOf 4 s) (content 3 s) (content 4 s))
+    ≡ (firstCause (sequenceCauses true room s) else cause10 (answersRecord s) (sequenceIn s) (answersIn s))
 unfolding judgeCauses
 judge-causes-are room s =
-    let ten = cause10 (recordOf 4 s) (content 3 s) (content 4 s) in
+    let ten = cause10 (answersRecord s) (sequenceIn s) (answersIn s) in
     cause-append (sequenceCauses true room s) (ten ∷ [])
     ∙ ap (λ (c : Check). firstCause (sequenceCauses true room s) else c) (cause-one ten)
 
 module _ (room : ℕ) (s : List ℕ) (e : firstCause (judgeCauses room s) ≡ Clear) where
   both-parts : (firstCause (sequenceCauses true room s) ≡ Clear)
-      × (cause10 (recordOf 4 s) (content 3 s) (content 4 s) ≡ Clear)
+      × (cause10 (answersRecord s) (sequenceIn s) (answersIn s) ≡ Clear)
   both-parts = both-clear _ _ (sym (judge-causes-are room s) ∙ e)
 
   pub marking-clear : firstCause (sequenceCauses true room s) ≡ Clear
@@ -60,9 +60,9 @@ module _ (room : ℕ) (s : List ℕ) (e : firstCause (judgeCauses room s) ≡ Cl
   pub certifying-clear : firstCause (certifyCauses room s) ≡ Clear
   certifying-clear = certify-without-answers room s marking-clear
 
-  pub few-answers : length (content 4 s) ≤ length (content 3 s)
+  pub few-answers : length (answersIn s) ≤ length (sequenceIn s)
   few-answers =
-      ltb-false _ _ (clear-absent 10 _ _ (cause10-is (recordOf 4 s) (content 3 s) (content 4 s) ∙ both-parts .1))
+      ltb-false _ _ (clear-absent 10 _ _ (cause10-is (answersRecord s) (sequenceIn s) (answersIn s) ∙ both-parts .1))
 
 -- ---- the answer and the buffer, by the first cause
 module _ (room : ℕ) (s : List ℕ) where
@@ -73,12 +73,12 @@ module _ (room : ℕ) (s : List ℕ) where
 
   -- otherwise by what certifying answers
   pub judgement-by : firstCause (judgeCauses room s) ≡ Clear → {b : Certification} → certification room s ≡ b
-      → judgement room s ≡ refusedOr RefusedAnswer (cause11 b) (verdict (machineIn s) (content 3 s) (content 4 s))
+      → judgement room s ≡ refusedOr RefusedAnswer (cause11 b) (verdict (machineIn s) (sequenceIn s) (answersIn s))
   unfolding judgement
   judgement-by e f =
       ap₂ (refusedOr RefusedAnswer) e
       (ap (λ (b : Certification).
-      refusedOr RefusedAnswer (cause11 b) (verdict (machineIn s) (content 3 s) (content 4 s))) f)
+      refusedOr RefusedAnswer (cause11 b) (verdict (machineIn s) (sequenceIn s) (answersIn s))) f)
 
   judgement-open : firstCause (judgeCauses room s) ≡ Clear → {n v : ℕ} → certification room s ≡ Open n v
       → judgement room s ≡ RefusedAnswer 11 v
@@ -86,7 +86,7 @@ module _ (room : ℕ) (s : List ℕ) where
   judgement-open e f = judgement-by e f
 
   pub judgement-verdict : firstCause (judgeCauses room s) ≡ Clear → {n : ℕ} → certification room s ≡ CertifiedAnswer n
-      → judgement room s ≡ verdict (machineIn s) (content 3 s) (content 4 s)
+      → judgement room s ≡ verdict (machineIn s) (sequenceIn s) (answersIn s)
   unfolding cause11
   judgement-verdict e f = judgement-by e f
 
@@ -102,14 +102,14 @@ judged-clear s buffer e = ap (λ (c : Check). unlessRefused c (marksAfter s buff
 
 -- so marks 0 to N are those of the recognised places, and later bytes stay as they were
 pub judged-marked : (s buffer : List ℕ) → firstCause (judgeCauses (length buffer) s) ≡ Clear
-    → MarksOf (machineIn s) (content 2 s) (content 3 s) (keptIn (content 3 s) (judgedMarks s buffer))
+    → MarksOf (machineIn s) (wordIn s) (sequenceIn s) (keptIn (sequenceIn s) (judgedMarks s buffer))
 judged-marked s buffer e =
     rw (judged-clear s buffer e) (certifies s buffer refl refl .marked (certifying-clear (length buffer) s e))
 
 pub judged-later : (s buffer : List ℕ) → firstCause (judgeCauses (length buffer) s) ≡ Clear
-    → drop (markBytes (content 3 s)) (judgedMarks s buffer) ≡ drop (markBytes (content 3 s)) buffer
+    → drop (markBytes (sequenceIn s)) (judgedMarks s buffer) ≡ drop (markBytes (sequenceIn s)) buffer
 judged-later s buffer e =
-    ap (drop (markBytes (content 3 s))) (judged-clear s buffer e) ∙ certifies s buffer refl refl .later
+    ap (drop (markBytes (sequenceIn s))) (judged-clear s buffer e) ∙ certifies s buffer refl refl .later
 
 -- ---- what each answer says
 -- every result, where nothing is refused and the sequence is certified; a refusal with the number and place of the
@@ -117,9 +117,9 @@ judged-later s buffer e =
 pub data Result (room : ℕ) (s : List ℕ) : Answer → Type 0 where
   refused : {n p : ℕ} → firstCause (judgeCauses room s) ≡ Refused n p → Result room s (RefusedAnswer n p)
   not-certified : {v : ℕ} → firstCause (judgeCauses room s) ≡ Clear
-      → OpenNumber (machineIn s) (content 2 s) (content 3 s) v → Result room s (RefusedAnswer 11 v)
-  judged : {a : Answer} → firstCause (judgeCauses room s) ≡ Clear → Certified (machineIn s) (content 2 s) (content 3 s)
-      → Judged (machineIn s) (content 3 s) (content 4 s) a → Result room s a
+      → OpenNumber (machineIn s) (wordIn s) (sequenceIn s) v → Result room s (RefusedAnswer 11 v)
+  judged : {a : Answer} → firstCause (judgeCauses room s) ≡ Clear → Certified (machineIn s) (wordIn s) (sequenceIn s)
+      → Judged (machineIn s) (sequenceIn s) (answersIn s) a → Result room s a
 
 module _ (room : ℕ) (s : List ℕ) where
   abbrev says : Says room s (certification room s)
@@ -127,7 +127,7 @@ module _ (room : ℕ) (s : List ℕ) where
 
   -- where judging refuses nothing, certifying answers with the number of recognised places
   numbered : firstCause (judgeCauses room s) ≡ Clear → (b : Certification) → certification room s ≡ b
-      → (n : ℕ) × RecognisedNumber (machineIn s) (content 2 s) (content 3 s) n
+      → (n : ℕ) × RecognisedNumber (machineIn s) (wordIn s) (sequenceIn s) n
   numbered e (CertifiedAnswer n) f = (n, says .certified n .0 f .number)
   numbered e (Open n v) f = (n, says .opened n v .0 f .number)
   numbered e (RefusedCertification n p) f = clear-refused (certifying-clear room s e) (says .refused n p .0 f)
@@ -140,7 +140,7 @@ module _ (room : ℕ) (s : List ℕ) where
       (says .opened (r .0) v .1 (record { clear = certifying-clear room s e; open-number = o; number = r .1 })))
   result-judgement (judged e c h) =
       let r = numbered e (certification room s) refl in
-      judged-verdict (machineIn s) (content 3 s) (content 4 s) (few-answers room s e) h
+      judged-verdict (machineIn s) (sequenceIn s) (answersIn s) (few-answers room s e) h
       ∙ sym (judgement-verdict room s e
       (says .certified (r .0) .1 (record { clear = certifying-clear room s e; certified = c; number = r .1 })))
 
@@ -150,7 +150,7 @@ module _ (room : ℕ) (s : List ℕ) where
   result-by Clear (CertifiedAnswer n) e f =
       rw (judgement-verdict room s e f)
       (judged e (says .certified n .0 f .certified)
-      (verdict-judged (machineIn s) (content 3 s) (content 4 s) (few-answers room s e)))
+      (verdict-judged (machineIn s) (sequenceIn s) (answersIn s) (few-answers room s e)))
   result-by Clear (Open n v) e f = rw (judgement-open room s e f) (not-certified e (says .opened n v .0 f .open-number))
   result-by Clear (RefusedCertification n p) e f = clear-refused (certifying-clear room s e) (says .refused n p .0 f)
 
@@ -169,10 +169,10 @@ refused-marks s buffer e = go (subst (Result (length buffer) s) e (judgement-res
 -- what pass shows
 pub record Passes (room : ℕ) (s : List ℕ) (size end : ℕ) : Type 0 where
   pub clear : firstCause (judgeCauses room s) ≡ Clear
-  pub certified : Certified (machineIn s) (content 2 s) (content 3 s)
-  pub complete : content 4 s ≡ answers (machineIn s) (machineIn s .start) (content 3 s)
-  pub long : size ≡ length (content 3 s)
-  pub ends : end ≡ stateAt (machineIn s) (content 3 s) (length (content 3 s))
+  pub certified : Certified (machineIn s) (wordIn s) (sequenceIn s)
+  pub complete : answersIn s ≡ answers (machineIn s) (machineIn s .start) (sequenceIn s)
+  pub long : size ≡ length (sequenceIn s)
+  pub ends : end ≡ stateAt (machineIn s) (sequenceIn s) (length (sequenceIn s))
 
 result-passes : (room : ℕ) (s : List ℕ) {size end : ℕ} → Result room s (Pass size end) → Passes room s size end
 result-passes room s (judged e c (passed y n t)) =
@@ -193,38 +193,38 @@ module _ (room : ℕ) (s : List ℕ) (e : firstCause (judgeCauses room s) ≡ Cl
   pub judged-proper : Proper (machineIn s)
   judged-proper = load-proper (sequenceNeeds true) s loaded
 
-  pub judged-commands : Commands mostSequence (machineIn s .k) (content 3 s)
+  pub judged-commands : Commands mostSequence (machineIn s .k) (sequenceIn s)
   judged-commands = sequence-commands true room s (marking-clear room s e)
 
-  word-separates : Separates (machineIn s) (content 2 s)
+  word-separates : Separates (machineIn s) (wordIn s)
   word-separates = word-distinguishes (sequenceNeeds true) s refl loaded .separates
 
 pub pass-identity : (room : ℕ) (s : List ℕ) {a : Answer} → a ≡ judgement room s → Identity s a
 pass-identity room s ae U size end pass own =
     let h = pass-passes room s (sym ae ∙ pass) in
     rw (h .ends)
-    (identity (machineIn s) (content 2 s) (content 3 s) (judged-proper room s (h .clear))
+    (identity (machineIn s) (wordIn s) (sequenceIn s) (judged-proper room s (h .clear))
     (judged-commands room s (h .clear)) (word-separates room s (h .clear))
     (h .certified) U (sym (h .complete) ∙ own))
 
 -- after a pass, whatever further commands of the sheet go in, the unit answers each as the machine
 -- does from the end state on
 pub pass-after : (room : ℕ) (s : List ℕ) (U : Unit (machineIn s .n) (machineIn s .k)) (size end : ℕ)
-    → judgement room s ≡ Pass size end → content 4 s ≡ ownAnswers (machineIn s .n) (machineIn s .k) U (content 3 s)
+    → judgement room s ≡ Pass size end → answersIn s ≡ ownAnswers (machineIn s .n) (machineIn s .k) U (sequenceIn s)
     → (ys : List ℕ) → Below (machineIn s .k) ys
     → answers (tableOf (machineIn s .n) (machineIn s .k) U)
-    (presentState (machineIn s .n) (machineIn s .k) U (content 3 s)) ys
+    (presentState (machineIn s .n) (machineIn s .k) U (sequenceIn s)) ys
     ≡ answers (machineIn s) end ys
 pass-after room s U size end pass own ys below =
     let clear = pass-passes room s pass .clear in
-    end-alike (machineIn s) (judged-proper room s clear) U (content 3 s) end
+    end-alike (machineIn s) (judged-proper room s clear) U (sequenceIn s) end
     (pass-identity room s (sym pass) U size end refl own)
     (judged-commands room s clear) ys below
 
 -- the claim is not empty: where judging passes, the answers are those of the specified machine itself, begun in its
 -- start
 pub pass-own : (room : ℕ) (s : List ℕ) {size end : ℕ} → judgement room s ≡ Pass size end → (h : Proper (machineIn s))
-    → content 4 s
+    → answersIn s
     ≡ ownAnswers (machineIn s .n) (machineIn s .k) (begunIn (machineIn s) h (machineIn s .start) (h .starts))
-    (content 3 s)
+    (sequenceIn s)
 pass-own room s e h = pass-passes room s e .complete

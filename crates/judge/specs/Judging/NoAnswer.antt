@@ -9,7 +9,7 @@ use native.Mathlib.Omega.{arith}
 use lib.ListN.{length, getD}
 use Rattle.sheet.specs.declared.check.Check.the-variants.{Clear}
 use Rattle.sheet.specs.Check.{firstCause}
-use Rattle.sheet.specs.Reader.{content}
+use Rattle.sheet.specs.Reader.{wordIn, sequenceIn, answersIn}
 use Rattle.machine.specs.Machine.{noAnswer, answers, AlwaysAnswers}
 use Rattle.machine.specs.Machine.Laws.{answers-always}
 use Rattle.machine.specs.Causes.{machineIn}
@@ -30,16 +30,16 @@ module _ (room : ℕ) (s : List ℕ) (e : firstCause (judgeCauses room s) ≡ Cl
   judged-answers = load-answers (sequenceNeeds true) s (load-clear true room s (marking-clear room s e))
 
   -- so no specified answer is the byte for none
-  pub specified-always : (i : ℕ) → i < length (content 3 s)
-      → getD (answers (machineIn s) (machineIn s .start) (content 3 s)) i 0 ≡ noAnswer → ⊥
+  pub specified-always : (i : ℕ) → i < length (sequenceIn s)
+      → getD (answers (machineIn s) (machineIn s .start) (sequenceIn s)) i 0 ≡ noAnswer → ⊥
   specified-always =
       let proper = judged-proper room s e in
-      answers-always (machineIn s) proper judged-answers (machineIn s .start) (content 3 s) (proper .starts)
+      answers-always (machineIn s) proper judged-answers (machineIn s .start) (sequenceIn s) (proper .starts)
       (judged-commands room s e .low)
 
 -- ---- pass: the byte is not among the answers
 pub pass-heard : (room : ℕ) (s : List ℕ) {size end : ℕ} → judgement room s ≡ Pass size end → (i : ℕ)
-    → i < length (content 4 s) → getD (content 4 s) i 0 ≡ noAnswer → ⊥
+    → i < length (answersIn s) → getD (answersIn s) i 0 ≡ noAnswer → ⊥
 pass-heard room s p i l q =
     let h = pass-passes room s p in
     specified-always room s (h .clear) i (omega (arith, few-answers room s (h .clear)))
@@ -59,10 +59,10 @@ module _ (room : ℕ) (s : List ℕ) {place specified given : ℕ} where
 -- what it shows: the answers before the place are right, and the byte stands there
 pub record FirstUnheard (room : ℕ) (s : List ℕ) (place : ℕ) : Type 0 where
   pub clear : firstCause (judgeCauses room s) ≡ Clear
-  pub certified : Certified (machineIn s) (content 2 s) (content 3 s)
-  pub given : place < length (content 4 s)
-  pub before : Right (machineIn s) (content 3 s) (content 4 s) place
-  pub here : getD (content 4 s) place 0 ≡ noAnswer
+  pub certified : Certified (machineIn s) (wordIn s) (sequenceIn s)
+  pub given : place < length (answersIn s)
+  pub before : Right (machineIn s) (sequenceIn s) (answersIn s) place
+  pub here : getD (answersIn s) place 0 ≡ noAnswer
 
 module _ (room : ℕ) (s : List ℕ) (place : ℕ) where
   result-unheard : Result room s (Unheard place) → FirstUnheard room s place

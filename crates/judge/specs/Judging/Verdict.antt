@@ -1,15 +1,17 @@
 -- The laws of the verdict: what each result says of the answers, both directions.
 use Prim.Native.Nat.{ℕ, _≤_, _<_}
 use mathlib.Core.Path.{_≡_, refl, sym, ap, ap₂, _∙_}
-use mathlib.Core.Bool.{Bool, true, false, cond}
+use mathlib.Core.Bool.{cond}
+use mathlib.Core.Logic.{inl, inr}
 use mathlib.Core.List.{List}
 use native.Mathlib.Omega.{arith}
-use lib.Dec.{ltb, eqb}
+use lib.Dec.{ltb}
 use lib.ListN.{length, getD}
 use lib.Seq.{ext-getD}
-use borrow.Author.Tests.{ltb-true, ltb-false, lt-ltb, le-ltb, eqb-true, eqb-false, eq-eqb, ne-eqb}
+use borrow.Author.Tests.{lt-ltb, le-ltb, eq-eqb, ne-eqb}
 use Rattle.facts.specs.Tests.{if-true, if-false}
-use Rattle.facts.specs.CommonPrefix.{agreed, Agreed, agreed-holds, agreed-is}
+use Rattle.facts.specs.Numbers.{equal-or-not, less-or-not}
+use Rattle.facts.specs.CommonPrefix.{Agreed, agreed-holds, agreed-is}
 use Rattle.machine.specs.Machine.{Mealy, noAnswer, answers, stateAt}
 use Rattle.machine.specs.Machine.Laws.{answers-length}
 use Rattle.judge.specs.declared.answer.Answer.{Answer}
@@ -111,34 +113,25 @@ module _ (M : Mealy) (xs ys : List ℕ) (few : length ys ≤ length xs) where
       sym (verdict-at h ∙ at-unfinished (omega arith) l)
 
   -- ---- and from the verdict to what holds
-  judged-difference : {p : ℕ} → Agreed specified ys p → p < length ys → (t : Bool) → eqb (getD ys p 0) noAnswer ≡ t
+  judged-difference : {p : ℕ} → Agreed specified ys p → p < length ys
       → Judged M xs ys (difference p (getD specified p 0) (getD ys p 0))
-  judged-difference {p} h l true e =
-      let no = eqb-true (getD ys p 0) noAnswer e in
-      rw (difference-unheard p (getD specified p 0) (getD ys p 0) no)
-      (unheard l (h .before) (λ q. h .here (omega (arith, many)) l (q ∙ sym no)) no)
-  judged-difference {p} h l false e =
-      let some = eqb-false (getD ys p 0) noAnswer e in
-      rw (difference-wrong p (getD specified p 0) (getD ys p 0) some)
-      (wrong l (h .before) (h .here (omega (arith, many)) l) some refl refl)
+  judged-difference {p} h l = elim (equal-or-not (getD ys p 0) noAnswer) [
+    | inl e ↦ rw (difference-unheard p (getD specified p 0) (getD ys p 0) e)
+        (unheard l (h .before) (λ q. h .here (omega (arith, many)) l (q ∙ sym e)) e)
+    | inr some ↦ rw (difference-wrong p (getD specified p 0) (getD ys p 0) some)
+        (wrong l (h .before) (h .here (omega (arith, many)) l) some refl refl)
+  ]
 
-  judged-by : {p : ℕ} → Agreed specified ys p → (t u : Bool) → ltb p (length ys) ≡ t → ltb p (length xs) ≡ u
-      → Judged M xs ys (resultAt M xs ys p)
-  judged-by {p} h true u e k =
-      let l = ltb-true p (length ys) e in
-      rw (at-difference l) (judged-difference h l (eqb (getD ys p 0) noAnswer) refl)
-  judged-by {p} h false true e k =
-      rw (at-unfinished (ltb-false p _ e) (ltb-true p _ k))
-      (unfinished {number = p} (omega (arith, ltb-false p _ e, h .in-second)) (ltb-true p _ k) (h .before))
-  judged-by {p} h false false e k =
-      let l = ltb-false p _ e in
-      let m = ltb-false p _ k in
-      rw (at-passed l m)
-      (passed (sym (ext-getD 0 specified ys (omega (arith, many, h .in-second))
-      (λ i il. h .before i (omega (arith, many))))) refl refl)
+  judged-by : {p : ℕ} → Agreed specified ys p → Judged M xs ys (resultAt M xs ys p)
+  judged-by {p} h = elim (less-or-not p (length ys)) [
+    | inl l ↦ rw (at-difference l) (judged-difference h l)
+    | inr l ↦ elim (less-or-not p (length xs)) [
+      | inl k ↦ rw (at-unfinished l k) (unfinished {number = p} (omega (arith, h .in-second)) k (h .before))
+      | inr k ↦ rw (at-passed l k)
+          (passed (sym (ext-getD 0 specified ys (omega (arith, many, h .in-second))
+          (λ i il. h .before i (omega (arith, many))))) refl refl)
+    ]
+  ]
 
   pub verdict-judged : Judged M xs ys (verdict M xs ys)
-  verdict-judged =
-      let h = agreed-holds specified ys in
-      rw (verdict-at h)
-      (judged-by h (ltb (agreed specified ys) (length ys)) (ltb (agreed specified ys) (length xs)) refl refl)
+  verdict-judged = let h = agreed-holds specified ys in rw (verdict-at h) (judged-by h)

@@ -1,34 +1,36 @@
 -- The laws of causes 3, 4, 12, 5 and 7: each as the code looks for it, and what it shows where it is clear.
 use Prim.Native.Nat.{ℕ, _+_, _*_, _<_, _≤_}
 use mathlib.Core.Path.{_≡_, refl, sym, ap, ap₂, _∙_, fun-ext}
-use mathlib.Core.Bool.{Bool, true, false, not, _||_}
-use mathlib.Core.List.{List}
+use mathlib.Core.Bool.{Bool, false, not, _||_}
+use mathlib.Core.Logic.{inl, inr}
+use mathlib.Core.List.{List, [], _∷_}
 use native.Mathlib.Nat.{zero-add, one-mul}
 use native.Mathlib.Omega.{arith}
-use borrow.Author.Tests.{ltb-false, leb-true, leb-false, eqb-true, eqb-false, not-false, le-ltb, lt-leb, eq-eqb, ne-eqb}
+use borrow.Author.Tests.{ltb-false, leb-false, eqb-true, eqb-false, not-false, le-ltb, lt-leb, le-leb, eq-eqb, ne-eqb}
 use lib.Arith.{digits-lt}
 use lib.Dec.{leb, ltb, eqb}
 use lib.ListN.{length, getD}
 use Rattle.facts.specs.Tests.{neither}
+use Rattle.facts.specs.Numbers.{less-or-not}
 use Rattle.sheet.specs.declared.check.Check.{Check}
 use Rattle.sheet.specs.declared.check.Check.the-variants.{Clear}
 use Rattle.sheet.specs.declared.record.Record.{Record}
-use Rattle.sheet.specs.Check.{refusal_with_if_, _else_, first}
+use Rattle.sheet.specs.Check.{refusal_with_if_, _else_, first, firstCause}
 use Rattle.sheet.specs.Check.Laws.{absent, clear-absent, else-clear, both-clear, first-clear, first-clear-at}
-use Rattle.sheet.specs.Check.Laws.{first-same}
-use Rattle.sheet.specs.Format.{header, offset}
+use Rattle.sheet.specs.Check.Laws.{first-same, cause-cons, cause-two}
+use Rattle.sheet.specs.Format.{Format, header, offset}
 use Rattle.sheet.specs.Format.Laws.{offset-is}
-use Rattle.sheet.specs.Reader.Bounds.{Bytes}
+use Rattle.facts.specs.Bytes.{Bytes}
 use Rattle.machine.specs.Limits.{mostStates, mostCommands, mostEntries, entries-few}
 use Rattle.machine.specs.Machine.{noAnswer, pairAt, Commands}
-use Rattle.machine.specs.Causes.{outside, cause3, cause4, cause12, byteCause, commandsCause}
+use Rattle.machine.specs.Causes.{outside, cause3, cause4, cause12, byteCause, commandsCause, tableCauses}
 
 -- cause 3, of the bytes and tests as the code has them
-pub cause3-is : (r : Record) (p : List ℕ) {n k : ℕ} → n ≡ getD p 0 0 → k ≡ getD p 1 0 → {a b : Bool}
+pub cause3-is : (F : Format) (r : Record) (p : List ℕ) {n k : ℕ} → n ≡ getD p 0 0 → k ≡ getD p 1 0 → {a b : Bool}
     → a ≡ outside 1 mostStates n → b ≡ outside 1 mostCommands k
-    → (refusal 3 with r .start if (a || b || not (eqb (length p) (2 + 2 * (n * k))))) ≡ cause3 r p
+    → (refusal 3 with r .start if (a || b || not (eqb (length p) (F .table + 2 * (n * k))))) ≡ cause3 F r p
 unfolding cause3
-cause3-is r p {n} {k} ne ke {a} {b} ae be = rw (ae, be, ne, ke)
+cause3-is F r p {n} {k} ne ke {a} {b} ae be = rw (ae, be, ne, ke)
 
 -- the check that a scan makes at a byte
 pub byte-check-is : (number base : ℕ) (p : List ℕ) (from stride bound i : ℕ) {b : ℕ} {c : Check}
@@ -38,32 +40,31 @@ unfolding byteCause
 byte-check-is number base p from stride bound i be ce =
     ce ∙ ap (λ (x : ℕ). refusal number with base + (from + stride * i) if leb bound x) be
 
--- cause 4 looks at every second byte from 2 on
-pub cause4-is : (r : Record) (p : List ℕ)
-    → first (getD p 0 0 * getD p 1 0) (byteCause 4 (r .start + header) p 2 2 (getD p 0 0)) ≡ cause4 r p
+-- cause 4 looks at every second byte from the table on
+pub cause4-is : (F : Format) (r : Record) (p : List ℕ)
+    → first (getD p 0 0 * getD p 1 0) (byteCause 4 (r .start + header) p (F .table) 2 (getD p 0 0)) ≡ cause4 F r p
 unfolding cause4 byteCause
-cause4-is r p =
+cause4-is F r p =
     let n = getD p 0 0 in
     ap (first (n * getD p 1 0))
-    (fun-ext (λ e. ap (λ (x : ℕ). refusal 4 with x if leb n (getD p (pairAt e) 0)) (sym (offset-is r (pairAt e)))))
+    (fun-ext (λ e. ap (λ (x : ℕ). refusal 4 with x if leb n (getD p (pairAt F e) 0)) (sym (offset-is r (pairAt F e)))))
 
 -- a byte that is not below the highest one is that one
 highest-is : (b : ℕ) → b < 256 → leb noAnswer b ≡ eqb b noAnswer
-highest-is b l = go (leb noAnswer b) refl
-  where
-    go : (t : Bool) → leb noAnswer b ≡ t → leb noAnswer b ≡ eqb b noAnswer
-    go true e = let h = leb-true noAnswer b e in e ∙ sym (eq-eqb b noAnswer (omega arith))
-    go false e = let h = leb-false noAnswer b e in e ∙ sym (ne-eqb b noAnswer (λ q. omega arith))
+highest-is b l = elim (less-or-not b noAnswer) [
+  | inl h ↦ lt-leb noAnswer b h ∙ sym (ne-eqb b noAnswer (λ q. omega arith))
+  | inr h ↦ le-leb noAnswer b h ∙ sym (eq-eqb b noAnswer (omega arith))
+]
 
--- cause 12, of a payload of bytes, looks at every second byte from 3 on
-pub cause12-is : (r : Record) (p : List ℕ) → Bytes p
-    → first (getD p 0 0 * getD p 1 0) (byteCause 12 (r .start + header) p 3 2 noAnswer) ≡ cause12 r p
+-- cause 12, of a payload of bytes, looks at every second byte from the first answer on
+pub cause12-is : (F : Format) (r : Record) (p : List ℕ) → Bytes p
+    → first (getD p 0 0 * getD p 1 0) (byteCause 12 (r .start + header) p (F .table + 1) 2 noAnswer) ≡ cause12 F r p
 unfolding cause12 byteCause
-cause12-is r p bytes =
+cause12-is F r p bytes =
     first-same (getD p 0 0 * getD p 1 0) _ _
     (λ e l.
-    let at : 3 + 2 * e ≡ pairAt e + 1 = omega arith in
-    rw (at, offset-is r (pairAt e + 1), highest-is (getD p (pairAt e + 1) 0) (bytes (pairAt e + 1))) refl)
+    let at : F .table + 1 + 2 * e ≡ pairAt F e + 1 = omega arith in
+    rw (at, offset-is r (pairAt F e + 1), highest-is (getD p (pairAt F e + 1) 0) (bytes (pairAt F e + 1))) refl)
 
 -- causes 5 and 7 look at every byte
 pub commands-cause-is : (number most k : ℕ) (r : Record) (w : List ℕ)
@@ -82,19 +83,19 @@ not-outside least most x e =
     (ltb-false _ _ (h .0), ltb-false _ _ (h .1))
 
 -- the shape of a machine's payload
-pub record Shape (p : List ℕ) : Type 0 where
+pub record Shape (F : Format) (p : List ℕ) : Type 0 where
   pub some-states : 1 ≤ getD p 0 0
   pub few-states : getD p 0 0 ≤ mostStates
   pub some-commands : 1 ≤ getD p 1 0
   pub few-commands : getD p 1 0 ≤ mostCommands
-  pub long : length p ≡ 2 + 2 * (getD p 0 0 * getD p 1 0)
+  pub long : length p ≡ F .table + 2 * (getD p 0 0 * getD p 1 0)
 
-pub clear-shape : (r : Record) (p : List ℕ) → cause3 r p ≡ Clear → Shape p
+pub clear-shape : (F : Format) (r : Record) (p : List ℕ) → cause3 F r p ≡ Clear → Shape F p
 unfolding cause3
-clear-shape r p e =
+clear-shape F r p e =
     let n = getD p 0 0 in
     let k = getD p 1 0 in
-    let sized = not (eqb (length p) (2 + 2 * (n * k))) in
+    let sized = not (eqb (length p) (F .table + 2 * (n * k))) in
     let all = neither (outside 1 mostStates n || outside 1 mostCommands k) sized (clear-absent 3 (r .start) _ e) in
     let two = neither (outside 1 mostStates n) (outside 1 mostCommands k) (all .0) in
     record {
@@ -106,8 +107,8 @@ clear-shape r p e =
     }
 
 -- a machine with few states and commands has few entries
-pub shape-entries : (p : List ℕ) → Shape p → getD p 0 0 * getD p 1 0 ≤ mostEntries
-shape-entries p h = entries-few (getD p 0 0) (getD p 1 0) (h .few-states) (h .few-commands)
+pub shape-entries : (F : Format) (p : List ℕ) → Shape F p → getD p 0 0 * getD p 1 0 ≤ mostEntries
+shape-entries F p h = entries-few (getD p 0 0) (getD p 1 0) (h .few-states) (h .few-commands)
 
 -- a cause that the pairs of a table are looked through for: where it is clear, its test fails at every entry
 entry-absent : (n k number : ℕ) (place : ℕ → ℕ) (test : ℕ → Bool)
@@ -117,20 +118,53 @@ entry-absent n k number place test e s c sl cl =
     clear-absent number (place (s * k + c)) _
     (first-clear-at (n * k) (s * k + c) _ e (digits-lt {q = s} {m = n} {r = c} {c = k} sl cl))
 
-pub clear-next : (r : Record) (p : List ℕ) → cause4 r p ≡ Clear → (s c : ℕ) → s < getD p 0 0 → c < getD p 1 0
-    → getD p (pairAt (s * getD p 1 0 + c)) 0 < getD p 0 0
+-- the causes of a table, written out
+pub table-causes-are : (F : Format) (r : Record) (p : List ℕ)
+    → firstCause (tableCauses F r p) ≡ (cause3 F r p else (cause4 F r p else cause12 F r p))
+unfolding tableCauses
+table-causes-are F r p =
+    cause-cons (cause3 F r p) (cause4 F r p ∷ cause12 F r p ∷ [])
+    ∙ ap (λ (c : Check). cause3 F r p else c) (cause-two (cause4 F r p) (cause12 F r p))
+
+-- a row of causes that is clear is clear with any other places
+first-anywhere : (n number : ℕ) (place other : ℕ → ℕ) (test : ℕ → Bool)
+    → first n (λ e. refusal number with place e if test e) ≡ Clear
+    → first n (λ e. refusal number with other e if test e) ≡ Clear
+first-anywhere n number place other test e =
+    first-clear n _ (λ i l. absent number (other i) (clear-absent number (place i) (test i) (first-clear-at n i _ e l)))
+
+-- whether a table has a cause does not depend on where it stands
+pub table-anywhere : (F : Format) (r q : Record) (p : List ℕ) → firstCause (tableCauses F r p) ≡ Clear
+    → firstCause (tableCauses F q p) ≡ Clear
+unfolding cause3 cause4 cause12
+table-anywhere F r q p e =
+    let entries = getD p 0 0 * getD p 1 0 in
+    let three = both-clear _ _ (sym (table-causes-are F r p) ∙ e) in
+    let four = both-clear _ _ (three .1) in
+    table-causes-are F q p
+    ∙ ap₂ _else_ (absent 3 (q .start) (clear-absent 3 (r .start) _ (three .0)))
+    (ap₂ _else_
+    (first-anywhere entries 4 (λ e. offset r (pairAt F e)) (λ e. offset q (pairAt F e)) _ (four .0))
+    (first-anywhere entries 12 (λ e. offset r (pairAt F e + 1)) (λ e. offset q (pairAt F e + 1)) _ (four .1))
+    ∙ else-clear Clear)
+    ∙ else-clear Clear
+
+pub clear-next : (F : Format) (r : Record) (p : List ℕ) → cause4 F r p ≡ Clear → (s c : ℕ) → s < getD p 0 0
+    → c < getD p 1 0
+    → getD p (pairAt F (s * getD p 1 0 + c)) 0 < getD p 0 0
 unfolding cause4
-clear-next r p e s c sl cl =
-    leb-false _ _ (entry-absent (getD p 0 0) (getD p 1 0) 4 (λ i. offset r (pairAt i))
-    (λ i. leb (getD p 0 0) (getD p (pairAt i) 0)) e s c sl cl)
+clear-next F r p e s c sl cl =
+    leb-false _ _ (entry-absent (getD p 0 0) (getD p 1 0) 4 (λ i. offset r (pairAt F i))
+    (λ i. leb (getD p 0 0) (getD p (pairAt F i) 0)) e s c sl cl)
 
 -- no answer of the table is the byte for no answer
-pub clear-answers : (r : Record) (p : List ℕ) → cause12 r p ≡ Clear → (s c : ℕ) → s < getD p 0 0 → c < getD p 1 0
-    → getD p (pairAt (s * getD p 1 0 + c) + 1) 0 ≡ noAnswer → ⊥
+pub clear-answers : (F : Format) (r : Record) (p : List ℕ) → cause12 F r p ≡ Clear → (s c : ℕ) → s < getD p 0 0
+    → c < getD p 1 0
+    → getD p (pairAt F (s * getD p 1 0 + c) + 1) 0 ≡ noAnswer → ⊥
 unfolding cause12
-clear-answers r p e s c sl cl =
-    eqb-false _ _ (entry-absent (getD p 0 0) (getD p 1 0) 12 (λ i. offset r (pairAt i + 1))
-    (λ i. eqb (getD p (pairAt i + 1) 0) noAnswer) e s c sl cl)
+clear-answers F r p e s c sl cl =
+    eqb-false _ _ (entry-absent (getD p 0 0) (getD p 1 0) 12 (λ i. offset r (pairAt F i + 1))
+    (λ i. eqb (getD p (pairAt F i + 1) 0) noAnswer) e s c sl cl)
 
 -- the commands of a word or a sequence
 pub clear-commands : (number most k : ℕ) (r : Record) (w : List ℕ) → commandsCause number most k r w ≡ Clear
@@ -138,9 +172,7 @@ pub clear-commands : (number most k : ℕ) (r : Record) (w : List ℕ) → comma
 unfolding commandsCause
 clear-commands number most k r w e =
     let long = outside 1 most (length w) in
-    let both =
-    both-clear (refusal number with r .start if long)
-    (first (length w) (λ i. refusal number with offset r i if leb k (getD w i 0))) e in
+    let both = both-clear (refusal number with r .start if long) _ e in
     let l = not-outside 1 most (length w) (clear-absent number (r .start) long (both .0)) in
     record {
       some = l .0;

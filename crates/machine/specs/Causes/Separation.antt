@@ -1,12 +1,13 @@
 -- The laws of cause 6: it is clear exactly where the word separates the states.
-use Prim.Native.Nat.{ℕ, _+_, _*_, _<_, _≤_}
+use Prim.Native.Nat.{ℕ, _+_, _*_, _<_}
 use mathlib.Core.Path.{_≡_, refl, sym, ap, ap₂, _∙_, fun-ext}
 use mathlib.Core.Bool.{Bool, true, false, true≢false, _&&_}
+use mathlib.Core.Logic.{inl, inr}
 use mathlib.Core.List.{List}
 use native.Mathlib.Omega.{arith}
 use lib.Dec.{ltb}
-use borrow.Author.Tests.{lt-ltb, le-ltb, ltb-true, ltb-false}
-use Rattle.facts.specs.Tests.{both-true}
+use borrow.Author.Tests.{lt-ltb, le-ltb, ltb-true}
+use Rattle.facts.specs.Tests.{true-or-false, both-true}
 use Rattle.facts.specs.Lists.{same, same-refl, same-equal}
 use Rattle.sheet.specs.declared.check.Check.the-variants.{Clear, Refused}
 use Rattle.sheet.specs.Check.{refusal_with_if_, first}
@@ -73,24 +74,20 @@ never-below M w e i j il jl q l =
     true≢false (sym t ∙ pair-clear M w e i j il jl)
 
 pub clear-separates : (M : Mealy) (w : List ℕ) → cause6 M w ≡ Clear → Separates M w
-clear-separates M w e i j il jl q = go (ltb i j) refl (ltb j i) refl
-  where
-    go : (a : Bool) → ltb i j ≡ a → (b : Bool) → ltb j i ≡ b → i ≡ j
-    go true t b u = absurd (never-below M w e i j il jl q (ltb-true i j t))
-    go false t true u = absurd (never-below M w e j i jl il (sym q) (ltb-true j i u))
-    go false t false u = let a : j ≤ i = ltb-false i j t in let b : i ≤ j = ltb-false j i u in omega arith
+clear-separates M w e i j il jl q =
+    let a = never-below M w e i j il jl q in
+    let b = never-below M w e j i jl il (sym q) in
+    omega arith
 
 pub separates-clear : (M : Mealy) (w : List ℕ) → Separates M w → cause6 M w ≡ Clear
 separates-clear M w h =
     sym (cause6-is M w)
     ∙ first-clear (M .n) _
-    (λ i il. first-clear (M .n) (pairCause M w i) (λ j jl. absent 6 (16 * i + j) (go i j il jl _ refl)))
+    (λ i il. first-clear (M .n) (pairCause M w i) (λ j jl. absent 6 (16 * i + j) (apart i j il jl)))
   where
-    go : (i j : ℕ) → i < M .n → j < M .n → (b : Bool) → (ltb i j && same (answers M i w) (answers M j w)) ≡ b
-        → (ltb i j && same (answers M i w) (answers M j w)) ≡ false
-    go i j il jl false e = e
-    go i j il jl true e =
-        let t = both-true (ltb i j) (same (answers M i w) (answers M j w)) e in
-        let q : i ≡ j = h i j il jl (same-equal (answers M i w) (answers M j w) (t .1)) in
-        let l : i < j = ltb-true i j (t .0) in
-        absurd (omega arith)
+    apart : (i j : ℕ) → i < M .n → j < M .n → (ltb i j && same (answers M i w) (answers M j w)) ≡ false
+    apart i j il jl = elim (true-or-false (ltb i j && same (answers M i w) (answers M j w))) [
+      | inl e ↦ (let t = both-true (ltb i j) _ e in
+          absurd (omega (arith, h i j il jl (same-equal _ _ (t .1)), ltb-true i j (t .0))))
+      | inr e ↦ e
+    ]

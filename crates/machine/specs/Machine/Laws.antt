@@ -3,11 +3,10 @@ use Prim.Native.Nat.{ℕ, zero, suc, _+_, _*_, _≤_, _<_}
 use mathlib.Core.Path.{_≡_, refl, sym, ap, ap₂, _∙_}
 use mathlib.Core.List.{List, [], _∷_, _++_}
 use native.Mathlib.Omega.{arith}
-use native.Mathlib.Numerals.{add-one}
 use lib.Arith.{digits-lt}
 use lib.ListN.{length, getD, take, drop}
-use lib.Seq.{take-append-seam, take-suc, take-add, take-all, drop-cons}
-use Rattle.facts.specs.Lists.{Below, below-head, below-tail, low-take}
+use lib.Seq.{take-append-seam, take-add, take-all}
+use Rattle.facts.specs.Lists.{Below, below-head, below-tail, low-take, take-more, rest-cons}
 use Rattle.machine.specs.declared.machine.Machine.{Machine}
 use Rattle.machine.specs.Limits.{mostEntries, entries-few}
 use Rattle.machine.specs.Machine.{Mealy, noAnswer, tabled, meaning, run, answers, stateAt, Proper, AlwaysAnswers}
@@ -79,9 +78,6 @@ unfolding answers
 answers-cons M s c w = refl
 
 -- the same from a place of a word on
-rest-cons : (w : List ℕ) (p : ℕ) → p < length w → drop p w ≡ getD w p 0 ∷ drop (p + 1) w
-rest-cons w p l = drop-cons w p 0 l ∙ ap (λ (x : ℕ). getD w p 0 ∷ drop x w) (sym (add-one p))
-
 pub answers-rest : (M : Mealy) (s : ℕ) (w : List ℕ) (p : ℕ) → p < length w
     → answers M s (drop p w) ≡ M .answer s (getD w p 0) ∷ answers M (M .next s (getD w p 0)) (drop (p + 1) w)
 answers-rest M s w p l = ap (answers M s) (rest-cons w p l) ∙ answers-cons M s (getD w p 0) (drop (p + 1) w)
@@ -162,9 +158,7 @@ pub state-next : (M : Mealy) (xs : List ℕ) (p : ℕ) → p < length xs
     → stateAt M xs (p + 1) ≡ M .next (stateAt M xs p) (getD xs p 0)
 unfolding stateAt run
 state-next M xs p l =
-    ap (λ (x : ℕ). run M (M .start) (take x xs)) (add-one p)
-    ∙ ap (run M (M .start)) (take-suc xs p 0 l)
-    ∙ run-append M (M .start) (take p xs) (getD xs p 0 ∷ [])
+    ap (run M (M .start)) (take-more xs p l) ∙ run-append M (M .start) (take p xs) (getD xs p 0 ∷ [])
 
 -- the state behind the first part of a sequence is where that part leads
 pub state-split : (M : Mealy) (u v : List ℕ) → stateAt M (u ++ v) (length u) ≡ run M (M .start) u
@@ -189,25 +183,22 @@ states-agree M xs p q m e same = state-along M xs p m ∙ ap₂ (run M) e same �
 
 -- ---- a run stays among the states
 module _ (M : Mealy) (closed : (s c : ℕ) → s < M .n → c < M .k → M .next s c < M .n) where
-  run-closed : (s : ℕ) (w : List ℕ) → s < M .n → ((i : ℕ) → i < length w → getD w i 0 < M .k) → run M s w < M .n
+  run-closed : (s : ℕ) (w : List ℕ) → s < M .n → Below (M .k) w → run M s w < M .n
   unfolding run
   run-closed s [] sl low = sl
   run-closed s (c ∷ w) sl low =
-      run-closed (M .next s c) w (closed s c sl (low 0 (omega arith))) (λ i l. low (suc i) (omega arith))
+      run-closed (M .next s c) w (closed s c sl (below-head (M .k) c w low)) (below-tail (M .k) c w low)
 
   -- every place of a sequence has one of them
-  pub state-closed : M .start < M .n → (xs : List ℕ) → ((i : ℕ) → i < length xs → getD xs i 0 < M .k) → (p : ℕ)
-      → stateAt M xs p < M .n
+  pub state-closed : M .start < M .n → (xs : List ℕ) → Below (M .k) xs → (p : ℕ) → stateAt M xs p < M .n
   unfolding stateAt
   state-closed starts xs low p = run-closed (M .start) (take p xs) starts (low-take (M .k) p xs low)
 
 -- so of a machine within the limits
-pub run-stays : (M : Mealy) → Proper M → (s : ℕ) (w : List ℕ) → s < M .n → ((i : ℕ) → i < length w → getD w i 0 < M .k)
-    → run M s w < M .n
+pub run-stays : (M : Mealy) → Proper M → (s : ℕ) (w : List ℕ) → s < M .n → Below (M .k) w → run M s w < M .n
 run-stays M h = run-closed M (h .stays)
 
-pub state-stays : (M : Mealy) → Proper M → (xs : List ℕ) → ((i : ℕ) → i < length xs → getD xs i 0 < M .k) → (p : ℕ)
-    → stateAt M xs p < M .n
+pub state-stays : (M : Mealy) → Proper M → (xs : List ℕ) → Below (M .k) xs → (p : ℕ) → stateAt M xs p < M .n
 state-stays M h = state-closed M (h .stays) (h .starts)
 
 -- where every entry specifies an answer, no state answers a command with the byte for no answer
@@ -217,8 +208,8 @@ unfolding answers
 answers-always M h always s [] sl low i l = absurd (omega arith)
 answers-always M h always s (c ∷ w) sl low zero l = always s c sl (low 0 l)
 answers-always M h always s (c ∷ w) sl low (suc i) l =
-    answers-always M h always (M .next s c) w (h .stays s c sl (below-head (M .k) c w low)) (below-tail (M .k) c w low) i
-    (omega arith)
+    answers-always M h always (M .next s c) w (h .stays s c sl (below-head (M .k) c w low)) (below-tail (M .k) c w low)
+    i (omega arith)
 
 -- it has few entries, and entry (s, c) stands among them
 pub proper-entries : (M : Mealy) → Proper M → M .n * M .k ≤ mostEntries

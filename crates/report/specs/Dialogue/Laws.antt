@@ -5,7 +5,7 @@ use mathlib.Core.List.{List}
 use lib.ListN.{getD}
 use Rattle.sheet.specs.declared.check.Check.the-variants.{Clear, Refused}
 use Rattle.sheet.specs.Check.{firstCause}
-use Rattle.sheet.specs.Reader.{content}
+use Rattle.sheet.specs.Reader.{wordIn}
 use Rattle.build.specs.Building.{connectedCauses}
 use Rattle.desk.specs.Service.Dialogue.{starting-first, starting-refused}
 use Rattle.report.specs.Lines.{commandLine, refusalLine, firstLine}
@@ -14,7 +14,7 @@ use Rattle.report.specs.Dialogue.{begun}
 
 module _ (s : List ℕ) where
   pub begun-clear : firstCause (connectedCauses s) ≡ Clear
-      → begun s ≡ onOutput (commandLine (getD (content 2 s) 0 0))
+      → begun s ≡ onOutput (commandLine (getD (wordIn s) 0 0))
   unfolding begun
   begun-clear e = ap (λ a. onOutput (firstLine a)) (starting-first s e)
 

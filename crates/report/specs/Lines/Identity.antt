@@ -6,7 +6,7 @@ use mathlib.Core.List.{List}
 use native.Mathlib.Omega.{arith}
 use lib.ListN.{getD}
 use Rattle.facts.specs.Decimal.{bytes}
-use Rattle.sheet.specs.Reader.{content}
+use Rattle.sheet.specs.Reader.{sequenceIn, answersIn}
 use Rattle.machine.specs.Causes.{machineIn}
 use Rattle.judge.specs.declared.answer.Answer.{Answer}
 use Rattle.judge.specs.declared.answer.Answer.the-variants.{Pass, Wrong, Unheard, Unfinished, Refused}
@@ -36,9 +36,9 @@ passing-pass (Refused number place) e = let z : ⊥ = omega (arith, e) in absurd
 -- some end state, and there is a renaming, which assigns the unit's present state to that end state
 pub line-identity : (room : ℕ) (s : List ℕ) (U : Unit (machineIn s .n) (machineIn s .k))
     → Passing (judgeLine (judgement room s))
-    → content 4 s ≡ ownAnswers (machineIn s .n) (machineIn s .k) U (content 3 s)
+    → answersIn s ≡ ownAnswers (machineIn s .n) (machineIn s .k) U (sequenceIn s)
     → (size : ℕ) × (end : ℕ) × (judgeLine (judgement room s) ≡ passLine size end)
-    × Renaming (machineIn s) U (content 3 s) end
+    × Renaming (machineIn s) U (sequenceIn s) end
 line-identity room s U e own =
     let h = passing-pass (judgement room s) e in
     (h .0, h .1, ap judgeLine (h .2), pass-identity room s refl U (h .0) (h .1) (h .2) own)

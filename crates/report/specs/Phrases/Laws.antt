@@ -1,12 +1,11 @@
 -- The laws of the phrases: which numbers have none, and how long they are.
 use Prim.Native.Nat.{ℕ, _+_, _≤_, _<_}
 use mathlib.Core.Path.{_≡_, refl, sym, ap, _∙_}
-use mathlib.Core.Bool.{Bool, true, false}
+use mathlib.Core.Logic.{inl, inr}
 use mathlib.Core.List.{List, [], _∷_}
 use native.Mathlib.Omega.{arith}
-use borrow.Author.Tests.{ltb-true, ltb-false}
-use lib.Dec.{ltb}
 use lib.ListN.{List·getD-eq-default}
+use Rattle.facts.specs.Numbers.{less-or-not}
 use Rattle.report.specs.Phrases.{phrases, phrase}
 
 -- the phrase of a number that is known by an equation
@@ -28,14 +27,11 @@ down n m l d = omega (arith, d)
 -- no other number than 1 to 11 has one
 pub phrase-none : (n : ℕ) → (n ≡ 1 → ⊥) → (n ≡ 2 → ⊥) → (n ≡ 3 → ⊥) → (n ≡ 4 → ⊥) → (n ≡ 5 → ⊥) → (n ≡ 6 → ⊥)
     → (n ≡ 7 → ⊥) → (n ≡ 8 → ⊥) → (n ≡ 9 → ⊥) → (n ≡ 10 → ⊥) → (n ≡ 11 → ⊥) → phrase n ≡ []
-phrase-none n a b c d e f g h i j k = go (ltb 11 n) refl
-  where
-    go : (t : Bool) → ltb 11 n ≡ t → phrase n ≡ []
-    go true l = phrase-above n (ltb-true 11 n l)
-    go false l =
-        let z : n ≤ 0 =
-        down n 0 (down n 1 (down n 2 (down n 3
-        (down n 4 (down n 5
-        (down n 6 (down n 7 (down n 8 (down n 9 (down n 10 (ltb-false 11 n l) k) j) i) h) g) f) e) d) c) b) a in
-        let e : n ≡ 0 = omega arith in
-        ap phrase e ∙ phrase-zero
+phrase-none n a b c d e f g h i j k = elim (less-or-not 11 n) [
+  | inl l ↦ phrase-above n l
+  | inr l ↦ (let z : n ≤ 0 =
+      down n 0 (down n 1 (down n 2 (down n 3
+      (down n 4 (down n 5 (down n 6 (down n 7 (down n 8 (down n 9 (down n 10 l k) j) i) h) g) f) e) d) c) b) a in
+      let e : n ≡ 0 = omega arith in
+      ap phrase e ∙ phrase-zero)
+]

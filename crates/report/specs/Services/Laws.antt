@@ -1,7 +1,7 @@
 -- The laws of the services: what is written where nothing is refused, and where something is.
 use Prim.Native.Nat.{ℕ, _+_}
 use mathlib.Core.Path.{_≡_, refl, sym, ap, _∙_}
-use mathlib.Core.List.{List}
+use mathlib.Core.List.{List, [], _∷_}
 use mathlib.Core.Option.{some}
 use Rattle.sheet.specs.declared.check.Check.{Check}
 use Rattle.sheet.specs.declared.check.Check.the-variants.{Clear, Refused}
@@ -23,6 +23,7 @@ use Rattle.report.specs.Words.{mistakeLine}
 use Rattle.report.specs.Sheets.{builtSheet}
 use Rattle.report.specs.Output.{onOutput, onError, outputUnless, bytesUnless}
 use Rattle.report.specs.Services.{judged, built, foundOutput, searched, recordRead, mistaken}
+use Rattle.sheet.specs.Format.{standard}
 
 module _ (s : List ℕ) where
   pub judged-line : judged s ≡ onOutput (judgeLine (judgement (mostSequence + 1) s))
@@ -38,14 +39,15 @@ module _ (s : List ℕ) where
   unfolding built
   built-refused e = ap (λ (c : Check). bytesUnless c (builtSheet s)) (answer-refused mostSequence s e)
 
-  pub read-clear : (kind : ℕ) → refusalOf kind s ≡ Clear → recordRead kind s ≡ onOutput (content kind s)
+  pub read-clear : (kind : ℕ) → refusalOf standard (kind ∷ []) s ≡ Clear
+      → recordRead kind s ≡ onOutput (content standard (kind ∷ []) s)
   unfolding recordRead
-  read-clear kind e = ap (λ (c : Check). bytesUnless c (content kind s)) e
+  read-clear kind e = ap (λ (c : Check). bytesUnless c (content standard (kind ∷ []) s)) e
 
-  pub read-refused : (kind : ℕ) {number place : ℕ} → refusalOf kind s ≡ Refused number place
+  pub read-refused : (kind : ℕ) {number place : ℕ} → refusalOf standard (kind ∷ []) s ≡ Refused number place
       → recordRead kind s ≡ onError (refusalLine number place)
   unfolding recordRead
-  read-refused kind e = ap (λ (c : Check). bytesUnless c (content kind s)) e
+  read-refused kind e = ap (λ (c : Check). bytesUnless c (content standard (kind ∷ []) s)) e
 
   -- of the search: a refusal, a word, or none
   pub searched-refused : {number place : ℕ} → firstCause (searchCauses s) ≡ Refused number place

@@ -10,7 +10,7 @@ use Rattle.judge.specs.Judging.{valuesOf}
 use Rattle.judge.specs.Judging.Bounds.{judgement-fits}
 use Rattle.rig.specs.Result.{packed, RigIdentity}
 use Rattle.rig.specs.Result.Laws.{number-identity}
-use Rattle.sheet.specs.Reader.Bounds.{Bytes}
+use Rattle.facts.specs.Bytes.{Bytes}
 use Rattle.rig.proofs.rig_judge.Statement.{statement}
 use Rattle.rig.proofs.rig_judge.Tie as tie
 

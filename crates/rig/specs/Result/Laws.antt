@@ -5,8 +5,8 @@ use mathlib.Core.Path.{_≡_, refl, sym, _∙_, subst}
 use mathlib.Core.List.{List}
 use native.Mathlib.Omega.{arith}
 use Rattle.sheet.specs.Values.{Fits}
-use Rattle.sheet.specs.Reader.{content}
-use Rattle.sheet.specs.Reader.Bounds.{Bytes}
+use Rattle.sheet.specs.Reader.{sequenceIn}
+use Rattle.facts.specs.Bytes.{Bytes}
 use Rattle.machine.specs.Causes.{machineIn}
 use Rattle.sheet.specs.declared.check.Values.{Values}
 use Rattle.certify.specs.Certification.{certification, valuesOf as certifyingValues}
@@ -42,5 +42,5 @@ pub number-identity : (room : ℕ) (s : List ℕ) → Bytes s → RigIdentity s 
 number-identity room s bytes U hundred own =
     let f = judging-fields room s bytes in
     let pass = class-pass room s (sym (f .class) ∙ hundred) in
-    subst (λ (end : ℕ). Renaming (machineIn s) U (content 3 s) end) (sym (f .b))
+    subst (λ (end : ℕ). Renaming (machineIn s) U (sequenceIn s) end) (sym (f .b))
     (pass-identity room s refl U (pass .0) _ (pass .1) own)

@@ -3,7 +3,7 @@
 use Prim.Native.Nat.{ℕ, _<_}
 use mathlib.Core.Path.{_≡_, refl, sym, _∙_}
 use mathlib.Core.Bool.{Bool, true}
-use mathlib.Core.Logic.{⊎-elim}
+use mathlib.Core.Logic.{inl, inr}
 use mathlib.Core.List.{List, [], _∷_, map}
 use Rattle.sheet.specs.declared.check.Check.{Check}
 use Rattle.sheet.specs.declared.check.Check.the-variants.{Clear, Refused}
@@ -29,16 +29,14 @@ module _ (P : ℕ → ℕ → Type 0) where
 
   -- two checks in a row: the second counts only where the first is clear
   pub place-else : (c d : Check) → WhereRefused P c → (c ≡ Clear → WhereRefused P d) → WhereRefused P (c else d)
-  place-else c d h k n p e =
-      ⊎-elim (λ (q : c ≡ Refused n p). h n p q) (λ (q : (c ≡ Clear) × (d ≡ Refused n p)). k (q .0) n p (q .1))
-      (either-refused c d e)
+  place-else c d h k n p e = elim (either-refused c d e) [ inl q ↦ h n p q | inr q ↦ k (q .0) n p (q .1) ]
 
   -- a list of causes
   pub place-cons : (c : Check) (cs : List Check) → WhereRefused P c → (c ≡ Clear → WhereRefused P (firstCause cs))
       → WhereRefused P (firstCause (c ∷ cs))
   place-cons c cs h k = place-of (cause-cons c cs) (place-else c (firstCause cs) h k)
 
-  pub place-map : (f : ℕ → Check) (xs : List ℕ) → ((x : ℕ) → WhereRefused P (f x))
+  pub place-map : {A : Type 0} (f : A → Check) (xs : List A) → ((x : A) → WhereRefused P (f x))
       → WhereRefused P (firstCause (map f xs))
   place-map f [] h = place-of cause-none place-clear
   place-map f (x ∷ xs) h = place-cons (f x) (map f xs) (h x) (λ q. place-map f xs h)

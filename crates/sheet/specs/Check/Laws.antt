@@ -6,7 +6,7 @@ use mathlib.Core.List.{List, [], _∷_, _++_}
 use native.Mathlib.Omega.{arith}
 use native.Mathlib.Nat.{le-of-suc-le-suc, eq-or-lt-of-le, not-suc-le-zero, add-zero, add-suc, zero-mul, suc-mul}
 use native.Mathlib.Numerals.{add-one}
-use mathlib.Core.Logic.{_⊎_, inl, inr, ⊎-elim}
+use mathlib.Core.Logic.{_⊎_, inl, inr}
 use Rattle.sheet.specs.declared.check.Check.{Check}
 use Rattle.sheet.specs.declared.check.Check.the-variants.{Clear, Refused}
 use Rattle.sheet.specs.Check.{refusal_with_if_, _else_, firstCause, first}
@@ -100,19 +100,19 @@ pub first-found : (n i : ℕ) (f : ℕ → Check) → i < n → first i f ≡ Cl
     → first n f ≡ Refused a b
 unfolding first
 first-found zero i f l e h = absurd (not-suc-le-zero l)
-first-found (suc n) i f l e {a} {b} h =
-    ⊎-elim (λ (q : i ≡ n). rw (← q, e, h) (else-clear (Refused a b)))
-    (λ (q : i < n). rw (first-found n i f q e h) (else-refused a b (f n)))
-    (eq-or-lt-of-le (le-of-suc-le-suc l))
+first-found (suc n) i f l e {a} {b} h = elim (eq-or-lt-of-le (le-of-suc-le-suc l)) [
+  | inl q ↦ rw (← q, e, h) (else-clear (Refused a b))
+  | inr q ↦ rw (first-found n i f q e h) (else-refused a b (f n))
+]
 
 -- where the first of n is clear, each is
 pub first-clear-at : (n i : ℕ) (f : ℕ → Check) → first n f ≡ Clear → i < n → f i ≡ Clear
 unfolding first
 first-clear-at zero i f e l = absurd (not-suc-le-zero l)
-first-clear-at (suc n) i f e l =
-    ⊎-elim (λ (q : i ≡ n). rw q (both-clear (first n f) (f n) e .1))
-    (λ (q : i < n). first-clear-at n i f (both-clear (first n f) (f n) e .0) q)
-    (eq-or-lt-of-le (le-of-suc-le-suc l))
+first-clear-at (suc n) i f e l = elim (eq-or-lt-of-le (le-of-suc-le-suc l)) [
+  | inl q ↦ rw q (both-clear (first n f) (f n) e .1)
+  | inr q ↦ first-clear-at n i f (both-clear (first n f) (f n) e .0) q
+]
 
 -- where each is clear, the first of n is
 pub first-clear : (n : ℕ) (f : ℕ → Check) → ((i : ℕ) → i < n → f i ≡ Clear) → first n f ≡ Clear
@@ -155,21 +155,14 @@ pub record Present (n : ℕ) (f : ℕ → Check) (a b : ℕ) : Type 0 where
   pub before : first place f ≡ Clear
   pub here : f place ≡ Refused a b
 
-wider : {n : ℕ} {f : ℕ → Check} {a b : ℕ} → Present n f a b → Present (suc n) f a b
-wider h = record { place = h .place; inside = omega (arith, h .inside); before = h .before; here = h .here }
-
 pub first-present : (n : ℕ) (f : ℕ → Check) {a b : ℕ} → first n f ≡ Refused a b → Present n f a b
 unfolding first
 first-present zero f e = clear-refused refl e
-first-present (suc n) f {a} {b} e =
-    ⊎-elim (λ (q : first n f ≡ Refused a b). wider (first-present n f q))
-    (λ (q : (first n f ≡ Clear) × (f n ≡ Refused a b)). record {
-      place = n;
-      inside = omega arith;
-      before = q .0;
-      here = q .1;
-    })
-    (either-refused (first n f) (f n) e)
+first-present (suc n) f e = elim (either-refused (first n f) (f n) e) [
+  | inl q ↦ (let h = first-present n f q in
+      record { place = h .place; inside = omega (arith, h .inside); before = h .before; here = h .here })
+  | inr q ↦ record { place = n; inside = omega arith; before = q .0; here = q .1 }
+]
 
 -- where a cause refuses, its test holds, and number and place are its own
 pub present-test : (n p : ℕ) (t : Bool) {a b : ℕ} → (refusal n with p if t) ≡ Refused a b

@@ -2,14 +2,16 @@
 -- and looking for a kind.
 use Prim.Native.Nat.{ℕ, zero, suc, _+_, _-_, _≤_, _<_}
 use mathlib.Core.Path.{_≡_, refl, sym, ap, ap₂, subst, _∙_}
-use mathlib.Core.Bool.{Bool, true, false, cond, _||_}
+use mathlib.Core.Bool.{true, _||_}
 use mathlib.Core.Logic.{_⊎_, inl, inr}
-use mathlib.Core.List.{List, [], _∷_, _++_}
+use mathlib.Core.List.{List, [], _∷_}
 use native.Mathlib.Omega.{arith}
-use lib.Dec.{ltb, eqb}
+use lib.Dec.{ltb}
 use lib.ListN.{length}
-use borrow.Author.Tests.{lt-ltb, le-ltb, lt-leb, eq-eqb, ltb-true, ltb-false, leb-false, eqb-true}
-use Rattle.facts.specs.Tests.{neither}
+use borrow.Author.Tests.{lt-ltb, le-ltb, lt-leb, ltb-false, leb-false}
+use Rattle.facts.specs.Tests.{true-or-false, neither}
+use Rattle.facts.specs.Numbers.{less-or-not}
+use Rattle.facts.specs.Lists.{among}
 use Rattle.sheet.specs.declared.check.Check.{Check}
 use Rattle.sheet.specs.declared.check.Check.the-variants.{Clear, Refused}
 use Rattle.sheet.specs.declared.record.Record.{Record}
@@ -17,52 +19,11 @@ use Rattle.sheet.specs.declared.record.Found.{Found}
 use Rattle.sheet.specs.declared.record.Found.the-variants.{At, Missing}
 use Rattle.sheet.specs.Check.{refusal_with_if_, _else_}
 use Rattle.sheet.specs.Check.Laws.{absent, clear-absent, else-clear, both-clear}
-use Rattle.sheet.specs.Format.{header, recordAt, offset, end, kindOf, rank, rankAt, cause1, cause2, causeAt}
+use Rattle.sheet.specs.Format.{Format, header, recordAt, offset, end, kindOf, rank, rankAt, cause1, cause2}
+use Rattle.sheet.specs.Format.{causeAt}
 use Rattle.sheet.specs.Format.{Parsed, ended, _before_, parseStep, parseFrom, parse, parsed, ofKind, _or_, find}
 
--- ---- the rank of a kind
-pub rank-machine : rank (kindOf 1) ≡ 1
-unfolding kindOf
-rank-machine = refl
-
-pub rank-word : rank (kindOf 2) ≡ 2
-unfolding kindOf
-rank-word = refl
-
-pub rank-sequence : rank (kindOf 3) ≡ 3
-unfolding kindOf
-rank-sequence = refl
-
--- ---- what a clear record shows
-pub clear-inside : (s : List ℕ) (at last : ℕ) → causeAt s at last ≡ Clear → end (recordAt s at) ≤ length s
-unfolding causeAt cause1
-clear-inside s at last e =
-    let past = ltb (length s) (at + header) in
-    let over = ltb (length s) (end (recordAt s at)) in
-    ltb-false _ _
-    (neither past over (clear-absent 1 at (past || over) (both-clear (cause1 s at) (cause2 s at last) e .0)) .1)
-
-pub clear-rank : (s : List ℕ) (at last : ℕ) → causeAt s at last ≡ Clear → last < rankAt s at
-unfolding causeAt cause2
-clear-rank s at last e = leb-false _ _ (clear-absent 2 at _ (both-clear (cause1 s at) (cause2 s at last) e .1))
-
-pub end-after : (s : List ℕ) (at : ℕ) → at + header ≤ end (recordAt s at)
-unfolding end offset recordAt
-end-after s at = omega arith
-
--- and what makes a record clear
-clear-at : (s : List ℕ) (at last : ℕ) {r : Record} → recordAt s at ≡ r → at + header ≤ length s → end r ≤ length s
-    → last < rank (kindOf (r .kind)) → causeAt s at last ≡ Clear
-unfolding causeAt cause1 cause2
-clear-at s at last {r} e a b c =
-    let over : end (recordAt s at) ≤ length s = subst (λ (x : Record). end x ≤ length s) (sym e) b in
-    let up : last < rankAt s at = subst (λ (x : Record). last < rank (kindOf (x .kind))) (sym e) c in
-    ap₂ _else_
-    (absent 1 at (ap₂ _||_ (le-ltb (length s) (at + header) a) (le-ltb (length s) (end (recordAt s at)) over)))
-    (absent 2 at (lt-leb (rankAt s at) last up))
-    ∙ else-clear Clear
-
--- ---- the start, the offsets, the end and the causes of a record
+-- ---- the start, the offsets, the end and cause 1 of a record
 pub start-at : (s : List ℕ) (at : ℕ) → recordAt s at .start ≡ at
 unfolding recordAt
 start-at s at = refl
@@ -83,102 +44,132 @@ pub cause1-is : (s : List ℕ) (at : ℕ) (r : Record) → r ≡ recordAt s at
 unfolding cause1
 cause1-is s at r e = rw (← end-is s at r e)
 
--- ---- the bound on the steps plays no part
+pub end-after : (s : List ℕ) (at : ℕ) → at + header ≤ end (recordAt s at)
+unfolding end offset recordAt
+end-after s at = omega arith
+
+-- the parsing ends at the sheet's end
 step-at-end : (s : List ℕ) (at : ℕ) → length s ≤ at → (c : Check) (r : Record) (w : Parsed)
     → parseStep (ltb at (length s)) c r w ≡ ended Clear
 unfolding parseStep
 step-at-end s at h c r w = rw (le-ltb at (length s) h)
 
-enough : (f g : ℕ) (s : List ℕ) (at last : ℕ) → length s - at ≤ f → length s - at ≤ g
-    → parseFrom f s at last ≡ parseFrom g s at last
-unfolding parseFrom
-enough zero zero s at last p q = refl
-enough zero (suc g) s at last p q =
-    sym (step-at-end s at (omega arith) (causeAt s at last) (recordAt s at)
-    (parseFrom g s (end (recordAt s at)) (rankAt s at)))
-enough (suc f) zero s at last p q =
-    step-at-end s at (omega arith) (causeAt s at last) (recordAt s at)
-    (parseFrom f s (end (recordAt s at)) (rankAt s at))
-enough (suc f) (suc g) s at last p q =
-    ap (λ (w : Parsed). parseStep (ltb at (length s)) (causeAt s at last) (recordAt s at) w)
-    (enough f g s (end (recordAt s at)) (rankAt s at) (omega (arith, end-after s at)) (omega (arith, end-after s at)))
+module _ (F : Format) where
+  -- ---- what a clear record shows
+  pub clear-inside : (s : List ℕ) (at last : ℕ) → causeAt F s at last ≡ Clear → end (recordAt s at) ≤ length s
+  unfolding causeAt cause1
+  clear-inside s at last e =
+      let past = ltb (length s) (at + header) in
+      let over = ltb (length s) (end (recordAt s at)) in
+      ltb-false _ _
+      (neither past over (clear-absent 1 at (past || over) (both-clear (cause1 s at) (cause2 F s at last) e .0)) .1)
 
--- at the sheet's end the parsing ends
-pub parse-end : (s : List ℕ) (at last : ℕ) → length s ≤ at → parse s at last ≡ ended Clear
-unfolding parse
-parse-end s at last h = enough (length s - at) 0 s at last (omega arith) (omega arith) ∙ none
-  where
-    none : parseFrom 0 s at last ≡ ended Clear
-    none = unfold parseFrom in refl
+  pub clear-rank : (s : List ℕ) (at last : ℕ) → causeAt F s at last ≡ Clear → last < rankAt F s at
+  unfolding causeAt cause2
+  clear-rank s at last e = leb-false _ _ (clear-absent 2 at _ (both-clear (cause1 s at) (cause2 F s at last) e .1))
 
--- before it, a cause stops it, and else the record comes before what follows it
-pub parse-on : (s : List ℕ) (at last : ℕ) → at < length s
-    → parse s at last ≡ parseStep true (causeAt s at last) (recordAt s at) (parse s (end (recordAt s at)) (rankAt s at))
-unfolding parse
-parse-on s at last h =
-    enough (length s - at) (suc (length s - (at + 1))) s at last (omega arith) (omega arith)
-    ∙ one
-    ∙ ap (λ (w : Parsed). parseStep true (causeAt s at last) (recordAt s at) w)
-    (enough (length s - (at + 1)) (length s - end (recordAt s at)) s (end (recordAt s at)) (rankAt s at)
-    (omega (arith, end-after s at)) (omega arith))
-  where
-    one : parseFrom (suc (length s - (at + 1))) s at last
-        ≡ parseStep true (causeAt s at last) (recordAt s at)
-        (parseFrom (length s - (at + 1)) s (end (recordAt s at)) (rankAt s at))
-    one = unfold parseFrom in rw (lt-ltb at (length s) h)
+  -- and what makes a record clear
+  clear-at : (s : List ℕ) (at last : ℕ) {r : Record} → recordAt s at ≡ r → at + header ≤ length s → end r ≤ length s
+      → last < rank (kindOf F (r .kind)) → causeAt F s at last ≡ Clear
+  unfolding causeAt cause1 cause2
+  clear-at s at last {r} e a b c =
+      let over : end (recordAt s at) ≤ length s = subst (λ (x : Record). end x ≤ length s) (sym e) b in
+      let up : last < rankAt F s at = subst (λ (x : Record). last < rank (kindOf F (x .kind))) (sym e) c in
+      ap₂ _else_
+      (absent 1 at (ap₂ _||_ (le-ltb (length s) (at + header) a) (le-ltb (length s) (end (recordAt s at)) over)))
+      (absent 2 at (lt-leb (rankAt F s at) last up))
+      ∙ else-clear Clear
 
--- the record that stops the parsing
-pub parse-stopped : (s : List ℕ) (at last n p : ℕ) → at < length s → causeAt s at last ≡ Refused n p
-    → parse s at last ≡ ended (Refused n p)
-unfolding parseStep
-parse-stopped s at last n p h e = parse-on s at last h ∙ rw e
+  -- ---- the bound on the steps plays no part
+  enough : (f g : ℕ) (s : List ℕ) (at last : ℕ) → length s - at ≤ f → length s - at ≤ g
+      → parseFrom f F s at last ≡ parseFrom g F s at last
+  unfolding parseFrom
+  enough zero zero s at last p q = refl
+  enough zero (suc g) s at last p q =
+      sym (step-at-end s at (omega arith) (causeAt F s at last) (recordAt s at)
+      (parseFrom g F s (end (recordAt s at)) (rankAt F s at)))
+  enough (suc f) zero s at last p q =
+      step-at-end s at (omega arith) (causeAt F s at last) (recordAt s at)
+      (parseFrom f F s (end (recordAt s at)) (rankAt F s at))
+  enough (suc f) (suc g) s at last p q =
+      ap (λ (w : Parsed). parseStep (ltb at (length s)) (causeAt F s at last) (recordAt s at) w)
+      (enough f g s (end (recordAt s at)) (rankAt F s at) (omega (arith, end-after s at))
+      (omega (arith, end-after s at)))
 
--- a record in order
-pub parse-record : (s : List ℕ) (at last : ℕ) → at < length s → causeAt s at last ≡ Clear
-    → parse s at last ≡ (recordAt s at before parse s (end (recordAt s at)) (rankAt s at))
-unfolding parseStep
-parse-record s at last h e = parse-on s at last h ∙ rw e
-
-pub parse-as : (s : List ℕ) (at last : ℕ) {r : Record} → recordAt s at ≡ r → at + header ≤ length s → end r ≤ length s
-    → last < rank (kindOf (r .kind)) → parse s at last ≡ (r before parse s (end r) (rank (kindOf (r .kind))))
-parse-as s at last {r} e a b c =
-    parse-record s at last (omega arith) (clear-at s at last e a b c)
-    ∙ ap (λ (x : Record). x before parse s (end x) (rank (kindOf (x .kind)))) e
-
--- the whole sheet
-pub parsed-is : (s : List ℕ) → parsed s ≡ parse s 0 0
-unfolding parsed
-parsed-is s = refl
-
--- ---- what holds where the parsing ends, where a cause stops it, and of a record before what follows, wherever it
--- holds of that, holds of the parsing
-module _ (s : List ℕ) (P : ℕ → ℕ → Parsed → Type 0) (ends : (at last : ℕ) → length s ≤ at → P at last (ended Clear))
-    (stops : (at last n p : ℕ) → at < length s → causeAt s at last ≡ Refused n p → P at last (ended (Refused n p)))
-    (goes-on : (at last : ℕ) → at < length s → causeAt s at last ≡ Clear
-    → P (end (recordAt s at)) (rankAt s at) (parse s (end (recordAt s at)) (rankAt s at))
-    → P at last (recordAt s at before parse s (end (recordAt s at)) (rankAt s at))) where
-  turn : (at last : ℕ)
-      → (at < length s → P (end (recordAt s at)) (rankAt s at) (parse s (end (recordAt s at)) (rankAt s at)))
-      → P at last (parse s at last)
-  turn at last rest = go (ltb at (length s)) refl
+  -- at the sheet's end the parsing ends
+  pub parse-end : (s : List ℕ) (at last : ℕ) → length s ≤ at → parse F s at last ≡ ended Clear
+  unfolding parse
+  parse-end s at last h = enough (length s - at) 0 s at last (omega arith) (omega arith) ∙ none
     where
-      check : at < length s → (c : Check) → causeAt s at last ≡ c → P at last (parse s at last)
-      check h Clear e = subst (P at last) (sym (parse-record s at last h e)) (goes-on at last h e (rest h))
-      check h (Refused n p) e = subst (P at last) (sym (parse-stopped s at last n p h e)) (stops at last n p h e)
+      none : parseFrom 0 F s at last ≡ ended Clear
+      none = unfold parseFrom in refl
 
-      go : (t : Bool) → ltb at (length s) ≡ t → P at last (parse s at last)
-      go true t = check (ltb-true at (length s) t) (causeAt s at last) refl
-      go false t =
-          let h : length s ≤ at = ltb-false at (length s) t in
-          subst (P at last) (sym (parse-end s at last h)) (ends at last h)
+  -- before it, a cause stops it, and else the record comes before what follows it
+  pub parse-on : (s : List ℕ) (at last : ℕ) → at < length s
+      → parse F s at last
+      ≡ parseStep true (causeAt F s at last) (recordAt s at) (parse F s (end (recordAt s at)) (rankAt F s at))
+  unfolding parse
+  parse-on s at last h =
+      enough (length s - at) (suc (length s - (at + 1))) s at last (omega arith) (omega arith)
+      ∙ one
+      ∙ ap (λ (w : Parsed). parseStep true (causeAt F s at last) (recordAt s at) w)
+      (enough (length s - (at + 1)) (length s - end (recordAt s at)) s (end (recordAt s at)) (rankAt F s at)
+      (omega (arith, end-after s at)) (omega arith))
+    where
+      one : parseFrom (suc (length s - (at + 1))) F s at last
+          ≡ parseStep true (causeAt F s at last) (recordAt s at)
+          (parseFrom (length s - (at + 1)) F s (end (recordAt s at)) (rankAt F s at))
+      one = unfold parseFrom in rw (lt-ltb at (length s) h)
 
-  turns : (f at last : ℕ) → length s - at ≤ f → P at last (parse s at last)
-  turns zero at last l = turn at last (λ h. let z : ⊥ = omega arith in absurd z)
-  turns (suc f) at last l =
-      turn at last (λ h. turns f (end (recordAt s at)) (rankAt s at) (omega (arith, end-after s at)))
+  -- the record that stops the parsing
+  pub parse-stopped : (s : List ℕ) (at last n p : ℕ) → at < length s → causeAt F s at last ≡ Refused n p
+      → parse F s at last ≡ ended (Refused n p)
+  unfolding parseStep
+  parse-stopped s at last n p h e = parse-on s at last h ∙ rw e
 
-  pub parse-induction : (at last : ℕ) → P at last (parse s at last)
-  parse-induction at last = turns (length s) at last (omega arith)
+  -- a record in order
+  pub parse-record : (s : List ℕ) (at last : ℕ) → at < length s → causeAt F s at last ≡ Clear
+      → parse F s at last ≡ (recordAt s at before parse F s (end (recordAt s at)) (rankAt F s at))
+  unfolding parseStep
+  parse-record s at last h e = parse-on s at last h ∙ rw e
+
+  pub parse-as : (s : List ℕ) (at last : ℕ) {r : Record} → recordAt s at ≡ r → at + header ≤ length s → end r ≤ length s
+      → last < rank (kindOf F (r .kind)) → parse F s at last ≡ (r before parse F s (end r) (rank (kindOf F (r .kind))))
+  parse-as s at last {r} e a b c =
+      parse-record s at last (omega arith) (clear-at s at last e a b c)
+      ∙ ap (λ (x : Record). x before parse F s (end x) (rank (kindOf F (x .kind)))) e
+
+  -- the whole sheet
+  pub parsed-is : (s : List ℕ) → parsed F s ≡ parse F s 0 0
+  unfolding parsed
+  parsed-is s = refl
+
+  -- ---- what holds where the parsing ends, where a cause stops it, and of a record before what follows, wherever it
+  -- holds of that, holds of the parsing
+  module _ (s : List ℕ) (P : ℕ → ℕ → Parsed → Type 0) (ends : (at last : ℕ) → length s ≤ at → P at last (ended Clear))
+      (stops : (at last n p : ℕ) → at < length s → causeAt F s at last ≡ Refused n p → P at last (ended (Refused n p)))
+      (goes-on : (at last : ℕ) → at < length s → causeAt F s at last ≡ Clear
+      → P (end (recordAt s at)) (rankAt F s at) (parse F s (end (recordAt s at)) (rankAt F s at))
+      → P at last (recordAt s at before parse F s (end (recordAt s at)) (rankAt F s at))) where
+    turn : (at last : ℕ)
+        → (at < length s → P (end (recordAt s at)) (rankAt F s at) (parse F s (end (recordAt s at)) (rankAt F s at)))
+        → P at last (parse F s at last)
+    turn at last rest = elim (less-or-not at (length s)) [
+      | inl h ↦ check h (causeAt F s at last) refl
+      | inr h ↦ subst (P at last) (sym (parse-end s at last h)) (ends at last h)
+    ]
+      where
+        check : at < length s → (c : Check) → causeAt F s at last ≡ c → P at last (parse F s at last)
+        check h Clear e = subst (P at last) (sym (parse-record s at last h e)) (goes-on at last h e (rest h))
+        check h (Refused n p) e = subst (P at last) (sym (parse-stopped s at last n p h e)) (stops at last n p h e)
+
+    turns : (f at last : ℕ) → length s - at ≤ f → P at last (parse F s at last)
+    turns zero at last l = turn at last (λ h. let z : ⊥ = omega arith in absurd z)
+    turns (suc f) at last l =
+        turn at last (λ h. turns f (end (recordAt s at)) (rankAt F s at) (omega (arith, end-after s at)))
+
+    pub parse-induction : (at last : ℕ) → P at last (parse F s at last)
+    parse-induction at last = turns (length s) at last (omega arith)
 
 -- ---- looking for a kind
 -- a missing record is not found
@@ -199,57 +190,23 @@ unfolding _or_
 or-assoc (At r) g h = refl
 or-assoc Missing g h = refl
 
-pub find-none : (k : ℕ) → find k [] ≡ Missing
+pub find-none : (ks : List ℕ) → find ks [] ≡ Missing
 unfolding find
-find-none k = refl
+find-none ks = refl
 
-pub find-cons : (k : ℕ) (r : Record) (rs : List Record) → find k (r ∷ rs) ≡ (ofKind k r or find k rs)
+pub find-cons : (ks : List ℕ) (r : Record) (rs : List Record) → find ks (r ∷ rs) ≡ (ofKind ks r or find ks rs)
 unfolding find
-find-cons k r rs = refl
+find-cons ks r rs = refl
 
 -- among no records, none is found
-pub none-found : {A : Type 0} (k : ℕ) {r : Record} → find k [] ≡ At r → A
-none-found k e = missing-found (find-none k) e
+pub none-found : {A : Type 0} (ks : List ℕ) {r : Record} → find ks [] ≡ At r → A
+none-found ks e = missing-found (find-none ks) e
 
--- what is found is the first record, which is then of the kind, or is found among the others
-pub found-cons : (k : ℕ) (a : Record) (rs : List Record) {r : Record} → find k (a ∷ rs) ≡ At r
-    → ((a .kind ≡ k) × (a ≡ r)) ⊎ (find k rs ≡ At r)
+-- what is found is the first record, which is then of one of the kinds, or is found among the others
+pub found-cons : (ks : List ℕ) (a : Record) (rs : List Record) {r : Record} → find ks (a ∷ rs) ≡ At r
+    → ((among (a .kind) ks ≡ true) × (a ≡ r)) ⊎ (find ks rs ≡ At r)
 unfolding find ofKind _or_
-found-cons k a rs {r} = go (eqb (a .kind) k) refl
-  where
-    go : (t : Bool) → eqb (a .kind) k ≡ t → (cond t (At a) Missing or find k rs) ≡ At r
-        → ((a .kind ≡ k) × (a ≡ r)) ⊎ (find k rs ≡ At r)
-    go true e q = inl (eqb-true (a .kind) k e, cc)
-    go false e q = inr q
-
--- the first record is found where it is of the kind, and is passed over where it is of another
-pub find-here : (k : ℕ) (a : Record) (rs : List Record) → a .kind ≡ k → find k (a ∷ rs) ≡ At a
-unfolding find ofKind _or_
-find-here k a rs e = ap (λ (t : Bool). cond t (At a) Missing or find k rs) (eq-eqb (a .kind) k e)
-
-pub find-past : (k : ℕ) (a : Record) (rs : List Record) {j : ℕ} → a .kind ≡ j → eqb j k ≡ false
-    → find k (a ∷ rs) ≡ find k rs
-unfolding find ofKind _or_
-find-past k a rs e f = ap (λ (t : Bool). cond t (At a) Missing or find k rs) (ap (λ (x : ℕ). eqb x k) e ∙ f)
-
--- in records behind others: what these have, and else what those have
-found-first : (o f g : Found) {r : Record} → (f ≡ At r → g ≡ At r) → (o or f) ≡ At r → (o or g) ≡ At r
-unfolding _or_
-found-first (At a) f g h e = e
-found-first Missing f g h e = h e
-
-pub find-append : (k : ℕ) (rs qs : List Record) {r : Record} → find k rs ≡ At r → find k (rs ++ qs) ≡ At r
-unfolding find
-find-append k [] qs e = none-found k e
-find-append k (a ∷ rs) qs e = found-first (ofKind k a) (find k rs) (find k (rs ++ qs)) (find-append k rs qs) e
-
-found-later : (o f g h : Found) → (f ≡ Missing → g ≡ h) → (o or f) ≡ Missing → (o or g) ≡ h
-unfolding _or_
-found-later (At a) f g h again e = let z : _≡_ {A = ℕ} 0 1 = cc in absurd (omega arith)
-found-later Missing f g h again e = again e
-
-pub find-behind : (k : ℕ) (rs qs : List Record) → find k rs ≡ Missing → find k (rs ++ qs) ≡ find k qs
-unfolding find
-find-behind k [] qs e = refl
-find-behind k (a ∷ rs) qs e =
-    found-later (ofKind k a) (find k rs) (find k (rs ++ qs)) (find k qs) (find-behind k rs qs) e
+found-cons ks a rs q = elim (true-or-false (among (a .kind) ks)) [
+  | inl e ↦ inl (e, cc (rw e at q))
+  | inr e ↦ inr (rw e at q)
+]

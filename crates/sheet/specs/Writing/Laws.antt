@@ -1,13 +1,14 @@
 -- The laws of putting bytes into a buffer, where all of them fit and where they do not, and of a
 -- record's header: it reads back.
-use Prim.Native.Nat.{ℕ, _+_, _*_, _/_, _%_, _^_, _≤_, _<_}
+use Prim.Native.Nat.{ℕ, _+_, _%_, _^_, _≤_, _<_}
 use mathlib.Core.Path.{_≡_, refl, sym, ap, ap₂, _∙_}
 use mathlib.Core.List.{List, _++_}
 use native.Mathlib.Omega.{arith}
-use native.Mathlib.Nat.{add-zero, div-div-eq-div-mul, div-lt-iff-lt-mul, mod-eq-of-lt, div-add-mod'}
+use native.Mathlib.Nat.{add-zero}
 use borrow.Author.Tests.{le-leb, lt-leb}
 use lib.ListN.{length, getD, length-append, List·getD-append}
 use lib.Seq.{paste, getD-append-add}
+use Rattle.facts.specs.Bytes.{two-bytes, four-bytes}
 use Rattle.sheet.specs.Format.{header, recordAt}
 use Rattle.sheet.specs.Writing.{headerOf, recordBytes, putAt, putEnd}
 
@@ -38,19 +39,6 @@ pub record-size : (kind : ℕ) (payload : List ℕ) → length (recordBytes kind
 record-size kind payload =
     length-append (headerOf kind (length payload)) payload
     ∙ ap (λ (n : ℕ). n + length payload) (header-size kind (length payload))
-
--- a number from its two or four bytes
-two-bytes : (n : ℕ) → n < 65536 → n % 256 + 256 * (n / 256 % 256) ≡ n
-two-bytes n l = omega arith
-
-four-bytes : (n : ℕ) → n < 2 ^ 32
-    → n % 256 + 256 * (n / 256 % 256) + 65536 * (n / 65536 % 256) + 16777216 * (n / 16777216 % 256) ≡ n
-four-bytes n l =
-    let two : n / 256 / 256 ≡ n / 65536 = div-div-eq-div-mul n 256 256 in
-    let three : n / 65536 / 256 ≡ n / 16777216 = div-div-eq-div-mul n 65536 256 in
-    let last : n / 16777216 % 256 ≡ n / 16777216 =
-    mod-eq-of-lt (div-lt-iff-lt-mul {k = 16777216} (omega arith) .1 (omega arith)) in
-    omega (arith, two, three, last, div-add-mod' n 256, div-add-mod' (n / 256) 256, div-add-mod' (n / 65536) 256)
 
 -- behind any bytes, and with any bytes behind it
 module _ (p xs : List ℕ) (kind size : ℕ) where

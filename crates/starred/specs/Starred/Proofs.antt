@@ -12,19 +12,22 @@ use Rattle.sheet.specs.Check.{refusal_with_if_, _else_, firstCause, first}
 use Rattle.sheet.specs.Check.Laws.{absent, else-clear}
 use Rattle.sheet.specs.Format.{recordAt, offset, end, kindOf, cause1, cause2, causeAt, parseStep, parseFrom, parse}
 use Rattle.sheet.specs.Format.{parsed, ofKind, _or_, find}
-use Rattle.sheet.specs.Reader.{sheetCauses, when, needed, refusalOf, recordOf, part, partBytes, content}
+use Rattle.sheet.specs.Reader.{sheetCauses, when, needed, refusalOf, recordOf, part, partBytes, content, wordIn}
+use Rattle.sheet.specs.Reader.{sequenceIn, answersIn}
 use Rattle.sheet.specs.Writing.{headerOf}
+use Rattle.sheet.specs.Joining.{joined}
 use Rattle.machine.specs.Machine.{Mealy, noAnswer, machineOf, run, answers, stateAt}
 use Rattle.machine.specs.Causes.{cause3, cause4, cause12, commandsCause, cause6, machineIn, tableCauses}
 use Rattle.machine.specs.Causes.{machineCauses, wordCauses, loadCauses}
 use Rattle.certify.specs.declared.answer.Answer.{Answer}
 use Rattle.certify.specs.declared.answer.Answer.the-variants.{Certified}
-use Rattle.certify.specs.Marks.Twin.{twin as twinMachine, single as singleMachine}
+use Rattle.certify.specs.Marks.Twin.{twinTable, singleTable, twin as twinMachine, single as singleMachine}
 use Rattle.certify.specs.Certification.{cause9, sequenceCauses, certifyCauses, outcome, certification}
 use Rattle.certify.specs.Certification.Laws.{certification-clear, certification-refused}
 use Rattle.certify.specs.Certification.Twin as outcomes
 use Rattle.build.specs.Building.{connectedCauses, buildCauses}
 use Rattle.build.specs.Building.Service.{building-refused}
+use Rattle.build.specs.Building.Twin.{unitSheet}
 use Rattle.build.specs.Building.Twin as buildings
 use Rattle.judge.specs.declared.answer.Answer.{Answer as Judgement}
 use Rattle.judge.specs.declared.answer.Answer.the-variants.{Pass, Wrong, Unfinished}
@@ -32,19 +35,19 @@ use Rattle.judge.specs.Judging.{cause10, judgeCauses, difference, resultAt, ver
 use Rattle.judge.specs.Judging.Laws.{certifying-clear, judgement-refused, judgement-verdict}
 use Rattle.report.specs.Lines.{judgeLine}
 use Rattle.report.specs.Lines.Examples as lines
-use Rattle.starred.specs.Starred.{unitSheet, sequenceSheet, answersSheet, twinTable, noStateTable, singleTable}
+use Rattle.starred.specs.Starred.{sequenceSheet, answersSheet, noStateTable}
 use Rattle.starred.specs.Starred.{builtTwin, twinWith, twinAnswered, JudgedAs, Starred}
 
 -- what certifying reads in a sheet
 record Sheet (room : ℕ) (s : List ℕ) (M : Mealy) (w xs : List ℕ) : Type 0 where
   clear : firstCause (certifyCauses room s) ≡ Clear
   machine : machineIn s ≡ M
-  word : content 2 s ≡ w
-  sequence : content 3 s ≡ xs
+  word : wordIn s ≡ w
+  sequence : sequenceIn s ≡ xs
 
 -- such a sheet, by what computes of it
 reads-as : {room : ℕ} {s : List ℕ} {M : Mealy} {w xs : List ℕ} → firstCause (certifyCauses room s) ≡ Clear
-    → machineIn s ≡ M → content 2 s ≡ w → content 3 s ≡ xs → Sheet room s M w xs
+    → machineIn s ≡ M → wordIn s ≡ w → sequenceIn s ≡ xs → Sheet room s M w xs
 reads-as c m w xs = record { clear = c; machine = m; word = w; sequence = xs }
 
 -- so it answers the outcome of that machine, word and sequence
@@ -56,13 +59,13 @@ answered room {s} h e = certification-clear room s (h .clear) ∙ (rw (h .machin
 record Judged (room : ℕ) (s ys : List ℕ) : Type 0 where
   clear : firstCause (judgeCauses room s) ≡ Clear
   machine : machineIn s ≡ twinMachine
-  word : content 2 s ≡ 0 ∷ []
-  sequence : content 3 s ≡ builtTwin
-  answers : content 4 s ≡ ys
+  word : wordIn s ≡ 0 ∷ []
+  sequence : sequenceIn s ≡ builtTwin
+  answers : answersIn s ≡ ys
 
 -- such a sheet, by what computes of it
 judged-as : {room : ℕ} {s ys : List ℕ} → firstCause (judgeCauses room s) ≡ Clear → machineIn s ≡ twinMachine
-    → content 2 s ≡ 0 ∷ [] → content 3 s ≡ builtTwin → content 4 s ≡ ys → Judged room s ys
+    → wordIn s ≡ 0 ∷ [] → sequenceIn s ≡ builtTwin → answersIn s ≡ ys → Judged room s ys
 judged-as c m w xs ys = record { clear = c; machine = m; word = w; sequence = xs; answers = ys }
 
 -- ---- what computes from the bytes of the sheets, all of it at once
@@ -102,7 +105,8 @@ record Computed : Type 0 where
       → firstCause (judgeCauses room (answersSheet noStateTable (command ∷ []) builtTwin (answer ∷ []))) ≡ Refused 4 8
 
 computed : Computed
-unfolding twinMachine singleMachine headerOf refusal_with_if_ _else_ firstCause first recordAt offset end kindOf cause1
+unfolding twinMachine singleMachine joined headerOf refusal_with_if_ _else_ firstCause first recordAt offset end kindOf
+    cause1
     cause2 causeAt parseStep parseFrom parse parsed ofKind _or_ find sheetCauses when needed refusalOf recordOf part
     partBytes content machineOf run answers cause3 cause4 cause12 commandsCause cause6 machineIn tableCauses
     machineCauses wordCauses loadCauses connectedCauses buildCauses cause9 sequenceCauses cause10 judgeCauses verdict
@@ -147,7 +151,6 @@ line-judged h e room l = let answer = judged room (h .0 room l) (h .1) in (answe
 
 -- ---- the whole
 pub starred : Starred
-unfolding headerOf buildings.twinSheet buildings.disconnectedSheet buildings.singleSheet
 starred = record {
   built = buildings.twin-building;
   built-bytes = buildings.twin-buffer;

@@ -7,7 +7,7 @@ use mathlib.Core.Option.{none, some}
 use native.Mathlib.Omega.{arith}
 use lib.ListN.{length, getD}
 use Rattle.facts.specs.ByteOrder.{Before, first-one}
-use Rattle.facts.specs.FirstOf.{Some, some-none, Seen, nothing, value, seen, first-some, some-first}
+use Rattle.facts.specs.FirstOf.{Some, some-none, nothing, value, seen, first-some, some-first}
 use Rattle.facts.specs.FirstString.{Accepted, string-length, string-accepted, accepted-some, string-first}
 use Rattle.machine.specs.Machine.{Mealy, Proper}
 use Rattle.word.specs.Search.{mostSought, Eligible, IsSought, allPairs, after, unmet, isEmpty, wordFrom, search}
@@ -89,11 +89,7 @@ module _ (M : Mealy) (p : Proper M) where
   none-eligible e u h = some-none (eligible-some u h .1) e
 
   pub eligible-none : ((u : List ℕ) → Eligible M u → ⊥) → search M ≡ none
-  eligible-none h = go (seen (search M))
-    where
-      go : Seen (search M) → search M ≡ none
-      go (nothing e) = e
-      go (value t e) = absurd (h t (search-is e .has))
+  eligible-none h = elim (seen (search M)) [ nothing e ↦ e | value t e ↦ absurd (h t (search-is e .has)) ]
 
 -- of a machine with one state the word is 0
 pub single-word : (M : Mealy) → Proper M → M .n ≡ 1 → search M ≡ some (0 ∷ [])
@@ -103,16 +99,9 @@ single-word M p one = is-search M p (record {
     separates = λ i j il jl e. omega arith;
   };
   shortest = λ u h. h .commands .some;
-  first = λ u h l b. never u l b;
+  first = λ u h l b. let z : b .place ≡ 0 = omega (arith, b .inside) in omega (arith, rw z at (b .lower));
 })
   where
     low : (i : ℕ) → i < 1 → getD (0 ∷ []) i 0 < M .k
     low zero l = omega (arith, p .some-commands)
     low (suc i) l = let z : ⊥ = omega arith in absurd z
-
-    never : (u : List ℕ) → length u ≡ 1 → Before u (0 ∷ []) → ⊥
-    never u l b = go (b .place) (b .inside) (b .lower)
-      where
-        go : (q : ℕ) → q < length u → getD u q 0 < getD (0 ∷ []) q 0 → ⊥
-        go zero i k = omega arith
-        go (suc q) i k = omega arith

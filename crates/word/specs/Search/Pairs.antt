@@ -2,17 +2,19 @@
 -- tell apart; where two states met, no word does.
 use Prim.Native.Nat.{ℕ, zero, suc, _+_, _/_, _%_, _≤_, _<_}
 use mathlib.Core.Path.{_≡_, refl, sym, ap, ap₂, _∙_}
-use mathlib.Core.Bool.{Bool, true, false, true≢false, not, _&&_, and-false}
+use mathlib.Core.Bool.{true, false, true≢false, _&&_, and-false}
+use mathlib.Core.Logic.{inl, inr}
 use mathlib.Core.List.{List, [], _∷_}
 use native.Mathlib.Omega.{arith}
-use borrow.Author.Tests.{eqb-true, eqb-false}
+use native.Mathlib.Nat.{le-of-suc-le-suc, eq-or-lt-of-le}
+use borrow.Author.Tests.{eqb-true, eqb-false, ne-eqb}
 use lib.Arith.{digits-div, digits-mod}
-use lib.Dec.{eqb}
+use Rattle.facts.specs.Tests.{true-or-false}
 use Rattle.facts.specs.FirstString.{Accepted}
 use Rattle.facts.specs.Lists.{Below, below-cons, below-head, below-tail, Each, each-append, append-each}
 use Rattle.machine.specs.Machine.{Mealy, answers, Separates, Proper}
 use Rattle.machine.specs.Machine.Laws.{answers-cons}
-use Rattle.word.specs.Search.{pairOf, one, other, pairsWith, allPairs, alike, moved, keep, after, unmet, isEmpty}
+use Rattle.word.specs.Search.{pairOf, one, other, pairsWith, allPairs, alike, moved, after, unmet, isEmpty}
 
 -- ---- the states of a pair
 pub one-of : (s : ℕ) {t : ℕ} → t < 256 → one (pairOf s t) ≡ s
@@ -33,16 +35,9 @@ module _ (P : ℕ → Type 0) where
   pub with-each : (j m : ℕ) → Each P (pairsWith j m) → (i : ℕ) → i < m → P (pairOf i j)
   unfolding pairsWith
   with-each j zero h i l = let z : ⊥ = omega arith in absurd z
-  with-each j (suc m) h i l = go (eqb i m) refl (append-each P (pairsWith j m) (pairOf m j ∷ []) h)
-      (λ r k. with-each j m r i k)
-    where
-      less : (i ≡ m → ⊥) → i < m
-      less o = omega arith
-
-      go : (t : Bool) → eqb i m ≡ t → Each P (pairsWith j m) × Each P (pairOf m j ∷ [])
-          → (Each P (pairsWith j m) → i < m → P (pairOf i j)) → P (pairOf i j)
-      go true e r again = rw (eqb-true i m e) (r .1 .0)
-      go false e r again = again (r .0) (less (eqb-false i m e))
+  with-each j (suc m) h i l =
+      let r = append-each P (pairsWith j m) (pairOf m j ∷ []) h in
+      elim (eq-or-lt-of-le (le-of-suc-le-suc l)) [ inl q ↦ rw q (r .1 .0) | inr k ↦ with-each j m (r .0) i k ]
 
   -- each pair of states below n
   pub each-all : (n : ℕ) → ((i j : ℕ) → i < j → j < n → P (pairOf i j)) → Each P (allPairs n)
@@ -55,18 +50,12 @@ module _ (P : ℕ → Type 0) where
   pub all-each : (n : ℕ) → Each P (allPairs n) → (i j : ℕ) → i < j → j < n → P (pairOf i j)
   unfolding allPairs
   all-each zero h i j l k = let z : ⊥ = omega arith in absurd z
-  all-each (suc m) h i j l k = go (eqb j m) refl (append-each P (allPairs m) (pairsWith m m) h)
-      (λ r b. all-each m r i j l b)
-    where
-      less : (j ≡ m → ⊥) → j < m
-      less o = omega arith
-
-      go : (t : Bool) → eqb j m ≡ t → Each P (allPairs m) × Each P (pairsWith m m)
-          → (Each P (allPairs m) → j < m → P (pairOf i j)) → P (pairOf i j)
-      go true e r again =
-          let q : j ≡ m = eqb-true j m e in
-          rw q (with-each m m (r .1) i (rw q at l))
-      go false e r again = again (r .0) (less (eqb-false j m e))
+  all-each (suc m) h i j l k =
+      let r = append-each P (allPairs m) (pairsWith m m) h in
+      elim (eq-or-lt-of-le (le-of-suc-le-suc k)) [
+        | inl q ↦ rw q (with-each m m (r .1) i (rw q at l))
+        | inr b ↦ all-each m (r .0) i j l b
+      ]
 
 -- ---- pairs that have not met
 -- the two states of a pair are not the same
@@ -76,20 +65,14 @@ Different p = one p ≡ other p → ⊥
 pub different-unmet : (ps : List ℕ) → Each Different ps → unmet ps ≡ true
 unfolding unmet
 different-unmet [] h = refl
-different-unmet (p ∷ ps) h = go (eqb (one p) (other p)) refl (different-unmet ps (h .1))
-  where
-    go : (t : Bool) → eqb (one p) (other p) ≡ t → unmet ps ≡ true → (not t && unmet ps) ≡ true
-    go true e r = absurd (h .0 (eqb-true (one p) (other p) e))
-    go false e r = r
+different-unmet (p ∷ ps) h = rw (ne-eqb (one p) (other p) (h .0)) (different-unmet ps (h .1))
 
 -- before the first command no pair has met
 pub all-unmet : (n : ℕ) → n ≤ 256 → unmet (allPairs n) ≡ true
 all-unmet n l =
     different-unmet (allPairs n)
-    (each-all Different n (λ i j il jl e. omega (arith, one-of i (below jl), other-of i (below jl), e)))
-  where
-    below : {j : ℕ} → j < n → j < 256
-    below k = omega arith
+    (each-all Different n (λ i j il jl e.
+    let k : j < 256 = omega arith in omega (arith, one-of i k, other-of i k, e)))
 
 -- ---- pairs that a word tells apart
 module _ (M : Mealy) where
@@ -143,68 +126,47 @@ module _ (M : Mealy) where
       pub after-states : (ps : List ℕ) → Each States ps → Each States (after (M .next) (M .answer) ps c)
       unfolding after
       after-states [] h = tt
-      after-states (q ∷ ps) h = go (alike (M .answer) c q) (after-states ps (h .1))
-        where
-          go : (t : Bool) → Each States (after (M .next) (M .answer) ps c)
-              → Each States (keep t (moved (M .next) c q) (after (M .next) (M .answer) ps c))
-          go true r = (moved-states q (h .0), r)
-          go false r = r
+      after-states (q ∷ ps) h = elim (true-or-false (alike (M .answer) c q)) [
+        | inl e ↦ rw e (moved-states q (h .0), after-states ps (h .1))
+        | inr e ↦ rw e (after-states ps (h .1))
+      ]
 
       -- a word with a command in front tells a pair apart where the command does, or the word does behind it
       apart-cons : (w : List ℕ) (q : ℕ) → States q → Apart w (moved (M .next) c q) → Apart (c ∷ w) q
       apart-cons w q h o e =
-          let f = sym (answers-cons M (one q) c w) ∙ e ∙ answers-cons M (other q) c w in
-          o (ap (λ (s : ℕ). answers M s w) (moved-one q h) ∙ rest f
-          ∙ sym (ap (λ (s : ℕ). answers M s w) (moved-other q h)))
-        where
-          rest : (M .answer (one q) c ∷ answers M (M .next (one q) c) w)
-              ≡ (M .answer (other q) c ∷ answers M (M .next (other q) c) w)
-              → answers M (M .next (one q) c) w ≡ answers M (M .next (other q) c) w
-          rest f = cc
+          o (rw (moved-one q h, moved-other q h)
+          (cc (rw (answers-cons M (one q) c w, answers-cons M (other q) c w) at e)))
 
       cons-apart : (w : List ℕ) (q : ℕ) → States q → alike (M .answer) c q ≡ true → Apart (c ∷ w) q
           → Apart w (moved (M .next) c q)
       cons-apart w q h a o e =
-          o (answers-cons M (one q) c w
-          ∙ ap₂ _∷_ (eqb-true (M .answer (one q) c) (M .answer (other q) c) a)
-          (sym (ap (λ (s : ℕ). answers M s w) (moved-one q h)) ∙ e ∙ ap (λ (s : ℕ). answers M s w) (moved-other q h))
-          ∙ sym (answers-cons M (other q) c w))
+          o (rw (answers-cons M (one q) c w, answers-cons M (other q) c w)
+          (ap₂ _∷_ (eqb-true _ _ a) (rw (moved-one q h, moved-other q h) at e)))
 
       -- a command that two states answer differently tells them apart
       differ-apart : (w : List ℕ) (q : ℕ) → alike (M .answer) c q ≡ false → Apart (c ∷ w) q
       differ-apart w q a e =
           eqb-false (M .answer (one q) c) (M .answer (other q) c) a
-          (head (sym (answers-cons M (one q) c w) ∙ e ∙ answers-cons M (other q) c w))
-        where
-          head : (M .answer (one q) c ∷ answers M (M .next (one q) c) w)
-              ≡ (M .answer (other q) c ∷ answers M (M .next (other q) c) w)
-              → M .answer (one q) c ≡ M .answer (other q) c
-          head f = cc
+          (cc (rw (answers-cons M (one q) c w, answers-cons M (other q) c w) at e))
 
       -- a word with a command in front tells pairs apart exactly where it tells those apart that the command leaves
       pub after-apart : (w : List ℕ) (ps : List ℕ) → Each States ps
           → Each (Apart w) (after (M .next) (M .answer) ps c) → Each (Apart (c ∷ w)) ps
       unfolding after
       after-apart w [] h a = tt
-      after-apart w (q ∷ ps) h a = go (alike (M .answer) c q) refl a (λ r. after-apart w ps (h .1) r)
-        where
-          go : (t : Bool) → alike (M .answer) c q ≡ t
-              → Each (Apart w) (keep t (moved (M .next) c q) (after (M .next) (M .answer) ps c))
-              → (Each (Apart w) (after (M .next) (M .answer) ps c) → Each (Apart (c ∷ w)) ps)
-              → Each (Apart (c ∷ w)) (q ∷ ps)
-          go true e b again = (apart-cons w q (h .0) (b .0), again (b .1))
-          go false e b again = (differ-apart w q e, again b)
+      after-apart w (q ∷ ps) h a = elim (true-or-false (alike (M .answer) c q)) [
+        | inl e ↦ (let b = rw e at a in (apart-cons w q (h .0) (b .0), after-apart w ps (h .1) (b .1)))
+        | inr e ↦ (differ-apart w q e, after-apart w ps (h .1) (rw e at a))
+      ]
 
       pub apart-after : (w : List ℕ) (ps : List ℕ) → Each States ps → Each (Apart (c ∷ w)) ps
           → Each (Apart w) (after (M .next) (M .answer) ps c)
       unfolding after
       apart-after w [] h a = tt
-      apart-after w (q ∷ ps) h a = go (alike (M .answer) c q) refl (apart-after w ps (h .1) (a .1))
-        where
-          go : (t : Bool) → alike (M .answer) c q ≡ t → Each (Apart w) (after (M .next) (M .answer) ps c)
-              → Each (Apart w) (keep t (moved (M .next) c q) (after (M .next) (M .answer) ps c))
-          go true e r = (cons-apart w q (h .0) e (a .0), r)
-          go false e r = r
+      apart-after w (q ∷ ps) h a = elim (true-or-false (alike (M .answer) c q)) [
+        | inl e ↦ rw e (cons-apart w q (h .0) e (a .0), apart-after w ps (h .1) (a .1))
+        | inr e ↦ rw e (apart-after w ps (h .1) (a .1))
+      ]
 
     -- ---- accepted words
     -- from pairs of states those words are accepted whose commands are the machine's and which tell all pairs apart
@@ -236,26 +198,16 @@ module _ (M : Mealy) where
 
     -- a word separates the states where it tells all pairs apart
     pub apart-separates : (w : List ℕ) → Each (Apart w) (allPairs (M .n)) → Separates M w
-    apart-separates w h i j il jl e = go (eqb i j) refl
+    apart-separates w h i j il jl e =
+        let a : i < j → ⊥ = λ l. below i j l jl e in
+        let b : j < i → ⊥ = λ l. below j i l il (sym e) in
+        omega arith
       where
         below : (a b : ℕ) → a < b → b < M .n → answers M a w ≡ answers M b w → ⊥
-        below a b l k q =
-            all-each (Apart w) (M .n) h a b l k
-            (ap (λ (s : ℕ). answers M s w) (one-of a (low k)) ∙ q
-            ∙ sym (ap (λ (s : ℕ). answers M s w) (other-of a (low k))))
-
-        equal : (i < j → ⊥) → (j < i → ⊥) → i ≡ j
-        equal a b = omega arith
-
-        go : (t : Bool) → eqb i j ≡ t → i ≡ j
-        go true q = eqb-true i j q
-        go false q = equal (λ l. below i j l jl e) (λ l. below j i l il (sym e))
+        below a b l k q = all-each (Apart w) (M .n) h a b l k (rw (one-of a (low k), other-of a (low k)) q)
 
     pub separates-apart : (w : List ℕ) → Separates M w → Each (Apart w) (allPairs (M .n))
     separates-apart w h =
         each-all (Apart w) (M .n) (λ i j l k e.
-        let q : i ≡ j =
-        h i j (omega arith) k
-        (sym (ap (λ (s : ℕ). answers M s w) (one-of i (low k))) ∙ e
-        ∙ ap (λ (s : ℕ). answers M s w) (other-of i (low k))) in
+        let q : i ≡ j = h i j (omega arith) k (rw (one-of i (low k), other-of i (low k)) at e) in
         omega arith)

@@ -1,6 +1,6 @@
 -- The laws of the search as a service: what each answer says, and that the word gives no cause 5 and no cause 6.
 use Prim.Native.Nat.{ℕ}
-use mathlib.Core.Path.{_≡_, refl, sym, ap, subst, _∙_}
+use mathlib.Core.Path.{_≡_, refl, ap, _∙_}
 use mathlib.Core.Bool.{true}
 use mathlib.Core.List.{List, [], _∷_}
 use mathlib.Core.Option.{Option, none, some, mem-unique}
@@ -11,14 +11,12 @@ use Rattle.facts.specs.FirstOf.{some-none, Seen, nothing, value, seen}
 use Rattle.sheet.specs.declared.check.Check.{Check}
 use Rattle.sheet.specs.declared.check.Check.the-variants.{Clear, Refused}
 use Rattle.sheet.specs.Check.{_else_, firstCause, refusedOr}
-use Rattle.sheet.specs.Check.Laws.{else-clear, else-end}
-use Rattle.sheet.specs.Reader.{recordOf, content}
-use Rattle.machine.specs.Limits.{mostWord}
+use Rattle.sheet.specs.Check.Laws.{else-end}
+use Rattle.sheet.specs.Reader.{machinePayload, wordIn}
 use Rattle.machine.specs.Machine.{Mealy, Proper, Distinguishes}
-use Rattle.machine.specs.Causes.{cause6, machineIn, wordCauses, loadCauses}
-use Rattle.machine.specs.Causes.Laws.{commands-clear}
-use Rattle.machine.specs.Causes.Lists.{load-causes-are, word-causes-are, word-causes-none, machine-proper, machine-same}
-use Rattle.machine.specs.Causes.Separation.{separates-clear}
+use Rattle.machine.specs.Causes.{machineIn, wordCauses, loadCauses}
+use Rattle.machine.specs.Causes.Lists.{load-causes-are, word-causes-none, machine-proper, machine-same}
+use Rattle.machine.specs.Causes.Lists.{distinguishes-clear}
 use Rattle.word.specs.declared.answer.Answer.{Answer}
 use Rattle.word.specs.declared.answer.Answer.the-variants.{Found, Nothing, Refused as RefusedAnswer}
 use Rattle.word.specs.Search.{Eligible, IsSought, search}
@@ -104,28 +102,19 @@ pub record Answered (s : List ℕ) (size : ℕ) : Type 0 where
   pub sought : IsSought (machineIn s) word
 
 pub found-answered : (s : List ℕ) {size : ℕ} → searching s ≡ Found size → Answered s size
-found-answered s {size} e = go (searching-outcome s)
-  where
-    go : Outcome s (searching s) → Answered s size
-    go (refused number place c a o) =
-        let z : RefusedAnswer number place ≡ Found size = sym a ∙ e in
-        let y : _≡_ {A = ℕ} 0 1 = cc in
-        absurd (omega arith)
-    go (missing c h a o) =
-        let z : Nothing ≡ Found size = sym a ∙ e in
-        let y : _≡_ {A = ℕ} 0 1 = cc in
-        absurd (omega arith)
-    go (found w c h a o) =
-        let z : Found (length w) ≡ Found size = sym a ∙ e in
-        let long : length w ≡ size = cc in
-        record {
-          clear = c;
-          word = w;
-          long = long;
-          beside = ap (λ (x : Option (List ℕ)). take size (padded x)) o ∙ take-at w _ size long;
-          found = o;
-          sought = h;
-        }
+found-answered s {size} e = elim (searching-outcome s) [
+  | refused number place c a o ↦ (let y : _≡_ {A = ℕ} 0 1 = cc in absurd (omega arith))
+  | missing c h a o ↦ (let y : _≡_ {A = ℕ} 0 1 = cc in absurd (omega arith))
+  | found w c h a o ↦ (let long : length w ≡ size = cc in
+      record {
+        clear = c;
+        word = w;
+        long = long;
+        beside = ap (λ (x : Option (List ℕ)). take size (padded x)) o ∙ take-at w _ size long;
+        found = o;
+        sought = h;
+      })
+]
 
 -- ---- the word in a sheet
 -- an eligible word is one that every service takes
@@ -135,21 +124,13 @@ eligible-distinguishes M h = record {
   separates = h .separates;
 }
 
--- a sheet with the same record 1, and with the word that was found as record 2, has no cause 5 and no cause 6
-pub found-passes : (s t : List ℕ) {w : List ℕ} → wordFound s ≡ some w → content 1 t ≡ content 1 s → content 2 t ≡ w
+-- a sheet with the same payload of the machine, and with the word that was found, has no cause 5 and no cause 6
+pub found-passes : (s t : List ℕ) {w : List ℕ} → wordFound s ≡ some w → machinePayload t ≡ machinePayload s
+    → wordIn t ≡ w
     → firstCause (wordCauses true t) ≡ Clear
-found-passes s t {w} e one two = go (searching-outcome s)
-  where
-    go : Outcome s (searching s) → firstCause (wordCauses true t) ≡ Clear
-    go (refused number place c a o) = absurd (some-none e o)
-    go (missing c h a o) = absurd (some-none e o)
-    go (found v c h a o) =
-        let d : Distinguishes (machineIn t) (content 2 t) =
-        subst (Distinguishes (machineIn t)) (mem-unique o e ∙ sym two)
-        (subst (λ (M : Mealy). Distinguishes M v) (sym (machine-same s t one))
-        (eligible-distinguishes (machineIn s) (h .has))) in
-        word-causes-are t
-        ∙ ap (λ (x : Check). x else cause6 (machineIn t) (content 2 t))
-        (commands-clear 5 mostWord (machineIn t .k) (recordOf 2 t) (content 2 t) (d .commands))
-        ∙ else-clear (cause6 (machineIn t) (content 2 t))
-        ∙ separates-clear (machineIn t) (content 2 t) (d .separates)
+found-passes s t e one two = elim (searching-outcome s) [
+  | refused number place c a o ↦ absurd (some-none e o)
+  | missing c h a o ↦ absurd (some-none e o)
+  | found v c h a o ↦ distinguishes-clear t (rw (machine-same s t one, two, ← mem-unique o e)
+      (eligible-distinguishes (machineIn s) (h .has)))
+]

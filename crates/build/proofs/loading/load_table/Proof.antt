@@ -6,6 +6,7 @@ use Rattle.build.proofs.TableLoading.{early-connected, proper, eight-co
 use borrow.Author.Needs.{needs}
 use Rattle.build.proofs.loading.load_table.Statement.{statement}
 use Rattle.build.proofs.loading.load_table.Tie as tie
+use Rattle.sheet.specs.Format.{standard}
 
 load-sheet-requires : tie.Need-load-sheet-requires
 load-sheet-requires c κs = search needs
@@ -48,7 +49,7 @@ returns-2 c =
     let early = word .before in
     let load = early .before .before .before in
     let start = load .before .before .before in
-    let same = handed-content _ (start .args .sheet) (word .read .result) (word .read .ensures) in (
+    let same = handed-content standard _ (start .args .sheet) (word .read .result) (word .read .ensures) in (
       eight-connected (now (start .args .sheet)) (load .load-sheet .result) (load .load-sheet .ensures)
           (early .enum-told2 .given .1) same (table .connect .ensures .0),
       λ e. rw (← same) (table .connect .ensures .1 e),

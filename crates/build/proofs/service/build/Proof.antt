@@ -6,6 +6,7 @@ use Rattle.build.proofs.Answering.{front-none, early-refused, write-req
 use borrow.Author.Needs.{needs}
 use Rattle.build.proofs.service.build.Statement.{statement}
 use Rattle.build.proofs.service.build.Tie as tie
+use Rattle.sheet.specs.Format.{standard}
 
 slice-aggregate-load-table : tie.Need-slice-aggregate-load-table
 slice-aggregate-load-table c = search needs
@@ -46,7 +47,7 @@ write-sequence-requires c κs =
     let start = load .before .before .before .before in
     write-required (now (start .args .sheet)) (now (start .args .buffer)) (load .load-table .result)
     (load .load-table .ensures .0) (early .enum-told .given .1) (now (word .read .result))
-    (handed-content _ (start .args .sheet) (word .read .result) (word .read .ensures)) _
+    (handed-content standard _ (start .args .sheet) (word .read .result) (word .read .ensures)) _
     (load .load-table .ensures .1 (early .enum-told .given .1))
 
 refuse-requires : tie.Need-refuse-requires
@@ -69,7 +70,7 @@ returns-2 c =
     let start = load .before .before .before .before in
     nine-refused (now (start .args .sheet)) (now (start .args .buffer)) (load .load-table .result)
     (load .load-table .ensures .0) (early .enum-told .given .1) (now (word .read .result))
-    (handed-content _ (start .args .sheet) (word .read .result) (word .read .ensures))
+    (handed-content standard _ (start .args .sheet) (word .read .result) (word .read .ensures))
     (counted .write-sequence .ensures .ends)
     (front-none (counted .write-sequence .last .1 .1 .1 .0) (now (start .args .buffer))
     (counted .write-sequence .kept .1 .1 .1 .0))
@@ -89,7 +90,7 @@ write-sequence-requires-2 c κs =
     let start = load .before .before .before .before in
     write-required (now (start .args .sheet)) (now (start .args .buffer)) (load .load-table .result)
     (load .load-table .ensures .0) (early .enum-told .given .1) (now (word .read .result))
-    (handed-content _ (start .args .sheet) (word .read .result) (word .read .ensures)) _
+    (handed-content standard _ (start .args .sheet) (word .read .result) (word .read .ensures)) _
     (load .load-table .ensures .1 (early .enum-told .given .1))
 
 same-length-2 : tie.Need-same-length-2
@@ -108,7 +109,7 @@ returns-3 c =
     built (now (start .args .sheet)) (now (start .args .buffer)) (load .load-table .result)
     (load .load-table .ensures .0)
     (early .enum-told .given .1) (now (word .read .result))
-    (handed-content _ (start .args .sheet) (word .read .result) (word .read .ensures))
+    (handed-content standard _ (start .args .sheet) (word .read .result) (word .read .ensures))
     (counted .write-sequence .ensures .ends)
     (front-none (counted .write-sequence .last .1 .1 .1 .0) (now (start .args .buffer))
     (counted .write-sequence .kept .1 .1 .1 .0))

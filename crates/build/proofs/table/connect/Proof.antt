@@ -4,10 +4,10 @@ use Prim.Native.Nat.{_-_, _≤_, _<_}
 use mathlib.Core.Path.{_≡_, refl, sym, _∙_}
 use lib.ListN.{length}
 use denote.Ref.{now}
+use Rattle.facts.specs.Numbers.{below-same, not-below-same}
 use Rattle.sheet.specs.Check.Laws.{clear-refused}
 use Rattle.machine.specs.Machine.{meaning}
 use Rattle.machine.specs.Machine.Laws.{meaning-states}
-use Rattle.build.proofs.Parts.{below, not-below}
 use Rattle.build.proofs.Connecting.{Connecting, connecting-start, connecting-stops, size-low, connecting-on}
 use Rattle.build.proofs.Connecting.{connecting-clear, connecting-filled}
 use borrow.Author.Needs.{needs}
@@ -63,7 +63,7 @@ returns c =
           (end .word-end .result) (to .following .result) (sym (meaning-states (start .args .m)))
           (end .word-end .ensures (start .args .m .n) (start .args .m .start) (start .args .m .answer))
           (to .following .ensures) (found .transfer .ensures) (check .refuse .ensures) (loop .loop .inv .1)
-          (below (sym (meaning-states (start .args .m))) (turn .if1 .taken)) (c .enum-told .given .1),
+          (below-same (sym (meaning-states (start .args .m))) (turn .if1 .taken)) (c .enum-told .given .1),
       λ e. clear-refused e (c .enum-told .given .1),
     )
 
@@ -86,7 +86,7 @@ store-requires c κs =
     let turn = end .before .before in
     let loop = turn .before .before in
     let start = loop .before .before .before .before in (
-      omega (arith, below (sym (meaning-states (start .args .m))) (turn .if1 .taken), start .pre .0 .few-states),
+      omega (arith, below-same (sym (meaning-states (start .args .m))) (turn .if1 .taken), start .pre .0 .few-states),
       (
         size-low (meaning (start .args .m)) (now (start .args .w)) (loop .loop .s) (found .transfer .result)
             (end .word-end .result) (to .following .result) (sym (meaning-states (start .args .m)))
@@ -121,7 +121,7 @@ loop-again c =
           (end .word-end .ensures (start .args .m .n) (start .args .m .start) (start .args .m .answer))
           (to .following .ensures) (found .transfer .ensures) (check .refuse .ensures) (loop .loop .inv .1)
           (start .pre .0) few (clear .enum-told2 .given .1)
-          (below (sym (meaning-states (start .args .m))) (turn .if1 .taken)) (stored .store .ensures),
+          (below-same (sym (meaning-states (start .args .m))) (turn .if1 .taken)) (stored .store .ensures),
     )
 
 same-length-2 : tie.Need-same-length-2 Inv-loop μ-loop
@@ -130,7 +130,7 @@ same-length-2 c = c .before .before .loop .inv .0
 returns-2 : tie.Need-returns-2 Inv-loop μ-loop
 returns-2 c =
     let start = c .before .before .before .before .before .before in
-    let l = not-below (sym (meaning-states (start .args .m))) (c .if1 .left) in (
+    let l = not-below-same (sym (meaning-states (start .args .m))) (c .if1 .left) in (
       connecting-clear (meaning (start .args .m)) (now (start .args .w)) _ (c .before .before .loop .inv .1) l,
       λ e. connecting-filled (meaning (start .args .m)) (now (start .args .w)) _ (c .before .before .loop .inv .1) l,
     )

@@ -4,11 +4,12 @@
 use mathlib.Core.Path.{_≡_, refl, sym, _∙_}
 use lib.ListN.{length}
 use denote.Ref.{now}
+use Rattle.facts.specs.Numbers.{below-same}
 use Rattle.machine.specs.Machine.{meaning}
 use Rattle.machine.specs.Machine.Laws.{meaning-states}
 use Rattle.build.specs.Sequence.Cycle.{gap}
 use Rattle.build.proofs.Parts.{Approaching, approaching-start, approaching-required, approaching-on}
-use Rattle.build.proofs.Parts.{approaching-less, approaching-end, below}
+use Rattle.build.proofs.Parts.{approaching-less, approaching-end}
 use Rattle.build.proofs.writing.approach.Statement.{statement}
 use Rattle.build.proofs.writing.approach.Tie as tie
 
@@ -37,7 +38,7 @@ block-requires c κs =
 following-requires : tie.Need-following-requires Inv-loop μ-loop
 following-requires c κs =
     let start = c .before .before .before .before .before .before .before .before .before in
-    below (meaning-states (start .args .m)) (c .before .before .before .before .before .loop .inv .1 .low)
+    below-same (meaning-states (start .args .m)) (c .before .before .before .before .before .loop .inv .1 .low)
 
 loop-less : tie.Need-loop-less Inv-loop μ-loop
 loop-less c =

@@ -4,10 +4,10 @@ use Prim.Native.Nat.{_+_, _-_}
 use mathlib.Core.Path.{_≡_, refl, sym, _∙_}
 use lib.ListN.{length}
 use denote.Ref.{now}
+use Rattle.facts.specs.Numbers.{below-same}
 use Rattle.machine.specs.Machine.{meaning}
 use Rattle.machine.specs.Machine.Laws.{meaning-states, meaning-start}
 use Rattle.build.proofs.Parts.{Opening, opening-start, opening-low, opening-required, opening-on, opening-end}
-use Rattle.build.proofs.Parts.{below}
 use borrow.Author.Needs.{needs}
 use native.Mathlib.Omega.{arith}
 use Rattle.build.proofs.writing.opening.Statement.{statement}
@@ -38,7 +38,7 @@ block-requires c κs =
 following-requires : tie.Need-following-requires Inv-loop μ-loop
 following-requires c κs =
     let start = c .before .before .before .before .before .before .before .before .before .before in
-    below (meaning-states (start .args .m))
+    below-same (meaning-states (start .args .m))
     (opening-low (meaning (start .args .m)) (now (start .args .w)) (now (start .args .rows)) (now (start .args .buffer))
     (start .pre) (c .before .before .before .before .before .before .loop .inv .1))
 

@@ -4,10 +4,11 @@ use Prim.Native.Nat.{_-_}
 use mathlib.Core.Path.{_≡_, refl, sym, _∙_}
 use lib.ListN.{length}
 use denote.Ref.{now}
+use Rattle.facts.specs.Numbers.{below-same, not-below-same}
 use Rattle.machine.specs.Machine.{meaning}
 use Rattle.machine.specs.Machine.Laws.{meaning-commands}
 use Rattle.build.proofs.Parts.{TestingState, testing-state-start, testing-state-required, testing-state-on}
-use Rattle.build.proofs.Parts.{testing-state-end, below, not-below}
+use Rattle.build.proofs.Parts.{testing-state-end}
 use borrow.Author.Needs.{needs}
 use Rattle.build.proofs.writing.state_tests.Statement.{statement}
 use Rattle.build.proofs.writing.state_tests.Tie as tie
@@ -31,7 +32,7 @@ loop-holds c =
 test-requires : tie.Need-test-requires Inv-loop μ-loop
 test-requires c κs =
     let start = c .before .before .before .before .before .before .before in
-    let cl = below (sym (meaning-commands (start .args .m))) (c .before .if1 .taken) in (
+    let cl = below-same (sym (meaning-commands (start .args .m))) (c .before .if1 .taken) in (
       testing-state-required (meaning (start .args .m)) (now (start .args .w)) (now (start .args .rows))
           (now (start .args .buffer)) (start .args .from) (start .pre .0 .write-requires) (start .args .s)
           (start .pre .1) (c .before .before .before .loop .inv .1) cl,
@@ -47,7 +48,7 @@ loop-less c = search needs
 loop-again : tie.Need-loop-again Inv-loop μ-loop
 loop-again c =
     let start = c .before .before .before .before .before .before .before .before .before .before in
-    let cl = below (sym (meaning-commands (start .args .m))) (c .before .before .before .before .if1 .taken) in (
+    let cl = below-same (sym (meaning-commands (start .args .m))) (c .before .before .before .before .if1 .taken) in (
       c .before .before .test .kept .1 .1 .1 .1 .1 .1 .0
           ∙ c .before .before .before .before .before .before .loop .inv .0,
       testing-state-on (meaning (start .args .m)) (now (start .args .w)) (now (start .args .rows))
@@ -64,7 +65,7 @@ returns c =
     let start = c .before .before .before .before .before .before in
     testing-state-end (meaning (start .args .m)) (now (start .args .w)) (now (start .args .rows))
     (now (start .args .buffer)) (start .args .from) (start .pre .0 .write-requires) (start .args .s) (start .pre .1)
-    (c .before .before .loop .inv .1) (not-below (sym (meaning-commands (start .args .m))) (c .if1 .left))
+    (c .before .before .loop .inv .1) (not-below-same (sym (meaning-commands (start .args .m))) (c .if1 .left))
 
 pub state-tests-spec : {M : Type 1} → statement M
 state-tests-spec =

@@ -2,9 +2,10 @@
 -- Assumes nothing.
 use mathlib.Core.Path.{sym}
 use denote.Ref.{now}
+use Rattle.facts.specs.Numbers.{below-same}
 use Rattle.machine.specs.Machine.{meaning}
 use Rattle.machine.specs.Machine.Laws.{meaning-states, tabled-next}
-use Rattle.build.proofs.Parts.{command-room, led-low, led-required, test-moves, approach-required, below}
+use Rattle.build.proofs.Parts.{command-room, led-low, led-required, test-moves, approach-required}
 use borrow.Author.Needs.{needs}
 use Rattle.build.proofs.writing.test.Statement.{statement}
 use Rattle.build.proofs.writing.test.Tie as tie
@@ -55,7 +56,7 @@ following-requires c κs =
     let start =
     c .before .before .before .before .before .before .before .before .before .before .before .before .before .before
     .before .before .before .before .before .before in
-    below (meaning-states (start .args .m))
+    below-same (meaning-states (start .args .m))
     (led-low (meaning (start .args .m)) (now (start .args .w)) (now (start .args .rows)) (start .pre .0 .write-requires)
     (start .pre .0) (start .pre .1 .0) (start .pre .1 .1)
     (tabled-next (start .args .m .n) (start .args .m .k) (start .args .m .start) (start .args .m .next)

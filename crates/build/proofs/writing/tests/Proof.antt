@@ -4,10 +4,10 @@ use Prim.Native.Nat.{_-_}
 use mathlib.Core.Path.{_≡_, refl, sym, _∙_}
 use lib.ListN.{length}
 use denote.Ref.{now}
+use Rattle.facts.specs.Numbers.{below-same, not-below-same}
 use Rattle.machine.specs.Machine.{meaning}
 use Rattle.machine.specs.Machine.Laws.{meaning-states}
-use Rattle.build.proofs.Parts.{Testing, testing-start, testing-required, testing-on, testing-end, below}
-use Rattle.build.proofs.Parts.{not-below}
+use Rattle.build.proofs.Parts.{Testing, testing-start, testing-required, testing-on, testing-end}
 use borrow.Author.Needs.{needs}
 use Rattle.build.proofs.writing.tests.Statement.{statement}
 use Rattle.build.proofs.writing.tests.Tie as tie
@@ -30,7 +30,7 @@ loop-holds c =
 state-tests-requires : tie.Need-state-tests-requires Inv-loop μ-loop
 state-tests-requires c κs =
     let start = c .before .before .before .before .before .before .before in
-    let sl = below (sym (meaning-states (start .args .m))) (c .before .if1 .taken) in (
+    let sl = below-same (sym (meaning-states (start .args .m))) (c .before .if1 .taken) in (
       testing-required (meaning (start .args .m)) (now (start .args .w)) (now (start .args .rows))
           (now (start .args .buffer)) (start .args .from) (start .pre .write-requires)
           (c .before .before .before .loop .inv .1) sl,
@@ -46,7 +46,7 @@ loop-less c = search needs
 loop-again : tie.Need-loop-again Inv-loop μ-loop
 loop-again c =
     let start = c .before .before .before .before .before .before .before .before .before .before in
-    let sl = below (sym (meaning-states (start .args .m))) (c .before .before .before .before .if1 .taken) in (
+    let sl = below-same (sym (meaning-states (start .args .m))) (c .before .before .before .before .if1 .taken) in (
       c .before .before .state-tests .kept .1 .1 .1 .1 .1 .0
           ∙ c .before .before .before .before .before .before .loop .inv .0,
       testing-on (meaning (start .args .m)) (now (start .args .w)) (now (start .args .rows)) (now (start .args .buffer))
@@ -63,7 +63,7 @@ returns c =
     let start = c .before .before .before .before .before .before in
     testing-end (meaning (start .args .m)) (now (start .args .w)) (now (start .args .rows)) (now (start .args .buffer))
     (start .args .from) (start .pre .write-requires) (c .before .before .loop .inv .1)
-    (not-below (sym (meaning-states (start .args .m))) (c .if1 .left))
+    (not-below-same (sym (meaning-states (start .args .m))) (c .if1 .left))
 
 pub tests-spec : {M : Type 1} → statement M
 tests-spec =

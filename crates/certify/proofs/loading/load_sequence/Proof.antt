@@ -6,6 +6,7 @@ use Rattle.sheet.specs.Reader.Laws.{handed-content}
 use Rattle.certify.proofs.SequenceLoading.{sequence-loaded}
 use Rattle.certify.proofs.loading.load_sequence.Statement.{statement}
 use Rattle.certify.proofs.loading.load_sequence.Tie as tie
+use Rattle.sheet.specs.Format.{standard}
 
 load-sheet-requires : tie.Need-load-sheet-requires
 load-sheet-requires c κs = search needs
@@ -33,7 +34,7 @@ returns c =
     let start = c .before .before .before .before .before .before .before .before in
     sequence-loaded (start .args .answers) (start .args .room) (now (start .args .sheet))
     (c .before .before .before .before .before .before .load-sheet .ensures)
-    (handed-content _ (start .args .sheet) (c .before .before .before .before .read .result)
+    (handed-content standard _ (start .args .sheet) (c .before .before .before .before .read .result)
     (c .before .before .before .before .read .ensures))
     (c .before .before .before .commands .ensures) (c .before .before .refuse .ensures) (c .before .first-of .ensures)
     (c .first-of2 .ensures)

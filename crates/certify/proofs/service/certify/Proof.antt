@@ -10,6 +10,7 @@ use Rattle.sheet.specs.Reader.Laws.{handed-content}
 use Rattle.certify.proofs.Answering.{certifies-refused, certifies-clear}
 use Rattle.certify.proofs.service.certify.Statement.{statement}
 use Rattle.certify.proofs.service.certify.Tie as tie
+use Rattle.sheet.specs.Format.{standard}
 
 load-sequence-requires : tie.Need-load-sequence-requires
 load-sequence-requires c κs = search needs
@@ -40,7 +41,7 @@ slice-relend-prefix-recognise c =
     let start = c .before .before .before .before .before .before .before .before in
     let h = c .before .before .before .before .before .load-sequence .ensures in
     let clear = c .before .before .enum-told .given .1 in
-    let xe = handed-content _ (start .args .sheet) (c .read2 .result) (c .read2 .ensures) in
+    let xe = handed-content standard _ (start .args .sheet) (c .read2 .result) (c .read2 .ensures) in
     let room : length (now (c .read2 .result)) + 1 ≤ length (now (start .args .marks)) = rw xe (h .fits clear) in
     search needs
 
@@ -49,7 +50,7 @@ slice-aggregate-recognise c =
     let start = c .before .before .before .before .before .before .before .before .before in
     let h = c .before .before .before .before .before .before .load-sequence .ensures in
     let clear = c .before .before .before .enum-told .given .1 in
-    let xe = handed-content _ (start .args .sheet) (c .before .read2 .result) (c .before .read2 .ensures) in
+    let xe = handed-content standard _ (start .args .sheet) (c .before .read2 .result) (c .before .read2 .ensures) in
     sym (length-take-le _ (now (start .args .marks)) (rw xe (h .fits clear)))
 
 recognise-requires : tie.Need-recognise-requires
@@ -57,7 +58,7 @@ recognise-requires c κs =
     let start = c .before .before .before .before .before .before .before .before .before in
     let h = c .before .before .before .before .before .before .load-sequence .ensures in
     let clear = c .before .before .before .enum-told .given .1 in
-    let xe = handed-content _ (start .args .sheet) (c .before .read2 .result) (c .before .read2 .ensures) in
+    let xe = handed-content standard _ (start .args .sheet) (c .before .read2 .result) (c .before .read2 .ensures) in
     (h .proper clear, (rw xe (h .commands clear), length-take-le _ _ (rw xe (h .fits clear))))
 
 same-length : tie.Need-same-length
@@ -74,10 +75,10 @@ returns-2 c =
     let h = c .before .before .before .before .before .before .before .before .before .load-sequence .ensures in
     let clear = c .before .before .before .before .before .before .enum-told .given .1 in
     let xe =
-    handed-content _ (start .args .sheet) (c .before .before .before .before .read2 .result)
+    handed-content standard _ (start .args .sheet) (c .before .before .before .before .read2 .result)
     (c .before .before .before .before .read2 .ensures) in
     certifies-clear (now (start .args .sheet)) (now (start .args .marks)) (h .check) clear (h .machine clear)
-    (handed-content _ (start .args .sheet) (c .before .before .before .before .before .read .result)
+    (handed-content standard _ (start .args .sheet) (c .before .before .before .before .before .read .result)
     (c .before .before .before .before .before .read .ensures)) xe
     (c .before .before .recognise .ensures .0) (c .before .before .recognise .ensures .1) refl
 

@@ -6,8 +6,8 @@ use Prim.Native.Nat.{ℕ, _-_, _<_}
 use mathlib.Core.Path.{_≡_, refl, _∙_}
 use lib.Dec.{ltb}
 use lib.ListN.{length, getD, length-set}
+use Rattle.facts.specs.Lists.{set-more}
 use Rattle.certify.specs.Marks.{mark}
-use Rattle.certify.proofs.Words.{begun-on}
 use Rattle.certify.proofs.word.begin.Statement.{statement}
 use Rattle.certify.proofs.word.begin.Tie as tie
 
@@ -37,8 +37,8 @@ loop-again : tie.Need-loop-again Inv-loop μ-loop
 loop-again c =
     let head = c .before .before .loop in (
       length-set (head .marks) (head .p) (c .bit .result) ∙ head .inv .0,
-      begun-on (head .marks) (head .p) (c .bit .result) (c .before .before .before .before .args .count)
-          (c .before .loop-test .taken) (head .inv .1) (c .bit .ensures),
+      set-more (λ q x. x ≡ mark (ltb q (c .before .before .before .before .args .count))) (head .marks) (head .p)
+          (c .bit .result) (c .before .loop-test .taken) (head .inv .1) (c .bit .ensures),
     )
 
 same-length : tie.Need-same-length Inv-loop μ-loop

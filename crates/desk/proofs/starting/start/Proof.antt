@@ -7,6 +7,7 @@ use Rattle.desk.proofs.Beginning.{end-small, starts-clear, starts-refus
 use borrow.Author.Needs.{needs}
 use Rattle.desk.proofs.starting.start.Statement.{statement}
 use Rattle.desk.proofs.starting.start.Tie as tie
+use Rattle.sheet.specs.Format.{standard}
 
 load-connected-requires : tie.Need-load-connected-requires
 load-connected-requires c κs = search needs
@@ -45,7 +46,8 @@ returns c =
     let put = c .before .before .before .before .before in
     starts-clear (now (start .args .sheet)) (load .load-connected .result) (load .load-connected .ensures) _
     (now (put .before .before .read .result)) refl
-    (handed-content _ (start .args .sheet) (put .before .before .read .result) (put .before .before .read .ensures)) _
+    (handed-content standard _ (start .args .sheet) (put .before .before .read .result)
+    (put .before .before .read .ensures)) _
     (put .put .ensures .0)
     _ (put .put .ensures .1) _ _ (c .before .before .byte .ensures) (c .enum-told .given .1)
 
@@ -56,7 +58,8 @@ returns-2 c =
     let put = c .before .before .before .before .before .before in
     starts-refused (now (start .args .sheet)) (load .load-connected .result) (load .load-connected .ensures) _
     (now (put .before .before .read .result)) refl
-    (handed-content _ (start .args .sheet) (put .before .before .read .result) (put .before .before .read .ensures)) _
+    (handed-content standard _ (start .args .sheet) (put .before .before .read .result)
+    (put .before .before .read .ensures)) _
     (put .put .ensures .0) _ (put .put .ensures .1) _ _ (c .before .before .before .byte .ensures)
     (c .before .check .given .1)
 

@@ -8,7 +8,7 @@ use mathlib.Core.List.{List}
 use lib.ListN.{length}
 use Rattle.sheet.specs.declared.check.Check.the-variants.{Clear}
 use Rattle.sheet.specs.Check.{firstCause}
-use Rattle.sheet.specs.Reader.{content}
+use Rattle.sheet.specs.Reader.{sequenceIn, answersIn}
 use Rattle.sheet.specs.Reader.Laws.{handed-content}
 use Rattle.judge.specs.Judging.{judgeCauses}
 use Rattle.judge.specs.Judging.Laws.{marking-clear}
@@ -16,6 +16,7 @@ use Rattle.judge.proofs.Answering.{checks-are, few-here, promised, judg
 use Rattle.judge.proofs.Answering.{judges-refused-there}
 use Rattle.judge.proofs.service.judge.Statement.{statement}
 use Rattle.judge.proofs.service.judge.Tie as tie
+use Rattle.sheet.specs.Format.{standard}
 
 load-sequence-requires : tie.Need-load-sequence-requires
 load-sequence-requires c κs = search needs
@@ -45,14 +46,14 @@ sheet d = now (d .before .before .before .before .before .before .before .before
 abbrev buffer : tie.After-first-of → List ℕ
 buffer d = now (d .before .before .before .before .before .before .before .before .args .marks)
 
-sequence-is : (d : tie.After-first-of) → now (d .before .before .before .read .result) ≡ content 3 (sheet d)
+sequence-is : (d : tie.After-first-of) → now (d .before .before .before .read .result) ≡ sequenceIn (sheet d)
 sequence-is d =
-    handed-content _ (d .before .before .before .before .before .before .before .before .args .sheet)
+    handed-content standard _ (d .before .before .before .before .before .before .before .before .args .sheet)
     (d .before .before .before .read .result) (d .before .before .before .read .ensures)
 
-answers-are : (d : tie.After-first-of) → now (d .before .before .read2 .result) ≡ content 4 (sheet d)
+answers-are : (d : tie.After-first-of) → now (d .before .before .read2 .result) ≡ answersIn (sheet d)
 answers-are d =
-    handed-content _ (d .before .before .before .before .before .before .before .before .args .sheet)
+    handed-content standard _ (d .before .before .before .before .before .before .before .before .args .sheet)
     (d .before .before .read2 .result) (d .before .before .read2 .ensures)
 
 check-is : (d : tie.After-first-of) → d .first-of .result ≡ firstCause (judgeCauses (length (buffer d)) (sheet d))

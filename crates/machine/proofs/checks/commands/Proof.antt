@@ -3,10 +3,12 @@
 use native.Mathlib.Omega.{arith}
 use borrow.Author.Needs.{needs}
 use denote.Ref.{now}
+use mathlib.Core.List.{[], _∷_}
 use Rattle.sheet.specs.Reader.Laws.{handed-content}
 use Rattle.machine.proofs.LoadChecks.{read-inside, commands-are}
 use Rattle.machine.proofs.checks.commands.Statement.{statement}
 use Rattle.machine.proofs.checks.commands.Tie as tie
+use Rattle.sheet.specs.Format.{standard}
 
 record-of-requires : tie.Need-record-of-requires
 record-of-requires c κs = search needs
@@ -25,8 +27,9 @@ add-scan c =
     let start = c .before .before .before .before .before .before in
     omega (
       arith,
-      read-inside (start .args .kind) (now (start .args .sheet)) (c .before .before .before .before .record-of .ensures)
-          (handed-content _ (start .args .sheet) (c .before .before .before .read .result)
+      read-inside (start .args .kind ∷ []) (now (start .args .sheet))
+          (c .before .before .before .before .record-of .ensures)
+          (handed-content standard _ (start .args .sheet) (c .before .before .before .read .result)
           (c .before .before .before .read .ensures)),
     )
 
@@ -35,8 +38,9 @@ scan-requires c κs =
     let start = c .before .before .before .before .before .before in
     omega (
       arith,
-      read-inside (start .args .kind) (now (start .args .sheet)) (c .before .before .before .before .record-of .ensures)
-          (handed-content _ (start .args .sheet) (c .before .before .before .read .result)
+      read-inside (start .args .kind ∷ []) (now (start .args .sheet))
+          (c .before .before .before .before .record-of .ensures)
+          (handed-content standard _ (start .args .sheet) (c .before .before .before .read .result)
           (c .before .before .before .read .ensures)),
     )
 
@@ -46,9 +50,9 @@ first-of-requires c κs = search needs
 returns : tie.Need-returns
 returns c =
     let start = c .before .before .before .before .before .before .before .before in
-    commands-are _ _ _ (start .args .kind) (now (start .args .sheet))
+    commands-are _ _ _ (start .args .kind ∷ []) (now (start .args .sheet))
     (c .before .before .before .before .before .before .record-of .ensures)
-    (handed-content _ (start .args .sheet) (c .before .before .before .before .before .read .result)
+    (handed-content standard _ (start .args .sheet) (c .before .before .before .before .before .read .result)
     (c .before .before .before .before .before .read .ensures))
     (c .before .before .before .before .outside .ensures) (c .before .before .before .refuse .ensures)
     (c .before .scan .ensures) (c .first-of .ensures)

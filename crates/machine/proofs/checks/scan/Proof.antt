@@ -9,7 +9,7 @@ use Rattle.sheet.specs.Check.{first}
 use Rattle.sheet.specs.Check.Laws.{first-none, first-stops, first-goes-on, first-ends}
 use Rattle.machine.specs.Causes.{byteCause}
 use Rattle.machine.specs.Causes.Laws.{byte-check-is}
-use Rattle.machine.proofs.Products.{index-fits}
+use Rattle.facts.specs.Numbers.{index-fits}
 use Rattle.machine.proofs.checks.scan.Statement.{statement}
 use Rattle.machine.proofs.checks.scan.Tie as tie
 

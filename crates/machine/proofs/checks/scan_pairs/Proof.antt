@@ -3,7 +3,7 @@
 use native.Mathlib.Omega.{arith}
 use borrow.Author.Needs.{needs}
 use denote.Ref.{now}
-use Rattle.machine.proofs.Products.{bytes-product}
+use Rattle.facts.specs.Numbers.{bytes-product}
 use Rattle.machine.proofs.LoadChecks.{pairs-are}
 use Rattle.machine.proofs.checks.scan_pairs.Statement.{statement}
 use Rattle.machine.proofs.checks.scan_pairs.Tie as tie

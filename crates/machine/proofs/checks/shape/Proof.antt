@@ -3,10 +3,11 @@
 use native.Mathlib.Omega.{arith}
 use borrow.Author.Needs.{needs}
 use mathlib.Core.Path.{_∙_}
-use Rattle.machine.proofs.Products.{bytes-product}
+use Rattle.facts.specs.Numbers.{bytes-product}
 use Rattle.machine.specs.Causes.Laws.{cause3-is}
 use Rattle.machine.proofs.checks.shape.Statement.{statement}
 use Rattle.machine.proofs.checks.shape.Tie as tie
+use Rattle.sheet.specs.Format.{standard}
 
 byte-requires : tie.Need-byte-requires
 byte-requires c κs = search needs
@@ -53,7 +54,8 @@ refuse-requires c κs = search needs
 returns : tie.Need-returns
 returns c =
     c .refuse .ensures
-    ∙ cause3-is _ _ (c .before .before .before .before .byte .ensures) (c .before .before .before .byte2 .ensures)
+    ∙ cause3-is standard _ _ (c .before .before .before .before .byte .ensures)
+    (c .before .before .before .byte2 .ensures)
     (c .before .before .outside .ensures) (c .before .outside2 .ensures)
 
 pub shape-spec : {M : Type 1} → statement M

@@ -16,6 +16,9 @@ byte-requires c κs = search needs
 scan-pairs-requires : tie.Need-scan-pairs-requires
 scan-pairs-requires c κs = search needs
 
+add-scan-pairs : tie.Need-add-scan-pairs
+add-scan-pairs c = search needs
+
 scan-pairs-requires-2 : tie.Need-scan-pairs-requires-2
 scan-pairs-requires-2 c κs = search needs
 
@@ -41,6 +44,7 @@ table-spec =
     shape-requires
     byte-requires
     scan-pairs-requires
+    add-scan-pairs
     scan-pairs-requires-2
     first-of-requires
     first-of-requires-2

@@ -7,6 +7,7 @@ use Rattle.machine.specs.Causes.Lists.{held-loaded}
 use Rattle.machine.proofs.LoadChecks.{loaded-from}
 use Rattle.machine.proofs.loading.load_sheet.Statement.{statement}
 use Rattle.machine.proofs.loading.load_sheet.Tie as tie
+use Rattle.sheet.specs.Format.{standard}
 
 read-requires : tie.Need-read-requires
 read-requires c κs = search needs
@@ -18,14 +19,16 @@ all-checks-requires : tie.Need-all-checks-requires
 all-checks-requires c κs =
     let start = c .before .before .before in
     held-loaded (now (start .args .sheet))
-    (handed-content _ (start .args .sheet) (c .before .read .result) (c .before .read .ensures)) (c .load .ensures)
+    (handed-content standard _ (start .args .sheet) (c .before .read .result) (c .before .read .ensures))
+    (c .load .ensures)
 
 returns : tie.Need-returns
 returns c =
     let start = c .before .before .before .before in
     loaded-from (start .args .needs) (now (start .args .sheet)) _ (c .all-checks .ensures)
     (held-loaded (now (start .args .sheet))
-    (handed-content _ (start .args .sheet) (c .before .before .read .result) (c .before .before .read .ensures))
+    (handed-content standard _ (start .args .sheet) (c .before .before .read .result)
+    (c .before .before .read .ensures))
     (c .before .load .ensures))
 
 pub load-sheet-spec : {M : Type 1} → statement M

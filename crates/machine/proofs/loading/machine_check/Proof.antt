@@ -7,6 +7,7 @@ use Rattle.sheet.specs.Reader.Laws.{handed-content}
 use Rattle.machine.proofs.LoadChecks.{read-inside, machine-are}
 use Rattle.machine.proofs.loading.machine_check.Statement.{statement}
 use Rattle.machine.proofs.loading.machine_check.Tie as tie
+use Rattle.sheet.specs.Format.{standard}
 
 checks-requires : tie.Need-checks-requires
 checks-requires c κs = search needs
@@ -22,8 +23,8 @@ table-requires c κs =
     let start = c .before .before .before .before in
     omega (
       arith,
-      read-inside 1 (now (start .args .sheet)) (c .before .record-of .ensures)
-          (handed-content _ (start .args .sheet) (c .read .result) (c .read .ensures)),
+      read-inside (standard .machine) (now (start .args .sheet)) (c .before .record-of .ensures)
+          (handed-content standard _ (start .args .sheet) (c .read .result) (c .read .ensures)),
     )
 
 first-of-requires : tie.Need-first-of-requires
@@ -34,7 +35,8 @@ returns c =
     let start = c .before .before .before .before .before .before in
     machine-are (start .args .needs) (now (start .args .sheet)) (c .before .before .before .before .checks .ensures)
     (c .before .before .before .record-of .ensures)
-    (handed-content _ (start .args .sheet) (c .before .before .read .result) (c .before .before .read .ensures))
+    (handed-content standard _ (start .args .sheet) (c .before .before .read .result)
+    (c .before .before .read .ensures))
     (c .before .table .ensures) (c .first-of .ensures)
 
 pub machine-check-spec : {M : Type 1} → statement M

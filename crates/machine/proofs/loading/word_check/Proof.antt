@@ -6,6 +6,7 @@ use Rattle.sheet.specs.Reader.Laws.{handed-content}
 use Rattle.machine.proofs.LoadChecks.{word-stops, word-goes-on, word-off, word-on}
 use Rattle.machine.proofs.loading.word_check.Statement.{statement}
 use Rattle.machine.proofs.loading.word_check.Tie as tie
+use Rattle.sheet.specs.Format.{standard}
 
 commands-requires : tie.Need-commands-requires
 commands-requires c κs = search needs
@@ -36,7 +37,7 @@ returns-2 c =
     word-on s (c .before .before .before .before .before .if1 .taken)
     (word-goes-on s (start .args .m) (start .pre) (c .before .before .before .before .commands .ensures)
     (c .before .before .enum-told2 .given .1)
-    (handed-content _ (start .args .sheet) (c .before .read .result) (c .before .read .ensures))
+    (handed-content standard _ (start .args .sheet) (c .before .read .result) (c .before .read .ensures))
     (c .separation .ensures))
 
 returns-3 : tie.Need-returns-3

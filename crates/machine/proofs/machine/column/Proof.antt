@@ -6,8 +6,8 @@ use Prim.Native.Nat.{ℕ, _+_, _*_, _-_, _≤_, _<_}
 use mathlib.Core.Path.{_≡_, refl}
 use lib.ListN.{length, getD, length-set}
 use denote.Ref.{now}
+use Rattle.facts.specs.Lists.{set-more}
 use Rattle.machine.specs.Limits.{mostEntries}
-use Rattle.machine.proofs.Columns.{column-more}
 use Rattle.machine.proofs.machine.column.Statement.{statement}
 use Rattle.machine.proofs.machine.column.Tie as tie
 
@@ -45,9 +45,8 @@ loop-again c =
     let head = c .before .before .loop in (
       search needs,
       simp length-set (head .inv .1),
-      column-more (head .cells) (λ (j : ℕ). getD (now (start .args .p)) (start .args .from + 2 * j) 0) (head .e)
-          (c .byte .result) (search needs) (head .inv .2)
-          (c .byte .ensures),
+      set-more (λ j x. x ≡ getD (now (start .args .p)) (start .args .from + 2 * j) 0) (head .cells) (head .e)
+          (c .byte .result) (search needs) (head .inv .2) (c .byte .ensures),
     )
 
 returns : tie.Need-returns Inv-loop μ-loop

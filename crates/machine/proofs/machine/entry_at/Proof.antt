@@ -2,7 +2,7 @@
 -- Assumes nothing.
 use native.Mathlib.Omega.{arith}
 use borrow.Author.Needs.{needs}
-use Rattle.machine.proofs.Products.{bytes-product}
+use Rattle.facts.specs.Numbers.{bytes-product}
 use Rattle.machine.proofs.machine.entry_at.Statement.{statement}
 use Rattle.machine.proofs.machine.entry_at.Tie as tie
 

@@ -3,6 +3,7 @@
 use borrow.Author.Needs.{needs}
 use native.Mathlib.Omega.{arith}
 use mathlib.Core.Path.{sym, ap, _∙_}
+use mathlib.Core.List.{[], _∷_}
 use denote.Ref.{now}
 use lib.ListN.{length}
 use Rattle.sheet.specs.Reader.Laws.{handed-content}
@@ -13,6 +14,7 @@ use Rattle.report.proofs.Putting.{puts-same, prints-line}
 use Rattle.report.proofs.Making.{writes-output}
 use Rattle.report.proofs.services.read_record.Statement.{statement}
 use Rattle.report.proofs.services.read_record.Tie as tie
+use Rattle.sheet.specs.Format.{standard}
 
 refusal-requires : tie.Need-refusal-requires
 refusal-requires c κs = search needs
@@ -28,8 +30,8 @@ put-requires c κs =
     let start = c .before .before .before .before .before .before in
     let clear =
     sym (c .before .before .before .before .refusal .ensures .is) ∙ c .before .before .enum-told .given .1 in
-    let short = read-short (start .args .kind) (now (start .args .sheet)) clear in
-    let handed = handed-content _ (start .args .sheet) (c .before .read .result) (c .before .read .ensures) in
+    let short = read-short (start .args .kind ∷ []) (now (start .args .sheet)) clear in
+    let handed = handed-content standard _ (start .args .sheet) (c .before .read .result) (c .before .read .ensures) in
     omega (arith, short, ap length handed)
 
 enum-known-check : tie.Need-enum-known-check
@@ -45,7 +47,8 @@ returns c =
     sym (c .before .before .before .before .before .refusal .ensures .is)
     ∙ c .before .before .before .enum-told .given .1 in
     let handed =
-    handed-content _ (start .args .sheet) (c .before .before .read .result) (c .before .before .read .ensures) in
+    handed-content standard _ (start .args .sheet) (c .before .before .read .result)
+    (c .before .before .read .ensures) in
     writes-output _ (read-clear (now (start .args .sheet)) (start .args .kind) clear)
     (prints-line _ (puts-same handed (c .put .ensures)))
 

@@ -4,14 +4,15 @@ use borrow.Author.Needs.{needs}
 use native.Mathlib.Omega.{arith}
 use Prim.Native.Nat.{ℕ}
 use mathlib.Core.Path.{refl, ap}
-use mathlib.Core.List.{List, _++_}
-use Rattle.sheet.specs.Writing.{recordBytes}
+use mathlib.Core.List.{List, [], _∷_}
+use Rattle.sheet.specs.Format.{standard}
+use Rattle.sheet.specs.Joining.{joined, fresh}
 use Rattle.sheet.specs.Writing.Laws.{record-size}
 use Rattle.machine.specs.House.{houseWord}
 use Rattle.report.specs.Sheets.{houseSheet}
 use Rattle.report.specs.Services.{houseWritten}
-use Rattle.report.proofs.Putting.{puts-append, puts-same, prints-line}
-use Rattle.report.proofs.Making.{writes-output}
+use Rattle.report.proofs.Putting.{puts-same, prints-line}
+use Rattle.report.proofs.Making.{puts-more, puts-last, writes-output}
 use Rattle.report.proofs.sheets.house_sheet.Statement.{statement}
 use Rattle.report.proofs.sheets.house_sheet.Tie as tie
 
@@ -39,9 +40,12 @@ returns : tie.Need-returns
 unfolding houseWritten houseSheet
 returns c =
     let payload = c .before .before .before .before .before .before .house-payload in
+    let word = fresh (standard .word) houseWord in
     writes-output houseSheet refl (prints-line houseSheet
-    (puts-same (ap (λ (p : List ℕ). recordBytes 1 p ++ recordBytes 2 houseWord) (payload .ensures))
-    (puts-append _ _ (c .before .before .before .put-record .ensures) (c .put-record2 .ensures))))
+    (puts-same (ap (λ (p : List ℕ). joined (fresh (standard .machine) p ∷ word ∷ [])) (payload .ensures))
+    (puts-more (fresh (standard .machine) (payload .result)) (word ∷ [])
+    (c .before .before .before .put-record .ensures)
+    (puts-last word (c .put-record2 .ensures)))))
 
 pub house-sheet-spec : {M : Type 1} → statement M
 house-sheet-spec =

@@ -6,14 +6,14 @@ use borrow.Author.Needs.{needs}
 use Prim.Native.Nat.{ℕ, _+_, _-_, _≤_}
 use denote.Ref.{now}
 use mathlib.Core.Path.{sym, _∙_}
-use mathlib.Core.List.{List}
+use mathlib.Core.List.{List, [], _∷_}
 use lib.ListN.{length}
 use Rattle.sheet.proofs.Parsing.{Head, Turn, head-start, head-end, head-stop, turn-inside, turn-next}
 use Rattle.sheet.proofs.parse.parse.Statement.{statement}
 use Rattle.sheet.proofs.parse.parse.Tie as tie
 
 abbrev Inv-loop : tie.InvT-loop
-Inv-loop s kind at₀ last₀ found₀ at last found = Head s kind at last found
+Inv-loop s kind at₀ last₀ found₀ at last found = Head s (kind ∷ []) at last found
 
 abbrev μ-loop : tie.MeasureT-loop
 μ-loop s kind at₀ last₀ found₀ at last found = length s - at
@@ -60,7 +60,8 @@ abbrev bytes : tie.After-rank Inv-loop μ-loop → List ℕ
 bytes c = now (head c .before .before .args .s)
 
 turn : (c : tie.After-rank Inv-loop μ-loop)
-    → Turn (bytes c) (head c .before .before .args .kind) (head c .loop .at) (head c .loop .last) (head c .loop .found)
+    → Turn (bytes c) (head c .before .before .args .kind ∷ []) (head c .loop .at) (head c .loop .last)
+    (head c .loop .found)
     (c .before .before .before .before .record-at .result) (c .before .before .before .of-kind .result)
     (c .before .before .first-found .result) (c .before .kind-of .result) (c .rank .result)
 turn c = record {

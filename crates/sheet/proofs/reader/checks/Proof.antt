@@ -3,6 +3,7 @@
 use borrow.Author.Needs.{needs}
 use mathlib.Core.Path.{sym, ap₂, _∙_}
 use Rattle.sheet.specs.Check.{_else_}
+use Rattle.sheet.specs.Format.{standard}
 use Rattle.sheet.specs.Reader.Laws.{checks-are}
 use Rattle.sheet.proofs.reader.checks.Statement.{statement}
 use Rattle.sheet.proofs.reader.checks.Tie as tie
@@ -37,7 +38,7 @@ returns c =
     (c .before .before .first-of .ensures
     ∙ ap₂ _else_ (c .before .before .before .before .required2 .ensures)
     (c .before .before .before .required3 .ensures)))
-    ∙ sym (checks-are (c .before .before .before .before .before .before .before .before .args .needs) _)
+    ∙ sym (checks-are standard (c .before .before .before .before .before .before .before .before .args .needs) _)
 
 pub checks-spec : {M : Type 1} → statement M
 checks-spec =

@@ -4,6 +4,8 @@ use native.Mathlib.Omega.{arith}
 use borrow.Author.Needs.{needs}
 use denote.Ref.{now}
 use mathlib.Core.Path.{sym, _∙_}
+use mathlib.Core.List.{[], _∷_}
+use Rattle.sheet.specs.Format.{standard}
 use Rattle.sheet.specs.Reader.Laws.{payload-inside, part-clear, part-refused}
 use Rattle.sheet.proofs.reader.part_of.Statement.{statement}
 use Rattle.sheet.proofs.reader.part_of.Tie as tie
@@ -25,7 +27,7 @@ add-from c =
     let start = c .before .before .before .before .before .before .before .before .before in
     omega (
       arith,
-      payload-inside (now (start .args .sheet)) (start .args .kind) _
+      payload-inside standard (now (start .args .sheet)) (start .args .kind ∷ []) _
           (sym (c .before .before .found .given .1)
           ∙ c .before .before .before .before .before .before .before .parse .ensures .1),
     )
@@ -41,21 +43,22 @@ returns c =
     let found =
     sym (c .before .before .found .given .1)
     ∙ c .before .before .before .before .before .before .before .parse .ensures .1 in (
-      part-clear _ _ (c .before .before .before .before .before .before .refusal-by .ensures)
+      part-clear standard _ _ (c .before .before .before .before .before .before .refusal-by .ensures)
           (c .before .before .before .before .enum-told .given .1) found,
-      payload-inside _ _ _ found,
+      payload-inside standard _ _ _ found,
     )
 
 returns-2 : tie.Need-returns-2
 returns-2 c =
     let found = sym (c .enum-told2 .given .1) ∙ c .before .before .before .before .before .parse .ensures .1 in (
-      part-clear _ _ (c .before .before .before .before .refusal-by .ensures)
+      part-clear standard _ _ (c .before .before .before .before .refusal-by .ensures)
           (c .before .before .enum-told .given .1) found,
       search needs,
     )
 
 returns-3 : tie.Need-returns-3
-returns-3 c = (part-refused _ _ (c .before .before .refusal-by .ensures) (c .enum-told3 .given .1), search needs)
+returns-3 c =
+    (part-refused standard _ _ (c .before .before .refusal-by .ensures) (c .enum-told3 .given .1), search needs)
 
 pub part-of-spec : {M : Type 1} → statement M
 part-of-spec =

@@ -6,6 +6,7 @@ use denote.Ref.{now}
 use mathlib.Core.Path.{sym, ap, ap₂, _∙_}
 use mathlib.Core.Bool.{Bool}
 use Rattle.sheet.specs.Check.{_else_, refusal_with_if_}
+use Rattle.sheet.specs.Format.{standard}
 use Rattle.sheet.specs.Reader.{isMissing}
 use Rattle.sheet.specs.Reader.Laws.{refusal-is}
 use Rattle.sheet.proofs.reader.refusal_by.Statement.{statement}
@@ -37,7 +38,7 @@ returns c =
     refusal 2 with length (now (c .before .before .before .before .before .before .args .sheet)) if b)
     (c .before .before .before .is-missing .ensures
     ∙ ap isMissing (c .before .before .before .before .before .before .pre .1))))
-    ∙ sym (refusal-is _ _)
+    ∙ sym (refusal-is standard _ _)
 
 pub refusal-by-spec : {M : Type 1} → statement M
 refusal-by-spec =

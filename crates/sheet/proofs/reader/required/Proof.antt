@@ -6,6 +6,7 @@ use lib.ListN.{length}
 use denote.Ref.{now}
 use mathlib.Core.Bool.{Bool, _&&_}
 use Rattle.sheet.specs.Check.{refusal_with_if_}
+use Rattle.sheet.specs.Format.{standard}
 use Rattle.sheet.specs.Reader.{isMissing}
 use Rattle.sheet.specs.Reader.Laws.{when-missing}
 use Rattle.sheet.proofs.reader.required.Statement.{statement}
@@ -26,7 +27,7 @@ returns c =
     ∙ ap (λ (b : Bool). refusal 2 with length (now (c .before .before .before .before .args .sheet))
     if (c .before .before .before .before .args .needed && b))
     (c .before .is-missing .ensures ∙ ap isMissing (c .before .before .parse .ensures .1))
-    ∙ when-missing _ _ (c .before .before .before .before .args .needed)
+    ∙ when-missing standard _ _ (c .before .before .before .before .args .needed)
 
 pub required-spec : {M : Type 1} → statement M
 required-spec = tie.close (tie.spec parse-requires is-missing-requires refuse-requires returns)

@@ -9,6 +9,9 @@ use Rattle.machine.proofs.machine.Machine.load.Tie as tie
 column-requires : tie.Need-column-requires
 column-requires c κs = search needs
 
+add-column : tie.Need-add-column
+add-column c = search needs
+
 column-requires-2 : tie.Need-column-requires-2
 column-requires-2 c κs = search needs
 
@@ -26,4 +29,4 @@ returns c =
 
 pub load-spec : {M : Type 1} → statement M
 load-spec =
-    tie.close (tie.spec column-requires column-requires-2 byte-requires byte-requires-2 returns)
+    tie.close (tie.spec column-requires add-column column-requires-2 byte-requires byte-requires-2 returns)

@@ -1,0 +1,161 @@
+-- Sheets without causes 1 and 2 that have the first roles of their format: the records of these come first.
+use Prim.Native.Nat.{ℕ, _+_, _≤_, _<_}
+use mathlib.Core.Path.{_≡_, refl, sym, ap, ap₂, subst, _∙_}
+use mathlib.Core.Logic.{_⊎_, inl, inr}
+use mathlib.Core.List.{List, [], _∷_, _++_, map, append-nil}
+use native.Mathlib.Omega.{arith}
+use native.Mathlib.Nat.{add-zero}
+use lib.ListN.{length, take}
+use lib.Seq.{take-at}
+use Rattle.facts.specs.Tests.{true-or-false}
+use Rattle.facts.specs.Lists.{among, Each, each-among}
+use Rattle.facts.specs.Bytes.{Bytes}
+use Rattle.sheet.specs.declared.check.Check.the-variants.{Clear}
+use Rattle.sheet.specs.declared.record.Record.{Record}
+use Rattle.sheet.specs.declared.record.Kind.{Kind}
+use Rattle.sheet.specs.declared.record.Kind.the-variants.{Machine, Word, Sequence, Answers, Unknown}
+use Rattle.sheet.specs.declared.record.Found.the-variants.{At}
+use Rattle.sheet.specs.Check.{firstCause}
+use Rattle.sheet.specs.Check.Laws.{clear-absent, both-clear, cause-cons}
+use Rattle.sheet.specs.Format.{Format, standard, offset, end, kindOf, rank, parsed, ofKind, _or_, find}
+use Rattle.sheet.specs.Format.Laws.{none-found}
+use Rattle.sheet.specs.Reader.{missing, sheetCauses, recordOf, content}
+use Rattle.sheet.specs.Reader.Laws.{at-found, causes-clear, sheet-short}
+use Rattle.sheet.specs.Joining.{joined, placed, InOrder, payloadOf, contents, recordIn, rolesOf, Successive}
+use Rattle.sheet.specs.Joining.{lastEnd}
+use Rattle.sheet.specs.Joining.Laws.{joined-none, joined-long, joined-append, content-joined}
+use Rattle.sheet.specs.Joining.Whole.{whole, contents-in-order, contents-placed}
+
+-- records from an offset on and above a rank that begin with those of some roles: the others, and where these end
+pub record Front (F : Format) (s : List ℕ) (at last : ℕ) (roles : List (List ℕ)) (cs : List (ℕ × List ℕ)) : Type 0 where
+  pub rest : List (ℕ × List ℕ)
+  pub is : cs ≡ map (recordIn F s) roles ++ rest
+  pub order : InOrder F (last + length roles) rest
+  pub ends : lastEnd F s at roles ≡ at + length (joined (map (recordIn F s) roles))
+
+-- all four roles leave no rest
+rank-four : (k : Kind) → rank k ≤ 4
+rank-four Machine = omega arith
+rank-four Word = omega arith
+rank-four Sequence = omega arith
+rank-four Answers = omega arith
+rank-four Unknown = omega arith
+
+none-above : (F : Format) (n : ℕ) (cs : List (ℕ × List ℕ)) → 4 ≤ n → InOrder F n cs → cs ≡ []
+none-above F n [] l h = refl
+none-above F n (c ∷ cs) l h = let z : ⊥ = omega (arith, h .0, rank-four (kindOf F (c .0))) in absurd z
+
+module _ (F : Format) (s : List ℕ) where
+  -- the record of a role is found among these, and carries what reading gives
+  abbrev Here : ℕ → List (ℕ × List ℕ) → List ℕ → Type 0
+  Here at cs ks = (find ks (placed at cs) ≡ At (recordOf F ks s)) × (payloadOf ks cs ≡ content F ks s)
+
+  abbrev AllHere : ℕ → List (ℕ × List ℕ) → List (List ℕ) → Type 0
+  AllHere at cs [] = Unit {0}
+  AllHere at cs (ks ∷ roles) = Here at cs ks × AllHere at cs roles
+
+  abbrev new : ℕ → ℕ × List ℕ → Record
+  new at c = record { start = at; size = length (c .1); kind = c .0 }
+
+  -- that of a role of rank n is the first of them, or one of the others
+  first-or : (at : ℕ) (c : ℕ × List ℕ) (cs : List (ℕ × List ℕ)) (n : ℕ) (ks : List ℕ)
+      → Each (λ k. rank (kindOf F k) ≡ n) ks → Here at (c ∷ cs) ks
+      → ((rank (kindOf F (c .0)) ≡ n) × (recordOf F ks s ≡ new at c) × (recordIn F s ks ≡ c))
+      ⊎ Here (end (new at c)) cs ks
+  unfolding find ofKind _or_ end offset
+  first-or at c cs n ks u h = elim (true-or-false (among (c .0) ks)) [
+    | inl e ↦ (let is : recordOf F ks s ≡ new at c = cc (rw e at (h .0)) in
+        let same : recordIn F s ks ≡ c = ap₂ (λ (r : Record) (xs : List ℕ). (r .kind, xs)) is (sym (rw e at (h .1))) in
+        inl (each-among (λ k. rank (kindOf F k) ≡ n) (c .0) ks u e, is, same))
+    | inr e ↦ inr (rw e at (h .0), rw e at (h .1))
+  ]
+
+  -- its rank is above that before
+  later : (cs : List (ℕ × List ℕ)) (at last n : ℕ) (ks : List ℕ) → Each (λ k. rank (kindOf F k) ≡ n) ks
+      → InOrder F last cs → Here at cs ks → last < n
+  later [] at last n ks u h t = none-found ks (t .0)
+  later (c ∷ cs) at last n ks u h t = elim (first-or at c cs n ks u t) [
+    | inl x ↦ omega (arith, x .0, h .0)
+    | inr y ↦ omega (arith, later cs (end (new at c)) (rank (kindOf F (c .0))) n ks u (h .3) y, h .0)
+  ]
+
+  -- behind a record of a lower rank all are found that were
+  found-behind : (at : ℕ) (c : ℕ × List ℕ) (cs : List (ℕ × List ℕ)) (n : ℕ) (roles : List (List ℕ))
+      → rank (kindOf F (c .0)) ≤ n → Successive F n roles → AllHere at (c ∷ cs) roles
+      → AllHere (end (new at c)) cs roles
+  found-behind at c cs n [] l u t = tt
+  found-behind at c cs n (ks ∷ roles) l u t =
+      let one : Here (end (new at c)) cs ks = elim (first-or at c cs (n + 1) ks (u .0) (t .0)) [
+        | inl x ↦ (let z : ⊥ = omega (arith, x .0) in absurd z)
+        | inr y ↦ y
+      ] in
+      (one, found-behind at c cs (n + 1) roles (omega arith) (u .1) (t .1))
+
+  split : (roles : List (List ℕ)) (cs : List (ℕ × List ℕ)) (at last : ℕ) → InOrder F last cs → Successive F last roles
+      → AllHere at cs roles → Front F s at last roles cs
+  unfolding end offset
+  split [] cs at last h u t =
+      record { rest = cs; is = refl; order = rw add-zero h; ends = rw joined-none (sym (add-zero at)) }
+  split (ks ∷ roles) [] at last h u t = none-found ks (t .0 .0)
+  split (ks ∷ roles) (c ∷ cs) at last h u t = elim (first-or at c cs (last + 1) ks (u .0) (t .0)) [
+    | inl x ↦ (let more =
+        split roles cs (end (new at c)) (last + 1) (rw (x .0) at (h .3)) (u .1)
+        (found-behind at c cs (last + 1) roles (omega (arith, x .0)) (u .1) (t .1)) in
+        record {
+          rest = more .rest;
+          is = ap₂ _∷_ (sym (x .2)) (more .is);
+          order = subst (λ (n : ℕ). InOrder F n (more .rest)) (omega arith) (more .order);
+          ends = rw (x .2, x .1) (omega (arith, joined-long c (map (recordIn F s) roles), more .ends));
+        })
+    | inr y ↦ (let z : ⊥ =
+        omega (arith, later cs (end (new at c)) (rank (kindOf F (c .0))) (last + 1) ks (u .0) (h .3) y, h .0) in
+        absurd z)
+  ]
+
+-- ---- sheets without causes 1 and 2 that have the first roles
+module _ (F : Format) (s : List ℕ) (bytes : Bytes s) (roles : List (List ℕ)) (first : Successive F 0 roles)
+    (clear : firstCause (sheetCauses F roles s) ≡ Clear) where
+  stop : parsed F s .stop ≡ Clear
+  stop = causes-clear F roles s clear .1
+
+  all-here : (qs : List (List ℕ)) → firstCause (map (missing F s) qs) ≡ Clear → AllHere F s 0 (contents F s) qs
+  unfolding recordOf
+  all-here [] e = tt
+  all-here (ks ∷ qs) e =
+      let h = both-clear (missing F s ks) (firstCause (map (missing F s) qs)) (sym (cause-cons _ _) ∙ e) in
+      let found = at-found (find ks (parsed F s .records)) (clear-absent 2 (length s) _ (h .0)) in
+      let is = whole F s bytes stop in
+      let short = subst (λ (t : List ℕ). length t ≤ F .longest) is (sheet-short F roles s clear) in
+      let reads = content-joined F (contents F s) (contents-in-order F s bytes stop) short ks in
+      ((ap (find ks) (contents-placed F s bytes stop) ∙ found, sym (ap (content F ks) is ∙ reads)), all-here qs (h .1))
+
+  -- what the sheet holds begins with the records of these roles
+  pub front : Front F s 0 0 roles (contents F s)
+  front =
+      split F s roles (contents F s) 0 0 (contents-in-order F s bytes stop) first
+      (all-here roles (causes-clear F roles s clear .2))
+
+  -- and so do its bytes
+  pub front-bytes : s ≡ joined (map (recordIn F s) roles) ++ joined (front .rest)
+  front-bytes =
+      whole F s bytes stop ∙ ap joined (front .is) ∙ joined-append (map (recordIn F s) roles) (front .rest)
+
+  -- which end where the record of the last role does
+  pub front-cut : take (lastEnd F s 0 roles) s ≡ joined (map (recordIn F s) roles)
+  front-cut =
+      ap (take (lastEnd F s 0 roles)) front-bytes
+      ∙ take-at (joined (map (recordIn F s) roles)) _ (lastEnd F s 0 roles) (omega (arith, front .ends))
+
+  -- with all four roles they are the whole sheet
+  pub front-whole : 4 ≤ length roles → s ≡ joined (map (recordIn F s) roles)
+  front-whole l =
+      let none = none-above F (0 + length roles) (front .rest) (omega arith) (front .order) in
+      front-bytes ∙ rw (none, joined-none) (append-nil (joined (map (recordIn F s) roles)))
+
+-- a sheet of the format that the services take is the records of all four, where it has them
+pub standard-whole : (s : List ℕ) → Bytes s → firstCause (sheetCauses standard (rolesOf standard) s) ≡ Clear
+    → s ≡ joined (map (recordIn standard s) (rolesOf standard))
+unfolding kindOf
+standard-whole s bytes clear =
+    front-whole standard s bytes (rolesOf standard) ((refl, tt), ((refl, tt), ((refl, tt), ((refl, tt), tt)))) clear
+    (omega arith)
