@@ -39,7 +39,7 @@ unfoldable pub sheetCauses : Format → List (List ℕ) → List ℕ → List Ch
 sheetCauses F roles s = tooLong F s ∷ parsed F s .stop ∷ map (missing F s) roles
 
 -- the list of this role alone where it is needed, else the empty list
-unfoldable pub when : Bool → List ℕ → List (List ℕ)
+abbrev pub when : Bool → List ℕ → List (List ℕ)
 when true ks = ks ∷ []
 when false ks = []
 
@@ -48,7 +48,7 @@ unfoldable pub whenMissing : Format → List ℕ → List ℕ → Bool → Check
 whenMissing F s ks b = firstCause (map (missing F s) (when b ks))
 
 -- the roles that a service on a machine needs (§2.3): the machine always, the others where the flags say so
-unfoldable pub needed : Format → Needs → List (List ℕ)
+abbrev pub needed : Format → Needs → List (List ℕ)
 needed F needs =
     F .machine
     ∷ (when (needs .word) (F .word) ++ (when (needs .sequence) (F .sequence) ++ when (needs .answers) (F .answers)))

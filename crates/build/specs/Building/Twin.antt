@@ -16,7 +16,7 @@ use Rattle.sheet.specs.Check.{refusal_with_if_, _else_, firstCause, first}
 use Rattle.sheet.specs.Check.Laws.{absent, else-clear, else-end}
 use Rattle.sheet.specs.Format.{recordAt, offset, end, kindOf, cause1, cause2, causeAt, parseStep, parseFrom, parse}
 use Rattle.sheet.specs.Format.{parsed, ofKind, _or_, find, standard}
-use Rattle.sheet.specs.Reader.{sheetCauses, when, needed, refusalOf, recordOf, part, partBytes, content, wordIn}
+use Rattle.sheet.specs.Reader.{sheetCauses, refusalOf, recordOf, part, partBytes, content, wordIn}
 use Rattle.sheet.specs.Writing.{headerOf, written}
 use Rattle.sheet.specs.Joining.{joined, fresh}
 use Rattle.machine.specs.House.{housePayload, house, houseWord}
@@ -88,10 +88,10 @@ twelve-clear answer place some e =
 
 twin-clear : (room : ℕ) → 12 ≤ room → firstCause (buildCauses room twinSheet) ≡ Clear
 unfolding joined headerOf refusal_with_if_ _else_ firstCause first recordAt offset end kindOf cause1 cause2 causeAt
-    parseStep parseFrom parse parsed ofKind _or_ find sheetCauses when needed refusalOf recordOf part partBytes content
-    machineOf run answers cause3 cause4 cause12 commandsCause cause6 machineIn tableCauses machineCauses wordCauses
-    loadCauses cause9 guard orElse firstOf firstString firstPath transfer following T nthState firstBlocks opening
-    approach test stateTests tests sequence cause8 connectedCauses buildCauses
+    parseStep parseFrom parse parsed ofKind _or_ find sheetCauses refusalOf recordOf part partBytes content machineOf
+    run answers cause3 cause4 cause12 commandsCause cause6 machineIn tableCauses machineCauses wordCauses loadCauses
+    cause9 guard orElse firstOf firstString firstPath transfer following T nthState firstBlocks opening approach test
+    stateTests tests sequence cause8 connectedCauses buildCauses
 twin-clear room l = nine-clear room 12 l
 
 pub twin-building : (room : ℕ) → 12 ≤ room → building room twinSheet ≡ Built 12
@@ -107,10 +107,10 @@ twin-buffer buffer l =
 -- ---- where entry (1, 0) goes to 1, cause 8 is present at 1, whatever the room
 pub disconnected-building : (room : ℕ) → building room (unitSheet disconnectedTable (0 ∷ [])) ≡ Refused 8 1
 unfolding joined headerOf building refusal_with_if_ _else_ firstCause first recordAt offset end kindOf cause1 cause2
-    causeAt parseStep parseFrom parse parsed ofKind _or_ find sheetCauses when needed refusalOf recordOf part partBytes
-    content machineOf run answers cause3 cause4 cause12 commandsCause cause6 machineIn tableCauses machineCauses
-    wordCauses loadCauses cause9 guard orElse firstOf firstString firstPath transfer following T nthState firstBlocks
-    opening approach test stateTests tests sequence cause8 connectedCauses buildCauses
+    causeAt parseStep parseFrom parse parsed ofKind _or_ find sheetCauses refusalOf recordOf part partBytes content
+    machineOf run answers cause3 cause4 cause12 commandsCause cause6 machineIn tableCauses machineCauses wordCauses
+    loadCauses cause9 guard orElse firstOf firstString firstPath transfer following T nthState firstBlocks opening
+    approach test stateTests tests sequence cause8 connectedCauses buildCauses
 disconnected-building room = refl
 
 -- ---- the sequence of one state and one command
@@ -139,10 +139,10 @@ single-built-sequence answer = ap₂ sequence (single-machine answer) (single-wo
 single-clear : (answer room : ℕ) → (answer ≡ noAnswer → ⊥) → 4 ≤ room
     → firstCause (buildCauses room (singleSheet answer)) ≡ Clear
 unfolding joined headerOf refusal_with_if_ _else_ firstCause first recordAt offset end kindOf cause1 cause2 causeAt
-    parseStep parseFrom parse parsed ofKind _or_ find sheetCauses when needed refusalOf recordOf part partBytes content
-    machineOf run answers cause3 cause4 cause12 commandsCause cause6 machineIn tableCauses machineCauses wordCauses
-    loadCauses cause9 guard orElse firstOf firstString firstPath transfer following T nthState firstBlocks opening
-    approach test stateTests tests sequence cause8 connectedCauses buildCauses
+    parseStep parseFrom parse parsed ofKind _or_ find sheetCauses refusalOf recordOf part partBytes content machineOf
+    run answers cause3 cause4 cause12 commandsCause cause6 machineIn tableCauses machineCauses wordCauses loadCauses
+    cause9 guard orElse firstOf firstString firstPath transfer following T nthState firstBlocks opening approach test
+    stateTests tests sequence cause8 connectedCauses buildCauses
 single-clear answer room some l = twelve-clear answer 9 some (nine-clear room 4 l)
 
 pub single-building : (answer room : ℕ) → (answer ≡ noAnswer → ⊥) → 4 ≤ room

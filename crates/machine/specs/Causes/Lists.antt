@@ -11,8 +11,8 @@ use Rattle.sheet.specs.declared.reader.Needs.{Needs}
 use Rattle.sheet.specs.Check.{_else_, firstCause}
 use Rattle.sheet.specs.Check.Laws.{else-clear, both-clear, cause-none, cause-two, cause-append}
 use Rattle.sheet.specs.Format.{standard}
-use Rattle.sheet.specs.Reader.{sheetCauses, needed, refusalOf, Reads, machinePayload, wordIn, machineRecord, wordRecord}
-use Rattle.sheet.specs.Reader.Laws.{needed-without-answers, needed-machine, needed-word, needed-clear, clear-reads}
+use Rattle.sheet.specs.Reader.{sheetCauses, needed, Reads, machinePayload, wordIn, machineRecord, wordRecord}
+use Rattle.sheet.specs.Reader.Laws.{needed-without-answers, needed-clear, clear-reads}
 use Rattle.machine.specs.Limits.{mostMachine, mostWord}
 use Rattle.machine.specs.Machine.{Mealy, machineOf, Proper, AlwaysAnswers, Distinguishes}
 use Rattle.machine.specs.Causes.{cause3, cause4, cause12, cause5, cause6, machineIn, held, tableCauses}
@@ -67,13 +67,11 @@ module _ (n : Needs) (s : List ℕ) (e : firstCause (machineCauses n s) ≡ Clea
       (sym (table-causes-are standard (machineRecord s) (machinePayload s))
       ∙ both-clear _ _ (sym (machine-causes-are n s) ∙ e) .1)
 
-  -- reading a needed kind is not refused
-  kind-clear : (ks : List ℕ) → List·Memᴰ ks (needed standard n) → refusalOf standard ks s ≡ Clear
-  kind-clear ks m = needed-clear standard s (needed standard n) ks m
-      (both-clear _ _ (sym (machine-causes-are n s) ∙ e) .0)
-
+  -- each needed role is read
   pub kind-reads : (ks : List ℕ) → List·Memᴰ ks (needed standard n) → Reads standard ks s
-  kind-reads ks m = clear-reads standard ks s (kind-clear ks m)
+  kind-reads ks m =
+      let sheet = both-clear _ _ (sym (machine-causes-are n s) ∙ e) .0 in
+      clear-reads standard ks s (needed-clear standard s (needed standard n) ks m sheet)
 
   pub shape-of : Shape standard (machinePayload s)
   shape-of = clear-shape standard (machineRecord s) (machinePayload s) (table-clear .0)
@@ -109,21 +107,13 @@ pub clear-machine : (n : Needs) (s : List ℕ) → firstCause (loadCauses n s) �
     → firstCause (machineCauses n s) ≡ Clear
 clear-machine n s e = both-clear _ _ (sym (load-causes-are n s) ∙ e) .0
 
--- the machine of a loaded sheet is within the limits, and reading the machine or a needed word is not refused
+-- the machine of a loaded sheet is within the limits
 pub load-proper : (n : Needs) (s : List ℕ) → firstCause (loadCauses n s) ≡ Clear → Proper (machineIn s)
 load-proper n s e = machine-proper n s (clear-machine n s e)
 
 -- and each of its entries specifies an answer
 pub load-answers : (n : Needs) (s : List ℕ) → firstCause (loadCauses n s) ≡ Clear → AlwaysAnswers (machineIn s)
 load-answers n s e = machine-answers n s (clear-machine n s e)
-
-pub load-machine : (n : Needs) (s : List ℕ) → firstCause (loadCauses n s) ≡ Clear
-    → refusalOf standard (standard .machine) s ≡ Clear
-load-machine n s e = kind-clear n s (clear-machine n s e) (standard .machine) (needed-machine standard n)
-
-pub load-word : (n : Needs) (s : List ℕ) → n .word ≡ true → firstCause (loadCauses n s) ≡ Clear
-    → refusalOf standard (standard .word) s ≡ Clear
-load-word n s t e = kind-clear n s (clear-machine n s e) (standard .word) (needed-word standard n t)
 
 pub word-distinguishes : (n : Needs) (s : List ℕ) → n .word ≡ true → firstCause (loadCauses n s) ≡ Clear
     → Distinguishes (machineIn s) (wordIn s)

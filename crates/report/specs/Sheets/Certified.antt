@@ -9,16 +9,16 @@ use Rattle.facts.specs.Bytes.{Bytes}
 use Rattle.sheet.specs.declared.check.Check.the-variants.{Clear}
 use Rattle.sheet.specs.Check.{_else_, firstCause}
 use Rattle.sheet.specs.Check.Laws.{both-clear, else-clear}
-use Rattle.sheet.specs.Format.{standard, longest, end, kindOf}
-use Rattle.sheet.specs.Reader.{when, needed, wordIn, sequenceIn, wordRecord, sequenceRecord}
-use Rattle.sheet.specs.Reader.Laws.{clear-reads}
+use Rattle.sheet.specs.Format.{standard, longest, end}
+use Rattle.sheet.specs.Reader.{wordIn, sequenceIn, wordRecord, sequenceRecord}
+use Rattle.sheet.specs.Reader.Laws.{needed-word}
 use Rattle.sheet.specs.Joining.{bytesOf, joined, recordIn, fresh}
-use Rattle.sheet.specs.Joining.Laws.{joined-none, joined-long, kept-fresh}
+use Rattle.sheet.specs.Joining.Laws.{joined-none, joined-long, standard-roles, kept-fresh}
 use Rattle.machine.specs.Limits.{mostSequence}
 use Rattle.machine.specs.Machine.{Mealy, Commands, Distinguishes}
 use Rattle.machine.specs.Causes.{machineIn, loadCauses}
 use Rattle.machine.specs.Causes.Laws.{commands-clear}
-use Rattle.machine.specs.Causes.Lists.{machine-causes-are, load-causes-are, clear-machine, load-word}
+use Rattle.machine.specs.Causes.Lists.{machine-causes-are, load-causes-are, clear-machine, kind-reads}
 use Rattle.machine.specs.Causes.Lists.{word-distinguishes}
 use Rattle.machine.specs.Causes.Lists.{distinguishes-clear}
 use Rattle.certify.specs.declared.answer.Answer.the-variants.{Certified}
@@ -43,26 +43,26 @@ pub record Carries (s xs t : List ℕ) : Type 0 where
 carries : (s xs : List ℕ) → firstCause (loadCauses buildNeeds s) ≡ Clear → length xs ≤ mostSequence
     → Carries s xs (joined (recordIn standard s (standard .machine) ∷ recordIn standard s (standard .word)
     ∷ fresh (standard .sequence) xs ∷ []))
-unfolding kindOf needed when
 carries s xs load few =
+    let rows = clear-machine buildNeeds s load in
     let d = word-distinguishes buildNeeds s refl load in
+    let two = standard-roles .1 .0 .0 in
     let word = fresh (standard .word) (wordIn s) in
     let last = fresh (standard .sequence) xs in
     let rest = word ∷ last ∷ [] in
+    let long = joined-long word (last ∷ []) in
     let k : Keeps s rest (joined (recordIn standard s (standard .machine) ∷ rest)) =
-    keeps buildNeeds s (clear-machine buildNeeds s load) rest
-    (omega arith, omega arith, omega (arith, d .commands .few), (omega arith, omega arith, omega (arith, few), tt))
-    (omega (
-      arith,
-      d .commands .few,
-      few,
-      joined-long word (last ∷ []),
-      joined-long last [],
-      ap length joined-none,
-    )) in
+    keeps buildNeeds s rows rest (
+      omega (arith, two),
+      omega arith,
+      omega (arith, d .commands .few),
+      (omega (arith, two, standard-roles .1 .1 .0 .0), omega arith, omega (arith, few), tt),
+    )
+    (omega (arith, d .commands .few, few, long, joined-long last [], ap length joined-none)) in
     let t = joined (recordIn standard s (standard .machine) ∷ rest) in
     subst (λ (r : ℕ × List ℕ). Carries s xs (joined (recordIn standard s (standard .machine) ∷ r ∷ last ∷ [])))
-    (sym (kept-fresh standard _ s (clear-reads standard (standard .word) s (load-word buildNeeds s refl load))))
+    (sym (kept-fresh standard _ s
+    (kind-reads buildNeeds s rows (standard .word) (needed-word standard buildNeeds refl))))
     (record {
       machine = k .machine;
       word = k .word;
@@ -90,10 +90,10 @@ built-carries room s e =
 pub built-front : (room : ℕ) (s : List ℕ) {n : ℕ} → Bytes s → building room s ≡ Built n
     → builtSheet s
     ≡ take (end (wordRecord s)) s ++ bytesOf (fresh (standard .sequence) (sequence (machineIn s) (wordIn s)))
-unfolding builtSheet kindOf needed when
+unfolding builtSheet
 built-front room s bytes e =
     let load = clear-machine buildNeeds s (load-clear room s (answer-built room s e .0)) in
-    kept-front (standard .machine ∷ standard .word ∷ []) s _ bytes ((refl, tt), ((refl, tt), tt))
+    kept-front (standard .machine ∷ standard .word ∷ []) s _ bytes (standard-roles .0, (standard-roles .1 .0, tt))
     (both-clear _ _ (sym (machine-causes-are buildNeeds s) ∙ load) .0)
 
 -- and certifying it, in a room for its marks, answers certified

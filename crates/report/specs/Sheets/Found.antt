@@ -1,28 +1,28 @@
 -- The sheet that is made from the word that was found is read as meant: the machine is the same, the word is the one
 -- that was found, no cause of loading is present, and building takes it or refuses it with 8 or 9.
 use Prim.Native.Nat.{ℕ, _≤_}
-use mathlib.Core.Path.{_≡_, refl, ap, ap₂, _∙_}
+use mathlib.Core.Path.{_≡_, refl, sym, ap, ap₂, _∙_}
 use mathlib.Core.List.{List, [], _∷_, _++_}
 use native.Mathlib.Omega.{arith}
 use lib.ListN.{length, take}
 use Rattle.facts.specs.Bytes.{Bytes}
 use Rattle.sheet.specs.declared.check.Check.the-variants.{Clear}
 use Rattle.sheet.specs.Check.{_else_, firstCause}
-use Rattle.sheet.specs.Check.Laws.{else-clear}
-use Rattle.sheet.specs.Format.{standard, longest, end, kindOf}
-use Rattle.sheet.specs.Reader.{when, needed, refusalOf, wordIn, machineRecord}
+use Rattle.sheet.specs.Check.Laws.{both-clear, else-clear}
+use Rattle.sheet.specs.Format.{standard, longest, end}
+use Rattle.sheet.specs.Reader.{wordIn, machineRecord}
 use Rattle.sheet.specs.Joining.{bytesOf, fresh}
-use Rattle.sheet.specs.Joining.Laws.{joined-none, joined-long}
+use Rattle.sheet.specs.Joining.Laws.{joined-none, joined-long, standard-roles}
 use Rattle.machine.specs.Machine.{Mealy}
 use Rattle.machine.specs.Causes.{machineIn, loadCauses}
-use Rattle.machine.specs.Causes.Lists.{load-causes-are, load-machine}
+use Rattle.machine.specs.Causes.Lists.{machine-causes-are, load-causes-are}
 use Rattle.certify.specs.Certification.{cause9}
 use Rattle.build.specs.Sequence.{sequence}
 use Rattle.build.specs.Building.{buildNeeds, cause8, buildCauses}
 use Rattle.build.specs.Building.Service.{build-causes-are}
 use Rattle.word.specs.declared.answer.Answer.the-variants.{Found}
 use Rattle.word.specs.Service.{searchNeeds, searchCauses, searching}
-use Rattle.word.specs.Service.Laws.{search-causes-are, found-passes, found-answered}
+use Rattle.word.specs.Service.Laws.{found-passes, found-answered}
 use Rattle.report.specs.Sheets.{wordSheet}
 use Rattle.report.specs.Sheets.Kept.{Keeps, kept-front, keeps}
 
@@ -37,14 +37,14 @@ pub record Carries (s w t : List ℕ) : Type 0 where
 -- present
 pub word-carries : (s : List ℕ) {n : ℕ} (e : searching s ≡ Found n) →
     let w = found-answered s e .word in Carries s w (wordSheet s w)
-unfolding wordSheet kindOf needed when
+unfolding wordSheet
 word-carries s e =
     let h = found-answered s e in
     let w = h .word in
     let few = h .sought .has .commands .few in
     let k : Keeps s (fresh (standard .word) w ∷ []) (wordSheet s w) =
     keeps searchNeeds s (h .clear) (fresh (standard .word) w ∷ [])
-    (omega arith, omega arith, omega (arith, few), tt)
+    (omega (arith, standard-roles .1 .0 .0), omega arith, omega (arith, few), tt)
     (omega (arith, few, joined-long (fresh (standard .word) w) [], ap length joined-none)) in
     record {
       machine = k .machine;
@@ -59,10 +59,10 @@ word-carries s e =
 -- its first bytes are those of the given sheet, up to the end of the machine's record
 pub word-front : (s w : List ℕ) → Bytes s → firstCause (searchCauses s) ≡ Clear
     → wordSheet s w ≡ take (end (machineRecord s)) s ++ bytesOf (fresh (standard .word) w)
-unfolding wordSheet kindOf refusalOf
+unfolding wordSheet
 word-front s w bytes e =
-    kept-front (standard .machine ∷ []) s (fresh (standard .word) w) bytes ((refl, tt), tt)
-    (load-machine searchNeeds s (search-causes-are s ∙ e))
+    kept-front (standard .machine ∷ []) s (fresh (standard .word) w) bytes (standard-roles .0, tt)
+    (both-clear _ _ (sym (machine-causes-are searchNeeds s) ∙ e) .0)
 
 -- building succeeds on it, or refuses it with 8 or 9, as this machine and this word give them
 pub word-builds : (room : ℕ) (s : List ℕ) {n : ℕ} (e : searching s ≡ Found n) →

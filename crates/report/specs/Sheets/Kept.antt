@@ -11,11 +11,12 @@ use Rattle.sheet.specs.declared.check.Check.the-variants.{Clear}
 use Rattle.sheet.specs.declared.reader.Needs.{Needs}
 use Rattle.sheet.specs.Check.{_else_, firstCause}
 use Rattle.sheet.specs.Check.Laws.{both-clear, else-clear}
-use Rattle.sheet.specs.Format.{standard, longest, header, kindOf}
+use Rattle.sheet.specs.Format.{standard, longest, header}
 use Rattle.sheet.specs.Reader.{sheetCauses, needed, machinePayload, wordIn, sequenceIn, machineRecord}
 use Rattle.sheet.specs.Reader.Laws.{needed-machine}
 use Rattle.sheet.specs.Joining.{bytesOf, joined, InOrder, payloadOf, hasAll, recordIn, fresh, Successive, lastEnd}
-use Rattle.sheet.specs.Joining.Laws.{joined-one, joined-append, joined-long, content-joined, causes-joined, kept-fresh}
+use Rattle.sheet.specs.Joining.Laws.{joined-one, joined-append, joined-long, content-joined, causes-joined}
+use Rattle.sheet.specs.Joining.Laws.{standard-roles, kept-fresh}
 use Rattle.sheet.specs.Joining.Front.{front-cut}
 use Rattle.machine.specs.Limits.{mostMachine}
 use Rattle.machine.specs.Causes.{machineIn, tableCauses, machineCauses}
@@ -45,13 +46,13 @@ kept-front roles s more bytes first clear =
 pub keeps : (n : Needs) (s : List ℕ) → firstCause (machineCauses n s) ≡ Clear → (rest : List (ℕ × List ℕ))
     → InOrder standard 1 rest → header + mostMachine standard + length (joined rest) ≤ longest
     → Keeps s rest (joined (recordIn standard s (standard .machine) ∷ rest))
-unfolding kindOf
 keeps n s load rest order fits =
     let p = machinePayload s in
     let rs = fresh (standard .machine) p ∷ rest in
     let t = joined rs in
     let few = payload-short n s load in
-    let sorted : InOrder standard 0 rs = (omega arith, omega arith, omega (arith, few), order) in
+    let one = standard-roles .0 .0 in
+    let sorted : InOrder standard 0 rs = (omega (arith, one), omega arith, omega (arith, few), rw one order) in
     let short : length t ≤ longest = omega (arith, few, joined-long (fresh (standard .machine) p) rest) in
     let payload : machinePayload t ≡ p = content-joined standard rs sorted short (standard .machine) in
     let table = both-clear _ _ (sym (machine-causes-are n s) ∙ load) .1 in

@@ -23,7 +23,7 @@ use Rattle.sheet.specs.Reader.{missing, sheetCauses, recordOf, content}
 use Rattle.sheet.specs.Reader.Laws.{at-found, causes-clear, sheet-short}
 use Rattle.sheet.specs.Joining.{joined, placed, InOrder, payloadOf, contents, recordIn, rolesOf, Successive}
 use Rattle.sheet.specs.Joining.{lastEnd}
-use Rattle.sheet.specs.Joining.Laws.{joined-none, joined-long, joined-append, content-joined}
+use Rattle.sheet.specs.Joining.Laws.{joined-none, joined-long, joined-append, content-joined, standard-roles}
 use Rattle.sheet.specs.Joining.Whole.{whole, contents-in-order, contents-placed}
 
 -- records from an offset on and above a rank that begin with those of some roles: the others, and where these end
@@ -155,7 +155,4 @@ module _ (F : Format) (s : List ℕ) (bytes : Bytes s) (roles : List (List ℕ))
 -- a sheet of the format that the services take is the records of all four, where it has them
 pub standard-whole : (s : List ℕ) → Bytes s → firstCause (sheetCauses standard (rolesOf standard) s) ≡ Clear
     → s ≡ joined (map (recordIn standard s) (rolesOf standard))
-unfolding kindOf
-standard-whole s bytes clear =
-    front-whole standard s bytes (rolesOf standard) ((refl, tt), ((refl, tt), ((refl, tt), ((refl, tt), tt)))) clear
-    (omega arith)
+standard-whole s bytes clear = front-whole standard s bytes (rolesOf standard) standard-roles clear (omega arith)

@@ -16,14 +16,16 @@ use Rattle.sheet.specs.declared.record.Found.the-variants.{At, Missing}
 use Rattle.sheet.specs.declared.reader.Part.{Part}
 use Rattle.sheet.specs.Check.{refusal_with_if_, firstCause}
 use Rattle.sheet.specs.Check.Laws.{absent, else-clear, cause-none, cause-cons, cause-one}
-use Rattle.sheet.specs.Format.{Format, header, recordAt, offset, end, kindOf, rank, Parsed, _before_, parse}
+use Rattle.sheet.specs.Format.{Format, standard, header, recordAt, offset, end, kindOf, rank, Parsed, _before_}
+use Rattle.sheet.specs.Format.{parse}
 use Rattle.sheet.specs.Format.{parsed, ofKind, _or_, find}
 use Rattle.sheet.specs.Format.Laws.{parse-end, parse-as, parsed-is}
 use Rattle.sheet.specs.Reader.{isMissing, missing, sheetCauses, refusalOf, recordOr, recordOf}
 use Rattle.sheet.specs.Reader.{payloadPart, partWhen, part, partBytes, content, Reads}
 use Rattle.sheet.specs.Writing.{headerOf}
 use Rattle.sheet.specs.Writing.Laws.{header-size, record-size, header-reads}
-use Rattle.sheet.specs.Joining.{bytesOf, joined, placed, InOrder, payloadOf, has, hasAll, recordIn, fresh}
+use Rattle.sheet.specs.Joining.{bytesOf, joined, placed, InOrder, payloadOf, has, hasAll, recordIn, rolesOf}
+use Rattle.sheet.specs.Joining.{Successive, fresh}
 
 -- ---- the bytes
 -- no records have no bytes
@@ -169,6 +171,12 @@ module _ (F : Format) where
               let h = both-true (has ks rs) (hasAll roles rs) all in
               let there = ap isMissing (find-joined ks) ∙ missing-placed ks rs 0 ∙ ap not (h .0) in
               rw (cause-cons, absent 2 (length (joined rs)) there, go roles (h .1)) (else-clear Clear)
+
+-- ---- the roles of the format that the services take
+-- their ranks follow each other
+pub standard-roles : Successive standard 0 (rolesOf standard)
+unfolding kindOf
+standard-roles = ((refl, tt), ((refl, tt), ((refl, tt), ((refl, tt), tt))))
 
 -- ---- the record of a role that has one kind
 -- as a sheet has it, it is the one that would be written

@@ -43,7 +43,7 @@ module _ (F : Format) where
 
   pub when-missing : (s ks : List ℕ) (b : Bool)
       → (refusal 2 with length s if (b && isMissing (find ks (parsed F s .records)))) ≡ whenMissing F s ks b
-  unfolding whenMissing when
+  unfolding whenMissing
   when-missing s ks true = sym (cause-one (missing F s ks))
   when-missing s ks false = absent 2 (length s) refl ∙ sym cause-none
 
@@ -58,7 +58,7 @@ module _ (F : Format) where
   pub checks-are : (n : Needs) (s : List ℕ) → firstCause (sheetCauses F (needed F n) s)
       ≡ (refusalOf F (F .machine) s else (whenMissing F s (F .word) (n .word)
       else (whenMissing F s (F .sequence) (n .sequence) else whenMissing F s (F .answers) (n .answers))))
-  unfolding needed refusalOf whenMissing
+  unfolding refusalOf whenMissing
   checks-are n s =
       let word = when (n .word) (F .word) in
       let sequence = when (n .sequence) (F .sequence) in
@@ -224,13 +224,10 @@ module _ (F : Format) where
 
   -- ---- machine and word among the needed roles, for a service to cite of each that it reads
   on-needed : {b : Bool} (ks : List ℕ) → b ≡ true → List·Memᴰ ks (when b ks)
-  unfolding when
   on-needed ks e = rw e (List·Memᴰ·head refl)
 
   pub needed-machine : (n : Needs) → List·Memᴰ (F .machine) (needed F n)
-  unfolding needed
   needed-machine n = List·Memᴰ·head refl
 
   pub needed-word : (n : Needs) → n .word ≡ true → List·Memᴰ (F .word) (needed F n)
-  unfolding needed
   needed-word n e = List·Memᴰ·tail (Memᴰ·append-left _ (on-needed (F .word) e))

@@ -12,7 +12,7 @@ use Rattle.sheet.specs.Check.{refusal_with_if_, _else_, firstCause, first}
 use Rattle.sheet.specs.Check.Laws.{absent, else-clear}
 use Rattle.sheet.specs.Format.{recordAt, offset, end, kindOf, cause1, cause2, causeAt, parseStep, parseFrom, parse}
 use Rattle.sheet.specs.Format.{parsed, ofKind, _or_, find}
-use Rattle.sheet.specs.Reader.{sheetCauses, when, needed, refusalOf, recordOf, part, partBytes, content, wordIn}
+use Rattle.sheet.specs.Reader.{sheetCauses, refusalOf, recordOf, part, partBytes, content, wordIn}
 use Rattle.sheet.specs.Reader.{sequenceIn, answersIn}
 use Rattle.sheet.specs.Writing.{headerOf}
 use Rattle.sheet.specs.Joining.{joined}
@@ -106,8 +106,7 @@ record Computed : Type 0 where
 
 computed : Computed
 unfolding twinMachine singleMachine joined headerOf refusal_with_if_ _else_ firstCause first recordAt offset end kindOf
-    cause1
-    cause2 causeAt parseStep parseFrom parse parsed ofKind _or_ find sheetCauses when needed refusalOf recordOf part
+    cause1 cause2 causeAt parseStep parseFrom parse parsed ofKind _or_ find sheetCauses refusalOf recordOf part
     partBytes content machineOf run answers cause3 cause4 cause12 commandsCause cause6 machineIn tableCauses
     machineCauses wordCauses loadCauses connectedCauses buildCauses cause9 sequenceCauses cause10 judgeCauses verdict
     difference resultAt agreed stateAt
