@@ -4,7 +4,7 @@ use Prim.Native.Nat.{ℕ, _+_, _*_, _≤_, _<_}
 use mathlib.Core.Path.{_≡_, refl, sym, ap, ap₂, subst, _∙_}
 use mathlib.Core.Bool.{Bool, true, false, not}
 use mathlib.Core.List.{List, []}
-use mathlib.Core.Option.{Option, some, Option·getD}
+use mathlib.Core.Option.{some, Option·getD}
 use native.Mathlib.Omega.{arith}
 use borrow.Author.Tests.{not-false}
 use lib.ListN.{length, getD, take}
@@ -53,10 +53,7 @@ module _ (M : Mealy) (w : List ℕ) (s : ℕ) (p : MaybeTransfer) (from to : ℕ
   transfer-of = e ∙ ap₂ (transfer M) fe (te ∙ ap (λ (n : ℕ). following n s) ne)
 
   check-of : c ≡ transferCause M w s
-  check-of =
-      ce
-      ∙ ap (λ (b : Bool). refusal 8 with s if b)
-      (sym (guard-missing (p .found) (take (p .length) (p .commands))) ∙ ap noTransfer transfer-of)
+  check-of = rw (ce, ← transfer-of, guard-missing)
 
   module _ {rows : List ℕ} (h : Connecting M w rows s) where
     -- no transfer: the loop stops
@@ -79,12 +76,11 @@ module _ (M : Mealy) (w : List ℕ) (s : ℕ) (p : MaybeTransfer) (from to : ℕ
         long = st .long;
         short =
             below-more (λ i. getD after (i * rowSize) 0 < rowSize) s
-            (λ i q. subst (λ (x : ℕ). x < rowSize) (sym (st .sizes i q)) (h .filled .short i q))
-            (subst (λ (x : ℕ). x < rowSize) (sym (st .sized)) size-low);
+            (λ i q. rw (st .sizes i q) (h .filled .short i q)) (rw (st .sized) size-low);
         stored =
             below-more (λ i. Option·getD (B M w i) [] ≡ row after i) s
             (λ i q. h .filled .stored i q ∙ sym (st .rows i q (h .filled .short i q)))
-            (ap (λ (o : Option (List ℕ)). Option·getD o []) B-is ∙ sym (st .stored));
+            (rw (B-is, st .stored));
       }
 
       pub connecting-on : s < M .n → {after : List ℕ} → Stored rows after s (p .length) (p .commands)

@@ -1,3 +1,4 @@
+mod Adds
 mod Answering
 mod Connecting
 mod Descending
@@ -7,4 +8,3 @@ mod Rows
 mod Searching
 mod TableLoading
 mod WordEnd
-mod Writes

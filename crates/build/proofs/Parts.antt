@@ -22,16 +22,16 @@ use Rattle.build.specs.Sequence.Laws.{tests-none, tests-more, sequence-i
 use Rattle.build.specs.Sequence.Length.{approach-length, test-length, state-tests-length, opening-length}
 use Rattle.build.specs.Sequence.Length.{block-few, blocks-few, tests-few}
 use Rattle.build.specs.Table.{row}
-use Rattle.build.specs.Writing.{mostApproach, mostTest, mostStateTests, mostTests, WriteRequires, Writes, Moves}
+use Rattle.build.specs.Writing.{mostApproach, mostTest, mostStateTests, mostTests, WriteRequires, Adds, Moves}
 use Rattle.build.specs.Writing.{BlockRequires, PartRequires}
-use Rattle.build.proofs.Writes.{writes-none, writes-append}
+use Rattle.build.proofs.Adds.{adds-none, adds-append}
 
 -- two parts, the second from the state that the first leads to
 moves-append : {M : Mealy} {before middle after : List ℕ} {at state : ℕ} {q r : Position} (xs : List ℕ) (f : ℕ → List ℕ)
     → Moves M before at state xs middle q → Moves M middle (q .at) (q .state) (f (q .state)) after r
     → Moves M before at state (xs ++ f (run M state xs)) after r
 moves-append {M} {before} {middle} {after} {at} {state} {q} {r} xs f a b = record {
-  writes = rw (← a .leads) (writes-append xs (f (q .state)) (a .writes) (b .writes));
+  adds = rw (← a .leads) (adds-append xs (f (q .state)) (a .adds) (b .adds));
   leads =
       rw (← a .leads)
       (b .leads ∙ ap (λ (x : ℕ). run M x (f (q .state))) (a .leads) ∙ sym (run-append M state xs (f (q .state))));
@@ -39,12 +39,12 @@ moves-append {M} {before} {middle} {after} {at} {state} {q} {r} xs f a b = recor
 
 moves-none : (M : Mealy) (before : List ℕ) (p : Position) {xs : List ℕ} → xs ≡ []
     → Moves M before (p .at) (p .state) xs before p
-moves-none M before p e = record { writes = writes-none before (p .at) e; leads = rw (e, run-none) }
+moves-none M before p e = record { adds = adds-none before (p .at) e; leads = rw (e, run-none) }
 
 -- a loop that approaches s from p₀: some blocks are written, and the rest is the approach from p
 pub record Approaching (M : Mealy) (w before : List ℕ) (at₀ p₀ s : ℕ) (now : List ℕ) (at p : ℕ) : Type 0 where
   pub done : List ℕ
-  pub writes : Writes before at₀ done now at
+  pub adds : Adds before at₀ done now at
   pub rest : done ++ approach M w (M .n) p s ≡ approach M w (M .n) p₀ s
   pub low : p < M .n
   pub room : at + gap (M .n) p s * mostBlock ≤ mostSequence
@@ -60,9 +60,9 @@ module _ (M : Mealy) (w rows : List ℕ) (h : WriteRequires M w rows) where
     room = room;
   }
 
-  block-writes : (s : ℕ) → s < M .n → {before after : List ℕ} {at end : ℕ}
-      → Writes before at (w ++ row rows s) after end → Writes before at (T M w s) after end
-  block-writes s sl l = rw (T-is M w s, h .filled .stored s sl) l
+  block-adds : (s : ℕ) → s < M .n → {before after : List ℕ} {at end : ℕ}
+      → Adds before at (w ++ row rows s) after end → Adds before at (T M w s) after end
+  block-adds s sl l = rw (T-is M w s, h .filled .stored s sl) l
 
   block-length : (s : ℕ) → s < M .n → length (T M w s) ≤ mostBlock
   block-length s sl = omega (arith, h .blocks .short s sl, block-few M w (h .blocks .proper) (h .few))
@@ -73,7 +73,7 @@ module _ (M : Mealy) (w rows : List ℕ) (h : WriteRequires M w rows) where
         → Approaching M w before at₀ p₀ s before at₀ p₀
     approaching-start a sl = record {
       done = [];
-      writes = writes-none before at₀ refl;
+      adds = adds-none before at₀ refl;
       rest = refl;
       low = a .low;
       room = omega (arith, a .room, gap-below (M .n) p₀ s (a .low) sl, h .blocks .proper .few-states);
@@ -85,13 +85,13 @@ module _ (M : Mealy) (w rows : List ℕ) (h : WriteRequires M w rows) where
           block-required p at (a .low) (omega (arith, a .room, gap-step (M .n) p s (a .low) sl ne))
 
       pub approaching-on : (p ≡ s → ⊥) → {N q end : ℕ} {after : List ℕ} → N ≡ M .n
-          → Writes now at (w ++ row rows p) after end → q ≡ following N p → Approaching M w before at₀ p₀ s after end q
+          → Adds now at (w ++ row rows p) after end → q ≡ following N p → Approaching M w before at₀ p₀ s after end q
       approaching-on ne {N} {q} {end} {after} ne2 l qe =
-          let block = block-writes p (a .low) l in
+          let block = block-adds p (a .low) l in
           let qn : q ≡ following (M .n) p = qe ∙ ap (λ (n : ℕ). following n p) ne2 in
           let on : Approaching M w before at₀ p₀ s after end (following (M .n) p) = record {
             done = a .done ++ T M w p;
-            writes = writes-append (a .done) (T M w p) (a .writes) block;
+            adds = adds-append (a .done) (T M w p) (a .adds) block;
             rest =
                 append-assoc (a .done) (T M w p) _
                 ∙ ap (λ (xs : List ℕ). a .done ++ xs) (sym (approach-more M w (h .blocks) p s (a .low) sl ne))
@@ -104,17 +104,17 @@ module _ (M : Mealy) (w rows : List ℕ) (h : WriteRequires M w rows) where
       pub approaching-less : (p ≡ s → ⊥) → {N q : ℕ} → N ≡ M .n → q ≡ following N p → gap N q s < gap N p s
       approaching-less ne {N} {q} e qe = rw (qe, e) (omega (arith, gap-step (M .n) p s (a .low) sl ne))
 
-      pub approaching-end : p ≡ s → Writes before at₀ (approach M w (M .n) p₀ s) now at
+      pub approaching-end : p ≡ s → Adds before at₀ (approach M w (M .n) p₀ s) now at
       approaching-end e =
           let none : approach M w (M .n) p s ≡ [] = rw e (approach-here M w (M .n) s) in
-          rw (← a .rest, none, append-nil) (a .writes)
+          rw (← a .rest, none, append-nil) (a .adds)
 
   -- ---- a test
   module _ {at p s c : ℕ} (a : PartRequires M w rows at p mostTest) (sl : s < M .n) (cl : c < M .k) where
     pub approach-required : PartRequires M w rows at p mostApproach
     approach-required = record { write-requires = h; low = a .low; room = omega (arith, a .room) }
 
-    reached-room : {before after : List ℕ} {end : ℕ} → Writes before at (approach M w (M .n) p s) after end
+    reached-room : {before after : List ℕ} {end : ℕ} → Adds before at (approach M w (M .n) p s) after end
         → end + 1 + mostBlock ≤ mostSequence
     reached-room l =
         let g = gap-below (M .n) p s (a .low) sl in
@@ -123,7 +123,7 @@ module _ (M : Mealy) (w rows : List ℕ) (h : WriteRequires M w rows) where
         (omega (arith, h .blocks .proper .few-states)) in
         omega (arith, a .room, l .ends, approach-length M w (h .blocks) (M .n) p s (a .low) sl)
 
-    pub command-room : {before after : List ℕ} {end : ℕ} → Writes before at (approach M w (M .n) p s) after end
+    pub command-room : {before after : List ℕ} {end : ℕ} → Adds before at (approach M w (M .n) p s) after end
         → end + 1 ≤ mostSequence
     command-room l = omega (arith, reached-room l)
 
@@ -131,20 +131,20 @@ module _ (M : Mealy) (w rows : List ℕ) (h : WriteRequires M w rows) where
     led-low e = rw e (h .blocks .proper .stays s c sl cl)
 
     pub led-required : {t : ℕ} → t ≡ M .next s c → {before middle after : List ℕ} {e f : ℕ}
-        → Writes before at (approach M w (M .n) p s) middle e → Writes middle e (c ∷ []) after f
+        → Adds before at (approach M w (M .n) p s) middle e → Adds middle e (c ∷ []) after f
         → BlockRequires w rows t f
     led-required {t} te l one = block-required t _ (led-low te) (omega (arith, reached-room l, one .ends))
 
     pub test-moves : {N t q : ℕ} → N ≡ M .n → t ≡ M .next s c → q ≡ following N t → {b b₁ b₂ b₃ : List ℕ} {e f g : ℕ}
-        → Writes b at (approach M w (M .n) p s) b₁ e → Writes b₁ e (c ∷ []) b₂ f → Writes b₂ f (w ++ row rows t) b₃ g
+        → Adds b at (approach M w (M .n) p s) b₁ e → Adds b₁ e (c ∷ []) b₂ f → Adds b₂ f (w ++ row rows t) b₃ g
         → Moves M b at p (test M w p s c) b₃ (record { at = g; state = q })
     test-moves {N} {t} {q} ne te qe {b} {b₁} {b₂} {b₃} {e} {f} {g} l one block =
-        let led : Writes b₂ f (T M w (M .next s c)) b₃ g = rw (← te) (block-writes t (led-low te) block) in
+        let led : Adds b₂ f (T M w (M .next s c)) b₃ g = rw (← te) (block-adds t (led-low te) block) in
         record {
-          writes =
+          adds =
               rw (test-is M w p s c)
-              (writes-append (approach M w (M .n) p s) (c ∷ T M w (M .next s c)) l
-              (writes-append (c ∷ []) (T M w (M .next s c)) one led));
+              (adds-append (approach M w (M .n) p s) (c ∷ T M w (M .next s c)) l
+              (adds-append (c ∷ []) (T M w (M .next s c)) one led));
           leads = qe ∙ (rw (ne, te) (sym (test-leads M w (h .blocks) p s c (a .low) sl cl)));
         }
 
@@ -208,7 +208,7 @@ module _ (M : Mealy) (w rows before : List ℕ) (p₀ : Position) (h : WriteRequ
           arith,
           a .room,
           h .blocks .proper .few-commands,
-          m .writes .ends,
+          m .adds .ends,
           test-few (p .state) s c (a .low) sl cl,
         );
       }
@@ -244,7 +244,7 @@ module _ (M : Mealy) (w rows before : List ℕ) (p₀ : Position) (h : WriteRequ
           rw (add-one, tests-more M w (p₀ .state) s)
           (moves-append (tests M w (p₀ .state) s) (λ x. stateTests M w x s (M .k)) (a .moves) m);
       low = rw (m .leads) (state-tests-stay M w (h .blocks) (p .state) s (M .k) (a .low) sl (omega arith));
-      room = omega (arith, a .room, h .blocks .proper .few-states, m .writes .ends, state-few (p .state) s (a .low) sl);
+      room = omega (arith, a .room, h .blocks .proper .few-states, m .adds .ends, state-few (p .state) s (a .low) sl);
     }
 
     pub testing-end : M .n ≤ s → Moves M before (p₀ .at) (p₀ .state) (tests M w (p₀ .state) (M .n)) now p
@@ -255,7 +255,7 @@ module _ (M : Mealy) (w rows before : List ℕ) (p₀ : Position) (h : WriteRequ
 -- ---- the opening: the first i blocks
 pub record Opening (M : Mealy) (w before now : List ℕ) (at p i : ℕ) : Type 0 where
   pub inside : i ≤ M .n + 1
-  pub writes : Writes before 0 (firstBlocks M w i) now at
+  pub adds : Adds before 0 (firstBlocks M w i) now at
   pub state : p ≡ nthState M i
   pub room : at ≤ i * mostBlock
 
@@ -263,7 +263,7 @@ module _ (M : Mealy) (w rows before : List ℕ) (h : WriteRequires M w rows) whe
   pub opening-start : {p : ℕ} → p ≡ M .start → Opening M w before before 0 p 0
   opening-start e = record {
     inside = omega arith;
-    writes = writes-none before 0 (first-blocks-none M w);
+    adds = adds-none before 0 (first-blocks-none M w);
     state = e ∙ sym (nthState-start M (h .blocks .proper));
     room = omega arith;
   }
@@ -276,16 +276,16 @@ module _ (M : Mealy) (w rows before : List ℕ) (h : WriteRequires M w rows) whe
     opening-required e l =
         block-required M w rows h p at opening-low (omega (arith, a .room, h .blocks .proper .few-states))
 
-    pub opening-on : {N q end : ℕ} {after : List ℕ} → N ≡ M .n → i ≤ N → Writes now at (w ++ row rows p) after end
+    pub opening-on : {N q end : ℕ} {after : List ℕ} → N ≡ M .n → i ≤ N → Adds now at (w ++ row rows p) after end
         → q ≡ following N p → Opening M w before after end q (i + 1)
     opening-on {N} {q} {end} {after} e l b qe =
-        let block : Writes now at (T M w p) after end = block-writes M w rows h p opening-low b in
-        let here : Writes now at (T M w (nthState M i)) after end = rw (← a .state) block in
+        let block : Adds now at (T M w p) after end = block-adds M w rows h p opening-low b in
+        let here : Adds now at (T M w (nthState M i)) after end = rw (← a .state) block in
         record {
           inside = omega arith;
-          writes =
+          adds =
               rw (add-one, first-blocks-more M w i)
-              (writes-append (firstBlocks M w i) (T M w (nthState M i)) (a .writes) here);
+              (adds-append (firstBlocks M w i) (T M w (nthState M i)) (a .adds) here);
           state = qe ∙ (rw (e, a .state, add-one) (sym (nthState-next M (h .blocks .proper) i)));
           room = omega (arith, a .room, block .ends, block-length M w rows h p opening-low);
         }
@@ -296,7 +296,7 @@ module _ (M : Mealy) (w rows before : List ℕ) (h : WriteRequires M w rows) whe
         let all : firstBlocks M w i ≡ opening M w =
         ap (firstBlocks M w) (omega (arith, a .inside)) ∙ sym (opening-is M w (h .blocks)) in
         record {
-          writes = rw (← all) (a .writes);
+          adds = rw (← all) (a .adds);
           leads = a .state ∙ sym (first-blocks-lead M w (h .blocks) i) ∙ ap (run M (M .start)) all;
         }
 
@@ -312,10 +312,10 @@ module _ (M : Mealy) (w rows before : List ℕ) (h : WriteRequires M w rows) whe
         low =
             rw (m .leads, opening-leads M w (h .blocks))
             (following-below (M .n) (M .start) (h .blocks .proper .starts));
-        room = omega (arith, m .writes .ends, opening-length M w (h .blocks));
+        room = omega (arith, m .adds .ends, opening-length M w (h .blocks));
       }
 
   pub sequence-written : {middle after : List ℕ} {p q : Position} → Moves M before 0 (M .start) (opening M w) middle p
       → Moves M middle (p .at) (p .state) (tests M w (p .state) (M .n)) after q
-      → Writes before 0 (sequence M w) after (q .at)
-  sequence-written a b = rw (sequence-is M w) (moves-append (opening M w) (λ x. tests M w x (M .n)) a b .writes)
+      → Adds before 0 (sequence M w) after (q .at)
+  sequence-written a b = rw (sequence-is M w) (moves-append (opening M w) (λ x. tests M w x (M .n)) a b .adds)

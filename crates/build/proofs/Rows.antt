@@ -11,7 +11,7 @@ use Rattle.sheet.specs.Writing.{putAt}
 use Rattle.sheet.specs.Writing.Laws.{put-fits}
 use Rattle.machine.specs.Limits.{mostStates}
 use Rattle.build.specs.Table.{rowSize, tableSize, row, Stored}
-use Rattle.build.specs.Writing.{Writes}
+use Rattle.build.specs.Writing.{Adds}
 
 -- a part in the middle depends on the front alone
 middle-is : (l : List ℕ) (j v : ℕ) → j ≤ length l → take v (drop j l) ≡ drop j (take (j + v) l)
@@ -105,11 +105,11 @@ module _ (before commands : List ℕ) (s size : ℕ) (sl : s < mostStates) (zl :
       rw e (record { long = after-long; sized = cell; stored = stored-row; sizes = other-cell; rows = other-row })
 
 -- a row written as the part of the table that it is
-pub writes-row : (rows : List ℕ) (s : ℕ) {before after xs : List ℕ} {at end : ℕ}
+pub adds-row : (rows : List ℕ) (s : ℕ) {before after xs : List ℕ} {at end : ℕ}
     → xs ≡ take (s * rowSize + 1 + getD rows (s * rowSize) 0 - (s * rowSize + 1)) (drop (s * rowSize + 1) rows)
-    → Writes before at xs after end → Writes before at (row rows s) after end
+    → Adds before at xs after end → Adds before at (row rows s) after end
 unfolding row
-writes-row rows s {before} {after} {xs} e h =
+adds-row rows s {before} {after} {xs} e h =
     let size : s * rowSize + 1 + getD rows (s * rowSize) 0 - (s * rowSize + 1) ≡ getD rows (s * rowSize) 0 =
     omega arith in
     let part : xs ≡ take (getD rows (s * rowSize) 0) (drop (s * rowSize + 1) rows) =

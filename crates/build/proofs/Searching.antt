@@ -1,7 +1,7 @@
 -- The search by distances, over plain variables: the first step to a state at a distance, and what distances say of
 -- paths. Assumes nothing.
 use Prim.Native.Nat.{ℕ, suc, _+_, _*_, _≤_, _<_}
-use mathlib.Core.Path.{_≡_, refl, sym, ap, _∙_}
+use mathlib.Core.Path.{_≡_, refl, ap, _∙_}
 use mathlib.Core.List.{List}
 use mathlib.Core.Option.{none, some}
 use native.Mathlib.Omega.{arith}
@@ -17,8 +17,7 @@ use Rattle.build.specs.Distances.{unreached, FirstStep, Widened, Distanc
 -- the distance behind a command
 cell-reached : (next distance : List ℕ) (k s c : ℕ) {e t d : ℕ} → e ≡ s * k + c → t ≡ getD next e 0
     → getD distance t 0 ≡ d → getD distance (getD next (s * k + c) 0) 0 ≡ d
-cell-reached next distance k s c ee te de =
-    ap (λ (x : ℕ). getD distance x 0) (ap (λ (x : ℕ). getD next x 0) (sym ee) ∙ sym te) ∙ de
+cell-reached next distance k s c ee te de = rw (← ee, ← te) de
 
 -- what the loop over the commands keeps
 pub record Passing (next : List ℕ) (k : ℕ) (distance : List ℕ) (s d c : ℕ) : Type 0 where

@@ -5,22 +5,17 @@ use Prim.Native.Nat.{ℕ, _≤_, _<_}
 use mathlib.Core.Path.{_≡_}
 use mathlib.Core.Bool.{Bool, true, false}
 use mathlib.Core.List.{List, [], _∷_, _++_}
-use mathlib.Core.Logic.{_⊎_, inl, inr}
 use mathlib.Core.Option.{Option, none, some}
 use lib.ListN.{length}
 use Rattle.sheet.specs.declared.check.Check.{Check}
 use Rattle.sheet.specs.declared.check.Check.the-variants.{Clear}
-use Rattle.sheet.specs.declared.check.Values.{Values}
 use Rattle.sheet.specs.declared.reader.Needs.{Needs}
-use Rattle.sheet.specs.Check.{refusal_with_if_, firstCause, first, refusedOr, unlessRefused}
-use Rattle.sheet.specs.Values.{refusalValues, Returns}
+use Rattle.sheet.specs.declared.writing.Answer.{Answer}
+use Rattle.sheet.specs.Check.{refusal_with_if_, firstCause, first}
 use Rattle.sheet.specs.Reader.{wordIn, wordRecord}
-use Rattle.sheet.specs.Writing.{written}
+use Rattle.sheet.specs.Promise.{causeToWrite, writing, leaving, Writes}
 use Rattle.machine.specs.Machine.{Mealy, Separates}
 use Rattle.machine.specs.Causes.{cause5, machineIn, machineCauses, loadCauses}
-use Rattle.certify.specs.Certification.{cause9}
-use Rattle.build.specs.declared.service.Answer.{Answer}
-use Rattle.build.specs.declared.service.Answer.the-variants.{Built, Refused as RefusedAnswer}
 use Rattle.build.specs.Transfer.{Leads}
 use Rattle.build.specs.Sequence.{B, sequence}
 pub mod Connection
@@ -46,32 +41,23 @@ cause8 M w = first (M .n) (λ s. refusal 8 with s if noTransfer (B M w s))
 unfoldable pub connectedCauses : List ℕ → List Check
 connectedCauses s = loadCauses buildNeeds s ++ (cause8 (machineIn s) (wordIn s) ∷ [])
 
--- the causes of building in order (§4.1): these, then 9, for which the length of the sequence is needed
-unfoldable pub buildCauses : ℕ → List ℕ → List Check
-buildCauses room s = connectedCauses s ++ (cause9 room (length (sequence (machineIn s) (wordIn s))) ∷ [])
+-- ---- the service, which writes the sequence (§6.4): these causes come before 9 (§4.3)
+-- its first cause, for a room
+abbrev pub buildCause : ℕ → List ℕ → Check
+buildCause room s = causeToWrite (firstCause (connectedCauses s)) room (sequence (machineIn s) (wordIn s))
 
--- ---- the service
--- what building answers to a sheet and a room: the length of the sequence (§6.4), or a refusal
-unfoldable pub building : ℕ → List ℕ → Answer
-building room s =
-    refusedOr RefusedAnswer (firstCause (buildCauses room s)) (Built (length (sequence (machineIn s) (wordIn s))))
+-- what building answers to a sheet and a room: the length of the sequence, or a refusal
+abbrev pub building : ℕ → List ℕ → Answer
+building room s = writing (firstCause (connectedCauses s)) room (sequence (machineIn s) (wordIn s))
 
--- the lent buffer after building: it begins with the sequence (§6.4); on a refusal it is as before (§4.3)
-unfoldable pub bufferAfter : List ℕ → List ℕ → List ℕ
-bufferAfter s buffer =
-    unlessRefused (firstCause (buildCauses (length buffer) s))
-    (written (sequence (machineIn s) (wordIn s)) buffer) buffer
+-- the lent buffer after building: it begins with the sequence; on a refusal it is as before (§4.3)
+abbrev pub bufferAfter : List ℕ → List ℕ → List ℕ
+bufferAfter s buffer = leaving (firstCause (connectedCauses s)) (sequence (machineIn s) (wordIn s)) buffer
 
--- number and values of each answer: the length, for which §8.3 has no class, or a refusal's
-abbrev pub valuesOf : Answer → Values ⊎ ℕ
-valuesOf (Built size) = inr size
-valuesOf (RefusedAnswer number place) = inl (refusalValues number place)
-
--- what building promises of a sheet (§4.4): the specified answer with its number and values, and every
--- byte of the lent buffer
-pub record Builds (s before after : List ℕ) (a : Answer) : Type 0 where
-  pub answer : Returns valuesOf (building (length before) s) a
-  pub buffer : after ≡ bufferAfter s before
+-- what building promises of a sheet (§4.4)
+abbrev pub Builds : List ℕ → List ℕ → List ℕ → Answer → Type 0
+Builds s before after a =
+    Writes (firstCause (connectedCauses s)) (sequence (machineIn s) (wordIn s)) before after a
 
 -- ---- when building succeeds
 -- strongly connected (§6.5): a command string, of any length, leads from each state to each state
@@ -82,7 +68,7 @@ StronglyConnected M = (a b : ℕ) → a < M .n → b < M .n → (u : List ℕ) �
 -- connected, and there is room. It succeeds exactly then: built-buildable and buildable-built, in Building.Service
 pub record Buildable (room : ℕ) (s : List ℕ) : Type 0 where
   pub machine : firstCause (machineCauses buildNeeds s) ≡ Clear
-  pub word : cause5 (machineIn s .k) (wordRecord s) (wordIn s) ≡ Clear
+  pub word : cause5 (machineIn s .k) (wordRecord s .start) (wordIn s) ≡ Clear
   pub separates : Separates (machineIn s) (wordIn s)
   pub connected : StronglyConnected (machineIn s)
   pub fits : length (sequence (machineIn s) (wordIn s)) ≤ room

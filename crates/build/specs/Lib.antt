@@ -1,7 +1,6 @@
 pub mod Transfer
 pub mod Sequence
 pub mod Building
-pub mod Loading
 pub mod Distances
 pub mod Table
 pub mod Writing

@@ -4,7 +4,7 @@ use Prim.Native.Nat.{ℕ, _+_, _-_, _*_, _≤_, _<_}
 use mathlib.Core.Path.{_≡_}
 use mathlib.Core.List.{List}
 use lib.ListN.{length, getD}
-use lib.Seq.{paste}
+use Rattle.sheet.specs.Writing.{Puts}
 use Rattle.machine.specs.Limits.{mostStates, mostCommands, mostWord, mostSequence}
 use Rattle.machine.specs.Machine.{Mealy, run}
 use Rattle.build.specs.declared.writing.Position.{Position}
@@ -32,15 +32,14 @@ pub record WriteRequires (M : Mealy) (w rows : List ℕ) : Type 0 where
   pub filled : Filled M w (M .n) rows
 
 -- ---- writing
--- commands written at a place of a buffer: where they fit they stand there and all else is as it was;
--- with the place behind them
-pub record Writes (before : List ℕ) (at : ℕ) (xs after : List ℕ) (end : ℕ) : Type 0 where
+-- commands put at a place of a buffer where they fit, and the place behind them also where they do not
+pub record Adds (before : List ℕ) (at : ℕ) (xs after : List ℕ) (end : ℕ) : Type 0 where
   pub ends : end ≡ at + length xs
-  pub written : end ≤ length before → after ≡ paste before at xs (length xs)
+  pub puts : end ≤ length before → Puts before at xs after end
 
 -- the same, with the state that they lead to
 pub record Moves (M : Mealy) (before : List ℕ) (at state : ℕ) (xs after : List ℕ) (p : Position) : Type 0 where
-  pub writes : Writes before at xs after (p .at)
+  pub adds : Adds before at xs after (p .at)
   pub leads : p .state ≡ run M state xs
 
 -- what writing a block asks: a row of the table, and that the block still belongs to a sequence within the limit

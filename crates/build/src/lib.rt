@@ -7,7 +7,6 @@ mod transfers;
 mod writing;
 
 pub use loading::load_connected;
-pub use service::Answer;
 pub use service::build;
 pub use transfers::MaybeTransfer;
 pub use transfers::transfer;

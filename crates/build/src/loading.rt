@@ -5,7 +5,8 @@ ghost use Rattle.sheet.specs.declared.check.Check.the-variants.{Clear};
 ghost use Rattle.sheet.specs.Reader.{wordIn};
 ghost use Rattle.machine.specs.Machine.{meaning};
 ghost use Rattle.build.specs.Table.{tableSize, Filled};
-ghost use Rattle.build.specs.Loading.{ConnectedFrom};
+ghost use Rattle.machine.specs.Loading.{LoadedBy};
+ghost use Rattle.build.specs.Building.{connectedCauses};
 use crate::table::ROWS;
 use crate::table::connect;
 use machine::Loaded;
@@ -18,7 +19,7 @@ use sheet::read;
 // Loads a sheet, and fills the table of transfers unless the sheet is refused.
 pub fn load_table(sheet: &[u8], rows: &mut [u8]) -> Loaded
     requires { ⌜ length (now rows) ≡ tableSize ⌝ }
-    ensures { λ r. ⌜ ConnectedFrom (now (sheet .entry)) r ⌝ }
+    ensures { λ r. ⌜ LoadedBy (connectedCauses (now (sheet .entry))) (now (sheet .entry)) r ⌝ }
     ensures { λ r. ⌜
         (r .check ≡ Clear
         → Filled (meaning (r .machine)) (wordIn (now (sheet .entry))) (meaning (r .machine) .n)
@@ -47,7 +48,7 @@ pub fn load_table(sheet: &[u8], rows: &mut [u8]) -> Loaded
 
 // Loads a sheet for a service that needs a separating word and transfers.
 pub fn load_connected(sheet: &[u8]) -> Loaded
-    ensures { λ r. ⌜ ConnectedFrom (now (sheet .entry)) r ⌝ }
+    ensures { λ r. ⌜ LoadedBy (connectedCauses (now (sheet .entry))) (now (sheet .entry)) r ⌝ }
 {
     let mut rows = [0u8; ROWS];
     load_table(sheet, &mut rows)

@@ -3,16 +3,11 @@ ghost use Rattle.build.specs.Building.{Builds};
 use crate::loading::load_table;
 use crate::table::ROWS;
 use crate::writing::write_sequence;
+use sheet::Answer;
 use sheet::Check;
 use sheet::WORD_KIND;
 use sheet::read;
-use sheet::refuse;
-
-// Built with the length of the sequence, or refused with number and place.
-pub enum Answer {
-    Built { length: usize },
-    Refused { number: u8, place: usize },
-}
+use sheet::room_check;
 
 // Builds the checking sequence of a sheet's machine and word into the lent buffer. A refusal writes
 // nothing; bytes behind the sequence stay as they were.
@@ -30,10 +25,10 @@ pub fn build(sheet: &[u8], buffer: &mut [u8]) -> Answer
     // Lent no bytes, it only counts.
     let lent = 0;
     let length = write_sequence(m, w, &rows, &mut buffer[..lent]);
-    let nine = refuse(9, length, buffer.len() < length);
+    let nine = room_check(buffer.len(), length);
     if let Check::Refused { number, place } = nine {
         return Answer::Refused { number, place };
     }
-    write_sequence(m, w, &rows, buffer);
-    Answer::Built { length }
+    let end = write_sequence(m, w, &rows, buffer);
+    Answer::Written { length: end }
 }

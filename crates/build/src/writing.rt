@@ -13,7 +13,7 @@ ghost use Rattle.build.specs.Sequence.{stateTests};
 ghost use Rattle.build.specs.Sequence.{tests as testsOf};
 ghost use Rattle.build.specs.Sequence.{opening as openingOf};
 ghost use Rattle.build.specs.Table.{row};
-ghost use Rattle.build.specs.Writing.{mostApproach, mostTest, mostStateTests, mostTests, WriteRequires, Writes};
+ghost use Rattle.build.specs.Writing.{mostApproach, mostTest, mostStateTests, mostTests, WriteRequires, Adds};
 ghost use Rattle.build.specs.Writing.{Moves, BlockRequires, PartRequires};
 use crate::table::ROW;
 use crate::table::following;
@@ -30,7 +30,7 @@ pub struct Position {
 // Copies commands to a place, where they fit; gives the place behind them.
 fn put(xs: &[u8], at: usize, buffer: &mut [u8]) -> usize
     requires { ⌜ at + length (now xs) ≤ mostSequence ⌝ }
-    ensures { λ r. ⌜ Writes (now (buffer .entry)) at (now (xs .entry)) (now (buffer .exit)) r ⌝ }
+    ensures { λ r. ⌜ Adds (now (buffer .entry)) at (now (xs .entry)) (now (buffer .exit)) r ⌝ }
 {
     sheet::put(xs, at, buffer);
     at + xs.len()
@@ -40,7 +40,7 @@ fn put(xs: &[u8], at: usize, buffer: &mut [u8]) -> usize
 fn block(w: &[u8], rows: &[u8], s: u8, at: usize, buffer: &mut [u8]) -> usize
     requires { ⌜ BlockRequires (now w) (now rows) s at ⌝ }
     ensures { λ r. ⌜
-        Writes (now (buffer .entry)) at (now (w .entry) ++ row (now (rows .entry)) s) (now (buffer .exit)) r ⌝ }
+        Adds (now (buffer .entry)) at (now (w .entry) ++ row (now (rows .entry)) s) (now (buffer .exit)) r ⌝ }
 {
     let middle = put(w, at, buffer);
     let from = s as usize * ROW;
@@ -54,7 +54,7 @@ fn approach(m: Machine, w: &[u8], rows: &[u8], from: Position, s: u8, buffer: &m
     requires { ⌜ PartRequires (meaning m) (now w) (now rows) (from .at) (from .state) mostApproach ⌝ }
     requires { ⌜ s < meaning m .n ⌝ }
     ensures { λ r. ⌜
-        Writes (now (buffer .entry)) (from .at) (approachOf (meaning m) (now (w .entry)) (meaning m .n) (from .state) s)
+        Adds (now (buffer .entry)) (from .at) (approachOf (meaning m) (now (w .entry)) (meaning m .n) (from .state) s)
         (now (buffer .exit)) r ⌝ }
 {
     let mut at = from.at;
@@ -155,7 +155,7 @@ fn opening(m: Machine, w: &[u8], rows: &[u8], buffer: &mut [u8]) -> Position
 // The whole sequence; gives its length.
 pub fn write_sequence(m: Machine, w: &[u8], rows: &[u8], buffer: &mut [u8]) -> usize
     requires { ⌜ WriteRequires (meaning m) (now w) (now rows) ⌝ }
-    ensures { λ r. ⌜ Writes (now (buffer .entry)) 0 (sequence (meaning m) (now (w .entry))) (now (buffer .exit)) r ⌝ }
+    ensures { λ r. ⌜ Adds (now (buffer .entry)) 0 (sequence (meaning m) (now (w .entry))) (now (buffer .exit)) r ⌝ }
 {
     let p = opening(m, w, rows, buffer);
     let end = tests(m, w, rows, p, buffer);

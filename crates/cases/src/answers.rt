@@ -3,7 +3,6 @@ use crate::buffers::front;
 use crate::bytes::bytes;
 use crate::output::labelled;
 use crate::output::text;
-use build::Answer as Building;
 use build::MaybeTransfer;
 use certify::Answer as Certification;
 use desk::First;
@@ -11,6 +10,7 @@ use desk::Order;
 use judge::Answer as Judgement;
 use machine::Entry;
 use machine::Limits;
+use sheet::Answer;
 use sheet::Check;
 use word::Answer as Search;
 use word::Searched;
@@ -64,10 +64,10 @@ pub(crate) fn certified(a: Certification, out: &mut [u8], used: usize) -> usize 
     }
 }
 
-pub(crate) fn built(a: Building, out: &mut [u8], used: usize) -> usize {
+pub(crate) fn built(a: Answer, out: &mut [u8], used: usize) -> usize {
     match a {
-        Building::Built { length } => labelled(b"built ", length, out, used),
-        Building::Refused { number, place } => refused(number, place, out, used),
+        Answer::Written { length } => labelled(b"built ", length, out, used),
+        Answer::Refused { number, place } => refused(number, place, out, used),
     }
 }
 

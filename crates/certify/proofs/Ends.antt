@@ -1,7 +1,7 @@
 -- How a sweep begins, and what it shows in the end.
 -- Assumes nothing.
 use Prim.Native.Nat.{ℕ, zero, _+_, _*_, _≤_, _<_}
-use mathlib.Core.Path.{_≡_, refl, sym, ap, ap₂, _∙_}
+use mathlib.Core.Path.{_≡_, refl, sym, ap₂, _∙_}
 use mathlib.Core.Bool.{Bool, true, false, true≢false}
 use mathlib.Core.List.{List}
 use mathlib.Core.Logic.{⊎-elim}
@@ -24,8 +24,7 @@ use Rattle.certify.proofs.Turn.{merged-still, merged-learning, Still, H
 -- equal parts have equal commands
 commands-at : (xs : List ℕ) (p q m : ℕ) → take m (drop p xs) ≡ take m (drop q xs) → (i : ℕ) → i < m
     → getD xs (p + i) 0 ≡ getD xs (q + i) 0
-commands-at xs p q m e i l =
-    sym (part-at xs p m i l) ∙ ap (λ (m : List ℕ). getD m i 0) e ∙ part-at xs q m i l
+commands-at xs p q m e i l = rw (← part-at xs p m i l, e) (part-at xs q m i l)
 
 module _ {M : Mealy} {apply : Bool} {xs given known₀ : List ℕ} (h : SweepRequires M apply xs given known₀) where
   -- before place 0

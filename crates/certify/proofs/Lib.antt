@@ -11,7 +11,6 @@ mod Marking
 mod Merging
 mod Paired
 mod Represented
-mod SequenceLoading
 mod Settling
 mod Tables
 mod Turn

@@ -6,7 +6,7 @@ use mathlib.Core.Path.{_≡_, refl, sym, ap, _∙_}
 use mathlib.Core.List.{List}
 use mathlib.Core.Logic.{inl, inr}
 use native.Mathlib.Omega.{arith}
-use native.Mathlib.Nat.{eq-or-lt-of-le}
+use native.Mathlib.Nat.{eq-or-lt-of-le, add-zero}
 use lib.ListN.{length, getD}
 use Rattle.certify.specs.Marks.{Bits}
 use Rattle.certify.specs.Folding.{Past, here, past}
@@ -121,8 +121,7 @@ module _ (xs : List ℕ) (st : ℕ → ℕ) (ms alt root : List ℕ) where
       walked-alike : (p : Walked a) (q : Walked b) → p .r ≡ q .r → Alike (a + 1) (b + 1)
       walked-alike p q e =
           let v = walked-one p q e c in
-          let m : getD ms (a + 1) 0 ≡ getD ms (b + 1) 0 =
-          sym (p .agrees) ∙ ap (λ (x : ℕ). getD ms (x + 1) 0) v ∙ q .agrees in
+          let m : getD ms (a + 1) 0 ≡ getD ms (b + 1) 0 = rw (← p .agrees, v) (q .agrees) in
           record {
             marks = m;
             states = follows a b al bl (h .states) c;
@@ -165,10 +164,7 @@ module _ (xs : List ℕ) (st : ℕ → ℕ) (ms alt root : List ℕ) where
 
     alike-along : (a b m : ℕ) → a + m ≤ length xs → b + m ≤ length xs
         → ((i : ℕ) → i < m → getD xs (a + i) 0 ≡ getD xs (b + i) 0) → Alike a b → Alike (a + m) (b + m)
-    alike-along a b zero al bl e h =
-        let ea : a + 0 ≡ a = omega arith in
-        let eb : b + 0 ≡ b = omega arith in
-        rw (ea, eb) h
+    alike-along a b zero al bl e h = simp add-zero h
     alike-along a b (suc m) al bl e h =
         let k = alike-along a b m (omega arith) (omega arith) (λ i l. e i (omega arith)) h in
         let ea : a + suc m ≡ a + m + 1 = omega arith in

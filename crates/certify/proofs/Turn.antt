@@ -1,7 +1,7 @@
 -- A turn of the sweep: what holds before place t, and that its steps lead to the same before place t + 1.
 -- Assumes nothing.
 use Prim.Native.Nat.{ℕ, _+_, _≤_, _<_}
-use mathlib.Core.Path.{_≡_, refl, sym, ap, ap₂, _∙_}
+use mathlib.Core.Path.{_≡_, refl, sym, ap, _∙_}
 use mathlib.Core.Bool.{Bool, true, false, true≢false}
 use mathlib.Core.List.{List}
 use mathlib.Core.Logic.{inl, inr}
@@ -81,8 +81,7 @@ module _ {M : Mealy} {apply : Bool} {xs given known₀ : List ℕ} (required : S
       from t r v g (past-grows (links-grow (found v k e ae ce)) k) e refl ce
   comes-next {alt} {alt′} {root} {r} {t} h rl g tl (added v k o z ae ce) =
       let vt = below xs v t (past-low M xs given h k rl) o in
-      let cell : getD alt′ v 0 ≡ t =
-      ap (λ (l : List ℕ). getD l v 0) ae ∙ getD-set-same alt v t 0 (omega (arith, h .long)) in
+      let cell : getD alt′ v 0 ≡ t = rw (ae, getD-set-same alt v t 0 (omega (arith, h .long))) in
       let k′ : Past xs alt′ (getD xs t 0) r v = past-grows (links-grow (added v k o z ae ce)) k in
       let full : getD alt′ v 0 ≡ 0 → ⊥ = λ y. omega arith in
       let there : Past xs alt′ (getD xs t 0) r t = rw cell at (past-on k′ o full) in
@@ -109,10 +108,8 @@ module _ {M : Mealy} {apply : Bool} {xs given known₀ : List ℕ} (required : S
 
       rooted-cell : {r : ℕ} → Rooted root s t root′ r → getD root′ (stateAt M xs t) 0 ≡ r + 1
       rooted-cell (Rooted.first y re e) =
-          ap₂ (λ (m : List ℕ) (x : ℕ). getD m x 0) re (sym se)
-          ∙ getD-set-same root s (t + 1) 0 (omega (arith, k .long))
-          ∙ ap (λ (x : ℕ). x + 1) (sym e)
-      rooted-cell (Rooted.again e re) = ap₂ (λ (m : List ℕ) (x : ℕ). getD m x 0) re (sym se) ∙ e
+          rw (re, ← se, getD-set-same root s (t + 1) 0 (omega (arith, k .long)), e)
+      rooted-cell (Rooted.again e re) = rw (re, ← se) e
 
   -- the tables grow as the sweep goes on
   represented-roots : {ms alt root alt′ root′ : List ℕ} {s t cur cur′ : ℕ}

@@ -1,4 +1,4 @@
--- Certifying: causes 7 and 9 (§4.2), the answer and what is written (§5.4), and the contract (§4.4), which says by
+-- Certifying: its causes (§4.1), the answer and what is written (§5.4), and the contract (§4.4), which says by
 -- Recognition what an answer and a mark mean. No other module can unfold `verified`, `openCause`, `openIn`, `outcome`,
 -- `certification` and `marksAfter`; Certification.Contract shows that the contract holds of them. Certification.Laws
 -- has the laws of causes, answer and buffer, Certification.Bounds how large the values are, Certification.Program what
@@ -8,20 +8,19 @@ use mathlib.Core.Path.{_≡_}
 use mathlib.Core.Bool.{Bool, true, false, not, _&&_}
 use mathlib.Core.List.{List, [], _∷_, _++_}
 use mathlib.Core.Logic.{_↔_}
-use lib.Dec.{ltb, eqb}
+use lib.Dec.{eqb}
 use lib.ListN.{length, getD, take, drop}
 use Rattle.sheet.specs.declared.check.Check.{Check}
 use Rattle.sheet.specs.declared.check.Check.the-variants.{Clear, Refused}
 use Rattle.sheet.specs.declared.check.Values.{Values}
-use Rattle.sheet.specs.declared.record.Record.{Record}
 use Rattle.sheet.specs.declared.reader.Needs.{Needs}
 use Rattle.sheet.specs.Check.{refusal_with_if_, _else_, firstCause, first, refusedOr, unlessRefused}
 use Rattle.sheet.specs.Values.{refusalValues, Returns}
-use Rattle.sheet.specs.Reader.{wordIn, sequenceIn, sequenceRecord}
+use Rattle.sheet.specs.Reader.{wordIn, sequenceIn}
 use Rattle.sheet.specs.Writing.{written}
-use Rattle.machine.specs.Limits.{mostSequence}
+use Rattle.sheet.specs.Promise.{cause9}
 use Rattle.machine.specs.Machine.{Mealy, stateAt}
-use Rattle.machine.specs.Causes.{commandsCause, machineIn, loadCauses}
+use Rattle.machine.specs.Causes.{machineIn, loadCauses}
 use Rattle.certify.specs.declared.answer.Answer.{Answer}
 use Rattle.certify.specs.declared.answer.Answer.the-variants.{Certified as CertifiedAnswer, Open}
 use Rattle.certify.specs.declared.answer.Answer.the-variants.{Refused as RefusedAnswer}
@@ -38,28 +37,19 @@ pub mod Twin
 abbrev pub sequenceNeeds : Bool → Needs
 sequenceNeeds withAnswers = record { word = true; sequence = true; answers = withAnswers }
 
--- cause 7, sequence (§4.2)
-abbrev pub cause7 : ℕ → Record → List ℕ → Check
-cause7 k r xs = commandsCause 7 mostSequence k r xs
-
--- cause 9, room (§4.2): the room is smaller than the bytes that are needed; these are the place
-unfoldable pub cause9 : ℕ → ℕ → Check
-cause9 room bytes = refusal 9 with bytes if ltb room bytes
-
 -- the bytes that the marks of a sequence need (§4.2, cause 9)
 abbrev pub markBytes : List ℕ → ℕ
 markBytes xs = length xs + 1
 
--- the causes of loading, then 7 and 9, of a service that certifies (§4.1), by whether it needs the answers and by the
--- room for marks
-unfoldable pub sequenceCauses : Bool → ℕ → List ℕ → List Check
-sequenceCauses withAnswers room s =
-    loadCauses (sequenceNeeds withAnswers) s
-    ++ (cause7 (machineIn s .k) (sequenceRecord s) (sequenceIn s) ∷ cause9 room (markBytes (sequenceIn s)) ∷ [])
+-- the causes of loading, then 9, of a service that marks the places of a sequence (§4.1), by whether it needs the
+-- answers and by the room for marks
+unfoldable pub markingCauses : Bool → ℕ → List ℕ → List Check
+markingCauses withAnswers room s =
+    loadCauses (sequenceNeeds withAnswers) s ++ (cause9 room (markBytes (sequenceIn s)) ∷ [])
 
 -- the causes of certifying (§4.1)
 abbrev pub certifyCauses : ℕ → List ℕ → List Check
-certifyCauses room s = sequenceCauses false room s
+certifyCauses room s = markingCauses false room s
 
 -- ---- what is certified
 -- whether entry (s, c) is verified by these marks: Verified of Recognition, computed

@@ -1,7 +1,6 @@
 pub mod Recognition
 pub mod Marks
 pub mod Certification
-pub mod Loading
 pub mod Word
 pub mod Folding
 pub mod Propagation

@@ -1,20 +1,19 @@
-// The causes of loading, 7 and 9 of a sheet, and its machine: what every service that certifies
-// begins with.
-ghost use Rattle.certify.specs.Loading.{SequenceLoaded};
+// The causes of loading and 9 of a sheet, and its machine: what every service that certifies begins
+// with.
+ghost use Rattle.machine.specs.Loading.{LoadedBy};
+ghost use Rattle.certify.specs.Certification.{markingCauses};
 use machine::Loaded;
-use machine::Machine;
-use machine::commands;
 use machine::load_sheet;
 use sheet::Needs;
 use sheet::SEQUENCE_KIND;
 use sheet::first_of;
 use sheet::read;
-use sheet::refuse;
+use sheet::room_check;
 
 // Loads a sheet for a service that needs machine, word and sequence, a room for the sequence's marks,
 // and perhaps the answers.
 pub fn load_sequence(sheet: &[u8], answers: bool, room: usize) -> Loaded
-    ensures { λ r. ⌜ SequenceLoaded answers room (now (sheet .entry)) r ⌝ }
+    ensures { λ r. ⌜ LoadedBy (markingCauses answers room (now (sheet .entry))) (now (sheet .entry)) r ⌝ }
 {
     let needs = Needs {
         word: true,
@@ -25,9 +24,8 @@ pub fn load_sequence(sheet: &[u8], answers: bool, room: usize) -> Loaded
     let machine = loaded.machine;
     let earlier = loaded.check;
     let xs = read(sheet, SEQUENCE_KIND);
-    let seven = commands(sheet, SEQUENCE_KIND, 7, Machine::SEQUENCE, machine.k);
     let bytes = xs.len() + 1;
-    let nine = refuse(9, bytes, room < bytes);
-    let check = first_of(earlier, first_of(seven, nine));
+    let nine = room_check(room, bytes);
+    let check = first_of(earlier, nine);
     Loaded { check, machine }
 }

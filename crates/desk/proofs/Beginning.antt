@@ -21,7 +21,7 @@ use Rattle.machine.specs.Causes.{machineIn}
 use Rattle.machine.specs.declared.loading.Loaded.{Loaded}
 use Rattle.build.specs.Building.{connectedCauses}
 use Rattle.build.specs.Building.Connection.{clear-distinguishes}
-use Rattle.build.specs.Loading.{ConnectedFrom}
+use Rattle.machine.specs.Loading.{LoadedBy}
 use Rattle.desk.specs.declared.desk.Desk.{Desk}
 use Rattle.desk.specs.declared.desk.Order.the-variants.{Command}
 use Rattle.desk.specs.declared.desk.Phase.the-variants.{Reading}
@@ -54,9 +54,9 @@ firstDesk l word size heard c = record {
   phase = Reading 0;
 }
 
-module _ (s : List ℕ) (l : Loaded) (h : ConnectedFrom s l) (before xs : List ℕ) (long : length before ≡ mostWord)
-    (xe : xs ≡ wordIn s) (word : List ℕ) (we : word ≡ putAt before 0 xs) (size : ℕ) (se : size ≡ putEnd before 0 xs)
-    (heard : List ℕ) (c : ℕ) (ce : c ≡ getD word 0 0) where
+module _ (s : List ℕ) (l : Loaded) (h : LoadedBy (connectedCauses s) s l) (before xs : List ℕ)
+    (long : length before ≡ mostWord) (xe : xs ≡ wordIn s) (word : List ℕ) (we : word ≡ putAt before 0 xs)
+    (size : ℕ) (se : size ≡ putEnd before 0 xs) (heard : List ℕ) (c : ℕ) (ce : c ≡ getD word 0 0) where
   module _ (clear : firstCause (connectedCauses s) ≡ Clear) where
     some : 1 ≤ length (wordIn s)
     some = clear-distinguishes s clear .commands .some

@@ -1,9 +1,9 @@
 -- How the search for the state in which a unit began runs along the word and over the states.
 -- Assumes nothing.
 use Prim.Native.Nat.{ℕ, _+_, _≤_, _<_}
-use mathlib.Core.Path.{_≡_, sym, ap, ap₂, _∙_}
+use mathlib.Core.Path.{_≡_, sym, ap, _∙_}
 use mathlib.Core.Bool.{true, false, true≢false}
-use mathlib.Core.List.{List, [], _∷_, _++_}
+use mathlib.Core.List.{List}
 use mathlib.Core.Option.{none}
 use native.Mathlib.Omega.{arith}
 use lib.ListN.{length, getD, take}
@@ -34,16 +34,16 @@ module _ (M : Mealy) (w ys : List ℕ) (s : ℕ) (even : length w ≡ length ys)
   module _ {state i : ℕ} (h : Following M w ys s state i) (l : i < length w) where
     answer-here : getD (answers M s w) i 0 ≡ M .answer state (getD w i 0)
     answer-here =
-        sym (getD-take (i + 1) (answers M s w) i 0 (omega arith))
-        ∙ ap (λ (x : List ℕ). getD x i 0)
-        (answers-take M s (i + 1) w
-        ∙ ap (answers M s) (take-more w i l)
-        ∙ answers-append M s (take i w) (getD w i 0 ∷ [])
-        ∙ ap (_++_ (answers M s (take i w))) (answers-cons M (run M s (take i w)) (getD w i 0) []))
-        ∙ getD-at (answers M s (take i w)) (M .answer (run M s (take i w)) (getD w i 0))
-        (answers M (M .next (run M s (take i w)) (getD w i 0)) []) 0 i
-        (answers-length M s (take i w) ∙ length-take-le i w (omega arith))
-        ∙ ap (λ (x : ℕ). M .answer x (getD w i 0)) (sym (h .at))
+        let long = answers-length M s (take i w) ∙ length-take-le i w (omega arith) in
+        rw (
+          ← getD-take (i + 1) (answers M s w) i 0 (omega arith),
+          answers-take,
+          take-more w i l,
+          answers-append,
+          answers-cons,
+          getD-at (answers M s (take i w)) _ _ 0 i long,
+          h .at,
+        )
 
     -- an answer that differs
     pub following-differs : {v y : ℕ} → v ≡ M .answer state (getD w i 0) → y ≡ getD ys i 0 → (v ≡ y → ⊥) → {e : ℕ}
@@ -60,22 +60,10 @@ module _ (M : Mealy) (w ys : List ℕ) (s : ℕ) (even : length w ≡ length ys)
     following-next {v} {y} {t} ve ye q te = record {
       inside = omega arith;
       same =
-          ap (answers M s) (take-more w i l)
-          ∙ answers-append M s (take i w) (getD w i 0 ∷ [])
-          ∙ ap₂ _++_ (h .same)
-          (answers-cons M (run M s (take i w)) (getD w i 0) []
-          ∙ ap₂ _∷_
-          (ap (λ (x : ℕ). M .answer x (getD w i 0)) (sym (h .at)) ∙ sym ve ∙ q ∙ ye)
-          (answers-none M (M .next (run M s (take i w)) (getD w i 0))))
-          ∙ sym (take-more ys i (omega arith));
-      at =
-          te
-          ∙ ap (λ (x : ℕ). M .next x (getD w i 0)) (h .at)
-          ∙ sym
-          (ap (run M s) (take-more w i l)
-          ∙ run-append M s (take i w) (getD w i 0 ∷ [])
-          ∙ run-cons M (run M s (take i w)) (getD w i 0) []
-          ∙ run-none M (M .next (run M s (take i w)) (getD w i 0)));
+          let right : M .answer state (getD w i 0) ≡ getD ys i 0 = sym ve ∙ q ∙ ye in
+          let more = take-more ys i (omega arith) in
+          rw (take-more w i l, answers-append, answers-cons, answers-none, h .same, ← h .at, right, more);
+      at = rw (take-more w i l, run-append, run-cons, run-none, ← h .at) te;
     }
 
   -- the end of the word
@@ -85,8 +73,8 @@ module _ (M : Mealy) (w ys : List ℕ) (s : ℕ) (even : length w ≡ length ys)
       let whole : take i w ≡ w = take-all i w l in
       let given : take i ys ≡ ys = take-all i ys (omega arith) in
       record {
-        agrees = λ t. ap (answers M s) (sym whole) ∙ h .same ∙ given;
-        ends = λ t. h .at ∙ ap (run M s) whole;
+        agrees = λ t. rw (whole, given) at (h .same);
+        ends = λ t. rw whole at (h .at);
         differs = λ t q. true≢false t;
       }
 

@@ -1,7 +1,7 @@
 -- From what the parts of a step return to what they promise.
 -- Assumes nothing.
 use Prim.Native.Nat.{ℕ, zero, suc, _+_, _*_, _≤_, _<_}
-use mathlib.Core.Path.{_≡_, refl, sym, ap, subst, subst₂, _∙_}
+use mathlib.Core.Path.{_≡_, refl, sym, ap, _∙_}
 use mathlib.Core.Bool.{true, false}
 use mathlib.Core.List.{List, [], _∷_, _++_}
 use mathlib.Core.Option.{some, mem-unique}
@@ -10,7 +10,7 @@ use lib.ListN.{length, getD, take}
 use lib.Seq.{getD-take}
 use Rattle.facts.specs.FirstOf.{some-none, guard-some}
 use Rattle.machine.specs.Limits.{mostWord}
-use Rattle.machine.specs.Machine.{Mealy, run, meaning}
+use Rattle.machine.specs.Machine.{Mealy, meaning}
 use Rattle.machine.specs.Machine.Laws.{meaning-start, tabled-next, tabled-answer}
 use Rattle.build.specs.declared.transfers.MaybeTransfer.{MaybeTransfer}
 use Rattle.build.specs.Transfer.{transfer, transferIn}
@@ -48,8 +48,7 @@ start-apart : {A : Type 0} (M : Mealy) (state c : ℕ) (u : List ℕ) → transf
     → state ≡ M .start → A
 start-apart M state c u e q =
     let l = path-state M (M .start) (suc (length u)) state (transfer-path M state (M .start) e .found) in
-    let here : transfer M state (M .start) ≡ some [] =
-    ap (λ (x : ℕ). transfer M x (M .start)) q ∙ transfer-here M (M .start) (rw (← q) l) in
+    let here : transfer M state (M .start) ≡ some [] = rw q (transfer-here M (M .start) (rw (← q) l)) in
     let z : [] ≡ c ∷ u = mem-unique here e in
     let n : _≡_ {A = ℕ} 0 1 = cc in
     absurd (omega arith)
@@ -57,8 +56,7 @@ start-apart M state c u e q =
 -- the first command of what a search returns
 first-command : (n : ℕ) (xs : List ℕ) (c : ℕ) (u : List ℕ) → take n xs ≡ c ∷ u → getD xs 0 0 ≡ c
 first-command zero xs c u e = let n : _≡_ {A = ℕ} 0 1 = cc in absurd (omega arith)
-first-command (suc n) xs c u e =
-    sym (getD-take (suc n) xs 0 0 (omega arith)) ∙ ap (λ (x : List ℕ). getD x 0 0) e
+first-command (suc n) xs c u e = rw (← getD-take (suc n) xs 0 0 (omega arith), e)
 
 module _ (d : Desk) (state n : ℕ) where
   abbrev M : Mealy
@@ -104,10 +102,10 @@ module _ (d : Desk) (state y : ℕ) {e : ℕ} (at : e ≡ state * d .machine .k 
   drives-arrives same te ne {r} h = record {
     differs = λ q. absurd (q (sym answer-is ∙ same));
     arrives = λ q l.
-        subst₂ (λ (a b : ℕ). Arrives d a b r)
-        (tabled-next (d .machine .n) (d .machine .k) (d .machine .start) (d .machine .next) (d .machine .answer) state
-        (d .sent) te at)
-        (ne l) h;
+        let next =
+        tabled-next (d .machine .n) (d .machine .k) (d .machine .start) (d .machine .next) (d .machine .answer) state
+        (d .sent) te at in
+        rw (next, ne l) at h;
   }
 
 -- ---- the end of the word
@@ -120,8 +118,7 @@ module _ (d : Desk) (position : ℕ) (ys : List ℕ) {f : Followed} (h : Identif
           missing = λ e. absurd (some-none (g .1) e);
           found = λ s e.
               let here : g .0 ≡ s = mem-unique (g .1) e in
-              subst₂ (λ (x y : ℕ). Arrives d x y r)
-              (g .2 ∙ ap (λ (x : ℕ). run (meaning (d .machine)) x (wordOf d)) here) refl a;
+              rw (g .2, here) at a;
         }
 
     pub finds-none : f .agrees ≡ false → {r : Stepped} → AtStranger d position r → Finds d position ys r
@@ -146,13 +143,10 @@ module _ (d : Desk) (position y : ℕ) where
       (he : take (position + 1) heard ≡ take position (d .heard) ++ (y ∷ [])) where
     pub hears-last : position + 1 ≡ d .size → {r : Stepped} → Finds d position (take (d .size) heard) r
         → Hears d position y r
-    hears-last e {r} h =
-        let all : take (d .size) heard ≡ take position (d .heard) ++ (y ∷ []) =
-        ap (λ (n : ℕ). take n heard) (sym e) ∙ he in
-        record {
-          reads = λ k m. let z : ⊥ = omega arith in absurd z;
-          finds = λ k m. subst (λ (ys : List ℕ). Finds d position ys r) all h;
-        }
+    hears-last e h = record {
+      reads = λ k m. let z : ⊥ = omega arith in absurd z;
+      finds = λ k m. rw (← he, e) h;
+    }
 
     pub hears-next : (position + 1 ≡ d .size → ⊥) → {x : Desk}
         → x ≡ deskWith d heard (position + 1) (getD (d .word) (position + 1) 0) (Reading (position + 1))

@@ -105,9 +105,7 @@ module _ (s : List ℕ) (clear : firstCause (connectedCauses s) ≡ Clear) (d : 
   arrived-on : {b : ℕ} {v zs : List ℕ} (c : ℕ) (u : List ℕ) → Along M w b v (c ∷ u) zs → {at n : ℕ} → at ≡ run M b v
       → n ≡ length zs → {r : Stepped} → Arrives d at n r → Correct s zs r
   arrived-on {b} {v} {zs} c u h {at} {n} ae ne {r} a =
-      let moves : transfer (meaning (d .machine)) at (meaning (d .machine) .start) ≡ some (c ∷ u) =
-      ap₂ (λ (N : Mealy) (x : ℕ). transfer N x (N .start)) me ae ∙ h .drives in
-      let k = a .sends c u moves in
+      let k = a .sends c u (rw (me, ae) (h .drives)) in
       let order = along-command M w h c u refl (word .separates) in
       record {
         order = k .order ∙ sym order;
@@ -133,16 +131,14 @@ module _ (s : List ℕ) (clear : firstCause (connectedCauses s) ≡ Clear) (d : 
       let zs = ys ++ (y ∷ []) in
       let long = one-longer ys y in
       let command : getD w (length zs) 0 ≡ getD (d .word) (length ys + 1) 0 =
-      ap₂ (λ (x : List ℕ) (i : ℕ). getD x i 0) (sym we) long
-      ∙ getD-take (d .size) (d .word) (length ys + 1) 0 (omega arith) in
+      rw (← we, long, getD-take (d .size) (d .word) (length ys + 1) 0 (omega arith)) in
       let order = order-reading M w zs (omega arith) in
       record {
         order = h .order ∙ ap Command (sym command) ∙ sym order;
         desk =
             reached-by zs (r .desk) (h .kept)
             (h .phase ∙ ap Reading (sym long) ∙ sym (phase-reading M w zs (omega arith)))
-            (λ _. ap (λ (i : ℕ). take i (r .desk .heard)) long ∙ h .heard
-            ∙ ap (λ (x : List ℕ). x ++ (y ∷ [])) (g .heard (omega arith)))
+            (λ _. rw (long, h .heard, g .heard (omega arith)))
             (λ c q.
             let same-command : getD w (length zs) 0 ≡ c = cc in
             (h .count ∙ sym long, h .sent ∙ sym command ∙ same-command));
@@ -202,14 +198,10 @@ module _ (s : List ℕ) (clear : firstCause (connectedCauses s) ≡ Clear) (d : 
       ]
         where
           answer-is : meaning (d .machine) .answer at (d .sent) ≡ M .answer (run M b v) c
-          answer-is =
-              ap (λ (N : Mealy). N .answer at (d .sent)) me ∙ ap₂ (M .answer) here (waiting .1)
+          answer-is = rw (me, here, waiting .1)
 
           next-is : meaning (d .machine) .next at (d .sent) ≡ run M b (v ++ (c ∷ []))
-          next-is =
-              ap (λ (N : Mealy). N .next at (d .sent)) me
-              ∙ ap₂ (M .next) here (waiting .1)
-              ∙ sym (along-reached M w on c u refl)
+          next-is = rw (me, here, waiting .1, along-reached M w on c u refl)
 
           small : d .count + 1 < 256
           small =

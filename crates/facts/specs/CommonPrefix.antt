@@ -79,22 +79,21 @@ agreed-then [] a b us vs d = rw (agreed, ne-eqb a b d)
 agreed-then (x ∷ xs) a b us vs d = rw (agreed, eq-eqb x x refl) (ap suc (agreed-then xs a b us vs d))
 
 -- what follows the second list changes nothing where it has all of the first, or where they differ in it
-pub agreed-longer : (xs ys zs : List ℕ) → length xs ≤ agreed xs ys → agreed xs (ys ++ zs) ≡ agreed xs ys
-agreed-longer xs ys zs l =
+agreed-same : (xs ys zs : List ℕ)
+    → (agreed xs ys < length xs → getD xs (agreed xs ys) 0 ≡ getD (ys ++ zs) (agreed xs ys) 0 → ⊥)
+    → agreed xs (ys ++ zs) ≡ agreed xs ys
+agreed-same xs ys zs d =
     let h = agreed-holds xs ys in
     sym (agreed-is xs (ys ++ zs) (agreed xs ys) (record {
       in-first = h .in-first;
       in-second = omega (arith, h .in-second, length-append ys zs);
       before = λ i k. h .before i k ∙ sym (List·getD-append ys zs 0 i (omega (arith, h .in-second)));
-      here = λ k m q. omega arith;
+      here = λ k m. d k;
     }))
+
+pub agreed-longer : (xs ys zs : List ℕ) → length xs ≤ agreed xs ys → agreed xs (ys ++ zs) ≡ agreed xs ys
+agreed-longer xs ys zs l = agreed-same xs ys zs (λ k q. omega arith)
 
 pub agreed-differ : (xs ys zs : List ℕ) → agreed xs ys < length ys → agreed xs (ys ++ zs) ≡ agreed xs ys
 agreed-differ xs ys zs l =
-    let h = agreed-holds xs ys in
-    sym (agreed-is xs (ys ++ zs) (agreed xs ys) (record {
-      in-first = h .in-first;
-      in-second = omega (arith, h .in-second, length-append ys zs);
-      before = λ i k. h .before i k ∙ sym (List·getD-append ys zs 0 i (omega (arith, h .in-second)));
-      here = λ k m q. h .here k l (q ∙ List·getD-append ys zs 0 (agreed xs ys) l);
-    }))
+    agreed-same xs ys zs (λ k q. agreed-holds xs ys .here k l (q ∙ List·getD-append ys zs 0 (agreed xs ys) l))

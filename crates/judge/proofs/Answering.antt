@@ -14,27 +14,28 @@ use Rattle.sheet.specs.Values.{refusalValues}
 use Rattle.sheet.specs.Values.Laws.{returns-specified}
 use Rattle.sheet.specs.Reader.{sequenceIn, answersIn, answersRecord}
 use Rattle.machine.specs.Machine.{Mealy}
-use Rattle.machine.specs.Causes.{machineIn}
+use Rattle.machine.specs.Causes.{cause10, machineIn}
+use Rattle.machine.specs.Causes.Laws.{cause10-is}
 use Rattle.certify.specs.declared.answer.Answer.{Answer as Certification}
 use Rattle.certify.specs.declared.answer.Answer.the-variants.{Certified, Open, Refused as RefusedCertification}
-use Rattle.certify.specs.Certification.{sequenceCauses, Certifies}
+use Rattle.certify.specs.Certification.{markingCauses, Certifies}
 use Rattle.judge.specs.declared.answer.Answer.{Answer}
 use Rattle.judge.specs.declared.answer.Answer.the-variants.{Pass, Wrong, Unheard, Unfinished}
 use Rattle.judge.specs.declared.answer.Answer.the-variants.{Refused as RefusedAnswer}
-use Rattle.judge.specs.Judging.{cause10, judgeCauses, cause11, verdict, Judges, Identity, valuesOf}
-use Rattle.judge.specs.Judging.Laws.{cause10-is, judge-causes-are, few-answers, judgement-refused, judgement-by}
+use Rattle.judge.specs.Judging.{judgeCauses, cause11, verdict, Judges, Identity, valuesOf}
+use Rattle.judge.specs.Judging.Laws.{judge-causes-are, few-answers, judgement-refused, judgement-by}
 use Rattle.judge.specs.Judging.Laws.{judged-refused, judged-clear, pass-identity}
 
 -- ---- the checks
 module _ (room : ℕ) (s : List ℕ) {r : Record} {xs ys : List ℕ} (re : r ≡ answersRecord s) (xe : xs ≡ sequenceIn s)
     (ye : ys ≡ answersIn s) where
-  pub checks-are : {earlier ten c : Check} → earlier ≡ firstCause (sequenceCauses true room s)
+  pub checks-are : {earlier ten c : Check} → earlier ≡ firstCause (markingCauses true room s)
       → ten ≡ (refusal 10 with r .start if ltb (length xs) (length ys)) → c ≡ (earlier else ten)
       → c ≡ firstCause (judgeCauses room s)
   checks-are ee te ce =
       let ten-is : (refusal 10 with r .start if ltb (length xs) (length ys))
-      ≡ cause10 (answersRecord s) (sequenceIn s) (answersIn s) =
-      rw (re, xe, ye) (cause10-is (answersRecord s) (sequenceIn s) (answersIn s)) in
+      ≡ cause10 (answersRecord s .start) (sequenceIn s) (answersIn s) =
+      rw (re, xe, ye) (cause10-is (answersRecord s .start) (sequenceIn s) (answersIn s)) in
       ce ∙ ap₂ _else_ ee (te ∙ ten-is) ∙ sym (judge-causes-are room s)
 
   pub few-here : {c : Check} → c ≡ firstCause (judgeCauses room s) → c ≡ Clear → length ys ≤ length xs

@@ -48,9 +48,8 @@ module _ (m : Machine) (xs ys : List ℕ) where
 
       specified-is : {v : ℕ} → v ≡ getD (m .answer) e 0 → v ≡ getD (answers M (M .start) xs) i 0
       specified-is ve =
-          tabled-answer (m .n) (m .k) (m .start) (m .next) (m .answer) s (getD xs i 0) ve at
-          ∙ ap (λ (x : ℕ). M .answer x (getD xs i 0)) (c .state)
-          ∙ sym (answer-at M xs i inside-sequence)
+          rw (answer-at M xs i inside-sequence, ← c .state)
+          (tabled-answer (m .n) (m .k) (m .start) (m .next) (m .answer) s (getD xs i 0) ve at)
 
       -- an answer that differs
       pub compared-differs : {v g : ℕ} → v ≡ getD (m .answer) e 0 → g ≡ getD ys i 0 → (v ≡ g → ⊥) → {a : Answer}
@@ -63,9 +62,8 @@ module _ (m : Machine) (xs ys : List ℕ) where
       compared-next {v} {g} ve ge q te = record {
         inside = omega arith;
         state =
-            tabled-next (m .n) (m .k) (m .start) (m .next) (m .answer) s (getD xs i 0) te at
-            ∙ ap (λ (x : ℕ). M .next x (getD xs i 0)) (c .state)
-            ∙ sym (state-next M xs i inside-sequence);
+            rw (state-next M xs i inside-sequence, ← c .state)
+            (tabled-next (m .n) (m .k) (m .start) (m .next) (m .answer) s (getD xs i 0) te at);
         right =
             below-more (λ j. getD (answers M (M .start) xs) j 0 ≡ getD ys j 0) i (c .right)
             (sym (specified-is ve) ∙ q ∙ ge);

@@ -1,4 +1,4 @@
--- Judging: causes 10 and 11 (§4.2), the results and what is written (§7), and the identity claim (§9.3).
+-- Judging: its causes (§4.1), 11 (§4.2), the results and what is written (§7), and the identity claim (§9.3).
 -- Certifying's answer and buffer, `certification` and `marksAfter`, cannot be unfolded here: its contract says what
 -- they are. Judging.Verdict has laws of the verdict, Judging.Laws those of a sheet, Judging.NoAnswer those of the byte
 -- for no answer, Judging.Bounds bounds on values.
@@ -12,16 +12,15 @@ use Rattle.facts.specs.CommonPrefix.{agreed}
 use Rattle.sheet.specs.declared.check.Check.{Check}
 use Rattle.sheet.specs.declared.check.Check.the-variants.{Clear, Refused}
 use Rattle.sheet.specs.declared.check.Values.{Values}
-use Rattle.sheet.specs.declared.record.Record.{Record}
-use Rattle.sheet.specs.Check.{refusal_with_if_, firstCause, refusedOr, unlessRefused}
+use Rattle.sheet.specs.Check.{firstCause, refusedOr, unlessRefused}
 use Rattle.sheet.specs.Values.{refusalValues, Returns}
 use Rattle.sheet.specs.Reader.{sequenceIn, answersIn, answersRecord}
 use Rattle.machine.specs.Machine.{Mealy, noAnswer, answers, stateAt}
-use Rattle.machine.specs.Causes.{machineIn}
+use Rattle.machine.specs.Causes.{cause10, machineIn}
 use Rattle.machine.specs.Unit.{Unit, ownAnswers}
 use Rattle.certify.specs.declared.answer.Answer.{Answer as Certification}
 use Rattle.certify.specs.declared.answer.Answer.the-variants.{Certified, Open, Refused as RefusedCertification}
-use Rattle.certify.specs.Certification.{sequenceCauses, certification, marksAfter}
+use Rattle.certify.specs.Certification.{markingCauses, certification, marksAfter}
 use Rattle.judge.specs.declared.answer.Answer.{Answer}
 use Rattle.judge.specs.declared.answer.Answer.the-variants.{Pass, Wrong, Unheard, Unfinished}
 use Rattle.judge.specs.declared.answer.Answer.the-variants.{Refused as RefusedAnswer}
@@ -32,13 +31,9 @@ pub mod NoAnswer
 pub mod Bounds
 
 -- ---- causes
--- cause 10, answers (§4.2), at the start of the record: there are more answers than commands
-unfoldable pub cause10 : Record → List ℕ → List ℕ → Check
-cause10 r xs ys = refusal 10 with r .start if ltb (length xs) (length ys)
-
 -- the causes of certifying, all four kinds being needed, and 10: those that write nothing (§4.3)
 unfoldable pub judgeCauses : ℕ → List ℕ → List Check
-judgeCauses room s = sequenceCauses true room s ++ (cause10 (answersRecord s) (sequenceIn s) (answersIn s) ∷ [])
+judgeCauses room s = markingCauses true room s ++ (cause10 (answersRecord s .start) (sequenceIn s) (answersIn s) ∷ [])
 
 -- not certified (§4.2), by what certifying answers: an open sequence is refused with its open number. A refusal of
 -- certifying would stay one; there is none here, since judging has refused such a sheet before: certifying-clear, in

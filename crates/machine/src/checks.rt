@@ -1,23 +1,21 @@
-// Causes 3, 4, 12, 5 and 7: the machine's shape, its next states, its answers, and the commands of a
-// word or a sequence.
+// The causes of a payload: 3, 4 and 12 of a machine, 5 and 6 of a word, 7 of a sequence. Its record
+// starts, or would start, at an offset of a sheet. The offset has 32 bits, so that no place
+// overflows, however long the payload is.
 ghost use mathlib.Core.Path.{_≡_};
-ghost use mathlib.Core.List.{[], _∷_};
 ghost use Prim.Native.Nat.{_+_, _*_, _≤_, _<_, _^_};
 ghost use lib.ListN.{getD};
 ghost use Rattle.sheet.specs.Check.{first, firstCause};
 ghost use Rattle.sheet.specs.Format.{standard, header};
-ghost use Rattle.sheet.specs.Reader.{recordOf, content};
-ghost use Rattle.machine.specs.Causes.{cause3, tableCauses, byteCause, commandsCause};
+ghost use Rattle.machine.specs.Machine.{meaning};
+ghost use Rattle.machine.specs.Causes.{cause3, byteCause, commandsCause, tableCauses, wordCauses, sequenceCauses};
 ghost use Rattle.machine.specs.Causes.{outside as outsideOf};
 use crate::machine::Machine;
+use crate::separation::separation;
 use sheet::Check;
 use sheet::HEADER;
-use sheet::Record;
 use sheet::TABLE;
 use sheet::byte;
 use sheet::first_of;
-use sheet::read;
-use sheet::record_of;
 use sheet::refuse;
 
 fn outside(least: usize, most: usize, x: usize) -> bool
@@ -55,9 +53,9 @@ fn scan(
     Check::Clear
 }
 
-// Cause 3, of a payload and its record.
-fn shape(r: Record, p: &[u8]) -> Check
-    ensures { λ c. ⌜ c ≡ cause3 standard r (now (p .entry)) ⌝ }
+// Cause 3.
+fn shape(at: u32, p: &[u8]) -> Check
+    ensures { λ c. ⌜ c ≡ cause3 standard at (now (p .entry)) ⌝ }
 {
     let n = byte(p, 0) as usize;
     let k = byte(p, 1) as usize;
@@ -65,45 +63,60 @@ fn shape(r: Record, p: &[u8]) -> Check
     let commands = outside(1, Machine::COMMANDS, k);
     refuse(
         3,
-        r.start,
+        at as usize,
         states | commands | (p.len() != TABLE + 2 * (n * k)),
     )
 }
 
 // The first of the n·k pairs of a payload whose byte is bound or more: every second byte from a
 // place on.
-fn scan_pairs(number: u8, r: Record, p: &[u8], from: usize, bound: u8) -> Check
-    requires { ⌜ r .start < 2 ^ 63 ⌝ }
+fn scan_pairs(number: u8, at: u32, p: &[u8], from: usize, bound: u8) -> Check
     requires { ⌜ from ≤ standard .table + 1 ⌝ }
     ensures { λ c. ⌜ c ≡ first (getD (now (p .entry)) 0 0 * getD (now (p .entry)) 1 0)
-        (byteCause number (r .start + header) (now (p .entry)) from 2 bound) ⌝ }
+        (byteCause number (at + header) (now (p .entry)) from 2 bound) ⌝ }
 {
     let n = byte(p, 0) as usize;
     let k = byte(p, 1) as usize;
-    scan(number, r.start + HEADER, p, from, 2, n * k, bound)
+    scan(number, at as usize + HEADER, p, from, 2, n * k, bound)
 }
 
-// The causes of a machine's payload, by its record.
-pub fn table(r: Record, p: &[u8]) -> Check
-    requires { ⌜ r .start < 2 ^ 63 ⌝ }
-    ensures { λ c. ⌜ c ≡ firstCause (tableCauses standard r (now (p .entry))) ⌝ }
+// The causes of a machine's payload.
+pub fn table_check(at: u32, p: &[u8]) -> Check
+    ensures { λ c. ⌜ c ≡ firstCause (tableCauses standard at (now (p .entry))) ⌝ }
 {
-    let three = shape(r, p);
-    let four = scan_pairs(4, r, p, TABLE, byte(p, 0));
-    let twelve = scan_pairs(12, r, p, TABLE + 1, Machine::NO_ANSWER);
+    let three = shape(at, p);
+    let four = scan_pairs(4, at, p, TABLE, byte(p, 0));
+    let twelve = scan_pairs(12, at, p, TABLE + 1, Machine::NO_ANSWER);
     first_of(three, first_of(four, twelve))
 }
 
-// Causes 5 and 7: the commands of a record of a sheet, for a machine of k commands. The answer
-// counts where checks 1 and 2 are clear.
-pub fn commands(sheet: &[u8], kind: u16, number: u8, most: usize, k: u8) -> Check
-    ensures { λ c. ⌜
-        c ≡ commandsCause number most k (recordOf standard (kind ∷ []) (now (sheet .entry)))
-        (content standard (kind ∷ []) (now (sheet .entry))) ⌝ }
+// Causes 5 and 7: at most so many commands, for a machine of k commands.
+fn commands(number: u8, most: usize, k: u8, at: u32, w: &[u8]) -> Check
+    ensures { λ c. ⌜ c ≡ commandsCause number most k at (now (w .entry)) ⌝ }
 {
-    let r = record_of(sheet, kind);
-    let w = read(sheet, kind);
-    let length = refuse(number, r.start, outside(1, most, w.len()));
-    let high = scan(number, r.start + HEADER, w, 0, 1, w.len(), k);
+    let start = at as usize;
+    let length = refuse(number, start, outside(1, most, w.len()));
+    let high = scan(number, start + HEADER, w, 0, 1, w.len(), k);
     first_of(length, high)
+}
+
+// The causes of a word, for a machine.
+pub fn word_check(m: Machine, at: u32, w: &[u8]) -> Check
+    ensures { λ c. ⌜ c ≡ firstCause (wordCauses (meaning m) at (now (w .entry))) ⌝ }
+{
+    let five = commands(5, Machine::WORD, m.k, at, w);
+    if let Check::Refused {
+        number: _,
+        place: _,
+    } = five {
+        return five;
+    }
+    separation(m, w)
+}
+
+// The causes of a sequence, for a machine.
+pub fn sequence_check(m: Machine, at: u32, xs: &[u8]) -> Check
+    ensures { λ c. ⌜ c ≡ firstCause (sequenceCauses (meaning m) at (now (xs .entry))) ⌝ }
+{
+    commands(7, Machine::SEQUENCE, m.k, at, xs)
 }

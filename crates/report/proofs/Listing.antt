@@ -8,21 +8,22 @@ use native.Mathlib.Numerals.{add-one}
 use lib.ListN.{length, getD, take, length-take}
 use lib.Seq.{take-suc, take-all, take-append-seam}
 use Rattle.facts.specs.Decimal.{bytes}
-use Rattle.machine.specs.Causes.Lists.{payload-short}
+use Rattle.machine.specs.Causes.Lists.{payload-short, clear-machine}
 use Rattle.word.specs.declared.answer.Answer.{Answer}
 use Rattle.word.specs.declared.answer.Answer.the-variants.{Found, Nothing, Refused as RefusedAnswer}
 use Rattle.word.specs.declared.answer.Searched.{Searched}
 use Rattle.word.specs.Search.{mostSought}
 use Rattle.word.specs.Service.{searchNeeds, searching, padded, wordBeside, Searches}
-use Rattle.word.specs.Service.Laws.{Outcome, refused, found, missing, searching-outcome}
-use Rattle.word.specs.Service.Laws.{found-answered}
+use Rattle.word.specs.Service.Laws.{Outcome, refused, found, missing, searching-outcome, found-answered}
 use Rattle.report.specs.Lines.{labelled, newline, listed, wordLine, noneLine, refusalLine}
-use Rattle.report.specs.Pieces.{listRoom, Puts, WordRequires}
+use Rattle.sheet.specs.Writing.{Puts}
+use Rattle.report.specs.Pieces.{listRoom, WordRequires}
 use Rattle.report.specs.Output.{Output, onError, Writes}
 use Rattle.report.specs.Sheets.{wordSheet}
 use Rattle.report.specs.Services.{foundOutput, searched}
 use Rattle.report.specs.Services.Laws.{searched-refused, searched-clear}
-use Rattle.report.proofs.Putting.{puts-none, puts-same, puts-append, puts-long, prints-line}
+use Rattle.sheet.specs.Writing.Laws.{puts-none, puts-same, puts-append, puts-long}
+use Rattle.report.proofs.Making.{writes-parts}
 
 -- ---- a list of numbers
 listed-append : (xs ys : List ℕ) → listed (xs ++ ys) ≡ listed xs ++ listed ys
@@ -81,13 +82,7 @@ pub word-written : (s w before : List ℕ) {middle after : List ℕ} {size end :
     → Puts middle size (wordLine w) after end
     → Writes (foundOutput s (some w)) before after (record { out = size; end = end })
 word-written s w before h k =
-    let p = prints-line (wordSheet s w ++ wordLine w) (puts-append (wordSheet s w) (wordLine w) h k) in
-    record {
-      out = omega (arith, h .ends);
-      end = p .sized;
-      counts = p .counts;
-      holds = p .printed;
-    }
+    writes-parts (foundOutput s (some w)) (omega (arith, h .ends)) (puts-append (wordSheet s w) (wordLine w) h k)
 
 -- the line of a word, in its pieces
 pub word-line : (w : List ℕ) {before a b after : List ℕ} {at i j end : ℕ} → Puts before at (bytes "WORD") a i
@@ -135,7 +130,7 @@ module _ (s : List ℕ) {r : Searched} (h : Searches s r) where
         inside = omega (arith, sized, length-take n (r .word));
         sized = sized;
         required = record {
-          machine = payload-short searchNeeds s (a .clear);
+          machine = payload-short searchNeeds s (clear-machine searchNeeds s (a .clear));
           few = omega (arith, sized, few);
         };
       }

@@ -1,45 +1,39 @@
--- The sheet that carries what was built: what a built answer shows of the lent sheet and of the buffer, and the
--- answers. Assumes nothing.
-use Prim.Native.Nat.{ℕ, _+_, _≤_}
+-- The sheet that carries what was built: what a built answer shows of the lent sheet and of the buffer; and what is
+-- written to which stream. Assumes nothing.
+use Prim.Native.Nat.{ℕ, _≤_}
 use mathlib.Core.Path.{_≡_, refl, sym, ap, subst, _∙_}
-use mathlib.Core.List.{List, [], _∷_, append-nil}
+use mathlib.Core.List.{List, _++_, append-nil}
 use native.Mathlib.Omega.{arith}
 use lib.ListN.{length, take, length-take}
-use Rattle.sheet.specs.Format.{standard, header}
+use lib.Seq.{length-take-le}
+use Rattle.sheet.specs.declared.check.Check.{Check}
+use Rattle.sheet.specs.declared.check.Check.the-variants.{Clear, Refused}
+use Rattle.sheet.specs.declared.writing.Answer.{Answer}
+use Rattle.sheet.specs.declared.writing.Answer.the-variants.{Written as WrittenAnswer, Refused as RefusedAnswer}
+use Rattle.sheet.specs.Check.{firstCause}
+use Rattle.sheet.specs.Format.{standard}
 use Rattle.sheet.specs.Reader.{machinePayload, wordIn}
-use Rattle.sheet.specs.Writing.{written}
-use Rattle.sheet.specs.Writing.Laws.{record-size}
-use Rattle.sheet.specs.Joining.{bytesOf, joined}
-use Rattle.sheet.specs.Joining.Laws.{joined-cons, joined-one}
+use Rattle.sheet.specs.Writing.{Puts}
+use Rattle.sheet.specs.Writing.Laws.{puts-long, puts-same}
+use Rattle.sheet.specs.Promise.{Writes as Promise}
+use Rattle.sheet.specs.Promise.Laws.{writes-outcome, written-clear, fits-refused, refused-leaves, written-first}
+use Rattle.sheet.specs.Promise.Laws.{puts-writes, writes-puts}
 use Rattle.machine.specs.Limits.{mostMachine, mostWord, mostSequence}
 use Rattle.machine.specs.Causes.{machineIn}
-use Rattle.machine.specs.Causes.Lists.{clear-machine, payload-short, word-distinguishes}
-use Rattle.build.specs.declared.service.Answer.{Answer}
-use Rattle.build.specs.declared.service.Answer.the-variants.{Built}
+use Rattle.machine.specs.Causes.Lists.{clear-machine, payload-short}
 use Rattle.build.specs.Sequence.{sequence}
-use Rattle.build.specs.Building.{buildNeeds, building, Builds}
-use Rattle.build.specs.Building.Service.{load-clear, answer-built, built-sequence, built-buffer}
-use Rattle.report.specs.Pieces.{Puts}
-use Rattle.report.specs.Printing.{Prints}
-use Rattle.report.specs.Output.{Output, onOutput, onError, Writes}
-use Rattle.report.proofs.Putting.{puts-same, puts-append}
+use Rattle.build.specs.Building.{buildNeeds, connectedCauses, Builds}
+use Rattle.build.specs.Building.Connection.{clear-load, clear-distinguishes}
+use Rattle.build.specs.Building.Service.{connected-built}
+use Rattle.report.specs.declared.output.Written.{Written}
+use Rattle.report.specs.Lines.{refusalLine}
+use Rattle.report.specs.Pieces.{Prints}
+use Rattle.report.specs.Output.{Output, onOutput, onError, bytesUnless, Writes, Tells}
+use Rattle.report.specs.Output.Laws.{unless-clear, unless-refused, writes-same}
 
--- ---- joined records
-pub puts-more : {before middle after : List ℕ} {at e f : ℕ} (r : ℕ × List ℕ) (rs : List (ℕ × List ℕ))
-    → Puts before at (bytesOf r) middle e → Puts middle e (joined rs) after f → Puts before at (joined (r ∷ rs)) after f
-puts-more r rs h k = puts-same (sym (joined-cons r rs)) (puts-append (bytesOf r) (joined rs) h k)
-
-pub puts-last : {before after : List ℕ} {at e : ℕ} (r : ℕ × List ℕ) → Puts before at (bytesOf r) after e
-    → Puts before at (joined (r ∷ [])) after e
-puts-last r h = puts-same (sym (joined-one r)) h
-
--- where a record ends that was put
-pub record-ends : (r : ℕ × List ℕ) {before after : List ℕ} {at e : ℕ} → Puts before at (bytesOf r) after e
-    → e ≡ at + header + length (r .1)
-record-ends r h = omega (arith, h .ends, record-size (r .0) (r .1))
-
--- ---- a built answer
+-- ---- what building answers in a room for every sequence
 pub record HoldsBuilt (s buffer : List ℕ) (n : ℕ) : Type 0 where
+  pub clear : firstCause (connectedCauses s) ≡ Clear
   pub machine : length (machinePayload s) ≤ mostMachine standard
   pub word : length (wordIn s) ≤ mostWord
   pub few : n ≤ mostSequence
@@ -47,45 +41,60 @@ pub record HoldsBuilt (s buffer : List ℕ) (n : ℕ) : Type 0 where
   pub sized : n ≡ length (take n buffer)
   pub built : take n buffer ≡ sequence (machineIn s) (wordIn s)
 
-pub answer-is : {s before after : List ℕ} {a b : Answer} → length before ≡ mostSequence → Builds s before after a
-    → a ≡ b → building mostSequence s ≡ b
-answer-is {s} {before} l h e = ap (λ (room : ℕ). building room s) (sym l) ∙ sym (h .answer .is) ∙ e
+module _ (s : List ℕ) {before after : List ℕ} {a : Answer} (room : length before ≡ mostSequence)
+    (h : Builds s before after a) where
+  pub built-refuses : {number place : ℕ} → a ≡ RefusedAnswer number place
+      → firstCause (connectedCauses s) ≡ Refused number place
+  built-refuses e = fits-refused (λ q. omega (arith, room, connected-built s q .commands .few)) (writes-outcome h e)
 
-pub built-holds : (s before after : List ℕ) {a : Answer} {n : ℕ} → length before ≡ mostSequence
-    → Builds s before after a → a ≡ Built n → HoldsBuilt s after n
-built-holds s before after {a} {n} l h e =
-    let here : building (length before) s ≡ Built n = sym (h .answer .is) ∙ e in
-    let load = load-clear (length before) s (answer-built (length before) s here .0) in
-    let sequence-facts = built-sequence (length before) s here in
-    let xs : take n after ≡ sequence (machineIn s) (wordIn s) =
-    ap (take n) (h .buffer) ∙ built-buffer s before here .0 in
-    let sized : n ≡ length (take n after) = sequence-facts .long ∙ sym (ap length xs) in
+  pub built-holds : {n : ℕ} → a ≡ WrittenAnswer n → HoldsBuilt s after n
+  built-holds {n} e =
+      let o = writes-outcome h e in
+      let clear = written-clear o .0 in
+      let load = clear-load s clear in
+      let xs : take n after ≡ sequence (machineIn s) (wordIn s) =
+      ap (take n) (h .buffer) ∙ written-first before o .0 in
+      let sized : n ≡ length (take n after) = written-clear o .1 .0 ∙ sym (ap length xs) in
+      record {
+        clear = clear;
+        machine = payload-short buildNeeds s (clear-machine buildNeeds s load);
+        word = clear-distinguishes s clear .commands .few;
+        few = omega (arith, room, written-clear o .1 .1);
+        inside = omega (arith, sized, length-take n after);
+        sized = sized;
+        built = xs;
+      }
+
+-- ---- what is written to the streams
+pub writes-parts : {before after : List ℕ} {out end : ℕ} (o : Output) → out ≡ length (o .out)
+    → Puts before 0 (o .out ++ o .err) after end → Writes o before after (record { out = out; end = end })
+writes-parts {before} {after} {out} {end} o e h =
+    let xs = o .out ++ o .err in
+    let low : end ≤ length after = omega (arith, h .inside, puts-long xs h) in
     record {
-      machine = payload-short buildNeeds s (clear-machine buildNeeds s load);
-      word = word-distinguishes buildNeeds s refl load .commands .few;
-      few = omega (arith, sequence-facts .long, sequence-facts .commands .few);
-      inside = omega (arith, sized, length-take n after);
-      sized = sized;
-      built = xs;
+      out = e;
+      promise = puts-writes before refl h;
+      counts = (low, sym (length-take-le end after low));
     }
 
--- ---- what is written to one stream
 pub writes-output : {before after : List ℕ} {size : ℕ} (xs : List ℕ) {o : Output} → o ≡ onOutput xs
     → Prints xs before after size → Writes o before after (record { out = size; end = size })
-writes-output {before} {after} {size} xs {o} e h =
-    subst (λ (p : Output). Writes p before after (record { out = size; end = size })) (sym e) (record {
-      out = h .sized;
-      end = h .sized ∙ ap length (sym (append-nil xs));
-      counts = h .counts;
-      holds = h .printed ∙ ap (λ (l : List ℕ). written l before) (sym (append-nil xs));
-    })
+writes-output xs e h =
+    writes-same (writes-parts (onOutput xs) (omega (arith, h .ends)) (puts-same (sym (append-nil xs)) h)) e
 
 pub writes-error : {before after : List ℕ} {size : ℕ} (xs : List ℕ) {o : Output} → o ≡ onError xs
     → Prints xs before after size → Writes o before after (record { out = 0; end = size })
-writes-error {before} {after} {size} xs {o} e h =
-    subst (λ (p : Output). Writes p before after (record { out = 0; end = size })) (sym e) (record {
-      out = refl;
-      end = h .sized;
-      counts = h .counts;
-      holds = h .printed;
-    })
+writes-error xs e h = writes-same (writes-parts (onError xs) refl h) e
+
+-- ---- what a service that writes promised, told
+pub promised : {c : Check} {xs before middle after : List ℕ} (a : Answer) {r : Written} {o : Output}
+    → o ≡ bytesUnless c xs → Promise c xs before middle a → (c ≡ Clear → length xs ≤ length before)
+    → Tells a middle after r → Writes o before after r
+promised {c} {xs} {before} (WrittenAnswer n) e h fits t =
+    let clear = written-clear (writes-outcome h refl) .0 in
+    rw (t .0, t .1) (writes-output xs (e ∙ unless-clear _ clear) (writes-puts before h))
+promised {c} {xs} {before} {middle} {after} (RefusedAnswer n p) {r} e h fits t =
+    let o = writes-outcome h refl in
+    writes-same
+    (subst (λ (d : List ℕ). Writes (onError (refusalLine n p)) d after r) (h .buffer ∙ refused-leaves before o) t)
+    (e ∙ unless-refused _ (fits-refused fits o))

@@ -48,7 +48,7 @@ abbrev pub longestReason : ℕ
 longestReason = 30
 
 -- the dialogue stops without an end, for this reason
-unfoldable pub stopLine : List ℕ → List ℕ
+abbrev pub stopLine : List ℕ → List ℕ
 stopLine reason = bytes "bench: the dialogue stops: " ++ reason ++ bytes "\n"
 
 -- a line that is no answer, where so many may still come: after the last of them the dialogue stops

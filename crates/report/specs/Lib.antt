@@ -5,7 +5,6 @@ pub mod Phrases
 pub mod Lines
 pub mod Words
 pub mod Pieces
-pub mod Printing
 pub mod Sheets
 pub mod Output
 pub mod Services

@@ -7,7 +7,9 @@ use lib.ListN.{length}
 use Rattle.io.specs.Counts.{Counts}
 use Rattle.sheet.specs.declared.check.Check.{Check}
 use Rattle.sheet.specs.declared.check.Check.the-variants.{Clear, Refused}
-use Rattle.sheet.specs.Writing.{written}
+use Rattle.sheet.specs.declared.writing.Answer.{Answer}
+use Rattle.sheet.specs.declared.writing.Answer.the-variants.{Written as WrittenAnswer, Refused as RefusedAnswer}
+use Rattle.sheet.specs.Promise.{Writes as Promise}
 use Rattle.report.specs.declared.output.Written.{Written}
 use Rattle.report.specs.Lines.{refusalLine}
 pub mod Laws
@@ -34,10 +36,15 @@ outputUnless (Refused number place) o = onError (refusalLine number place)
 abbrev pub bytesUnless : Check → List ℕ → Output
 bytesUnless c xs = outputUnless c (onOutput xs)
 
--- the lent buffer: at its start the bytes for standard output, after them those for standard error, every later byte as
--- it was (§4.3); and where each of the two ends, which is within the buffer
+-- both in the lent buffer, the bytes for standard error after those for standard output, by the promise of what is
+-- written (§4.3, §4.4), nothing being refused; and where each of the two ends, which is within the buffer
 pub record Writes (o : Output) (before after : List ℕ) (r : Written) : Type 0 where
   pub out : r .out ≡ length (o .out)
-  pub end : r .end ≡ length (o .out ++ o .err)
+  pub promise : Promise Clear (o .out ++ o .err) before after (WrittenAnswer (r .end))
   pub counts : Counts (r .end) after
-  pub holds : after ≡ written (o .out ++ o .err) before
+
+-- what is told of the answer of a service that wrote into the lent buffer: the bytes there go to standard output, and
+-- nothing is changed; or the line of its refusal goes to standard error
+abbrev pub Tells : Answer → List ℕ → List ℕ → Written → Type 0
+Tells (WrittenAnswer size) before after r = (r ≡ record { out = size; end = size }) × (after ≡ before)
+Tells (RefusedAnswer number place) before after r = Writes (onError (refusalLine number place)) before after r

@@ -1,20 +1,18 @@
--- What the program's functions that put a line together promise each other.
+-- What the program's functions that put a line or a sheet together promise each other.
 use Prim.Native.Nat.{ℕ, _+_, _≤_}
-use mathlib.Core.Path.{_≡_}
 use mathlib.Core.List.{List}
 use lib.ListN.{length}
-use lib.Seq.{paste}
 use Rattle.sheet.specs.Format.{standard}
 use Rattle.sheet.specs.Reader.{machinePayload}
+use Rattle.sheet.specs.Writing.{Puts}
 use Rattle.machine.specs.Limits.{mostMachine}
 use Rattle.word.specs.Search.{mostSought}
 use Rattle.report.specs.Digits.{mostDigits}
 
--- bytes put at a place of a buffer, all else as it was, with the place behind them
-pub record Puts (before : List ℕ) (at : ℕ) (xs after : List ℕ) (end : ℕ) : Type 0 where
-  pub ends : end ≡ at + length xs
-  pub inside : end ≤ length before
-  pub written : after ≡ paste before at xs (length xs)
+-- a line at the start of a lent buffer, every later byte as it was (§4.3), and the number of its bytes,
+-- which is at most the buffer's
+abbrev pub Prints : List ℕ → List ℕ → List ℕ → ℕ → Type 0
+Prints xs before after size = Puts before 0 xs after size
 
 -- the bytes of room for a number of a list: a space and its digits
 abbrev pub listRoom : ℕ

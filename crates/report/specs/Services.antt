@@ -9,7 +9,7 @@ use Rattle.machine.specs.Causes.{machineIn}
 use Rattle.word.specs.Search.{search}
 use Rattle.word.specs.Service.{searchCauses}
 use Rattle.certify.specs.Certification.{certification}
-use Rattle.build.specs.Building.{buildCauses}
+use Rattle.build.specs.Building.{connectedCauses}
 use Rattle.judge.specs.Judging.{judgement}
 use Rattle.report.specs.declared.words.Mistake.{Mistake}
 use Rattle.report.specs.Lines.{judgeLine, certifyLine, wordLine, noneLine}
@@ -21,11 +21,11 @@ pub mod Laws
 
 -- ---- services whose result is a line, which also tells a refusal
 -- `bench judge`: the line of judging, also for a refusal. There is room for the marks of every sequence
-unfoldable pub judged : List ℕ → Output
+abbrev pub judged : List ℕ → Output
 judged s = onOutput (judgeLine (judgement (mostSequence + 1) s))
 
 -- `bench certify`: the line of certifying, with the same room
-unfoldable pub certified : List ℕ → Output
+abbrev pub certified : List ℕ → Output
 certified s = onOutput (certifyLine (certification (mostSequence + 1) s))
 
 -- ---- services whose result is bytes
@@ -38,23 +38,23 @@ foundOutput s (some w) = record { out = wordSheet s w; err = wordLine w }
 unfoldable pub searched : List ℕ → Output
 searched s = outputUnless (firstCause (searchCauses s)) (foundOutput s (search (machineIn s)))
 
--- the sheet with the built sequence, with room for every sequence
-unfoldable pub built : List ℕ → Output
-built s = bytesUnless (firstCause (buildCauses mostSequence s)) (builtSheet s)
+-- the sheet with the built sequence; there is room for every sequence, so that 9 is never present
+abbrev pub built : List ℕ → Output
+built s = bytesUnless (firstCause (connectedCauses s)) (builtSheet s)
 
 -- the payload of the record of a kind, nothing added
-unfoldable pub recordRead : ℕ → List ℕ → Output
+abbrev pub recordRead : ℕ → List ℕ → Output
 recordRead kind s = bytesUnless (refusalOf standard (kind ∷ []) s) (content standard (kind ∷ []) s)
 
 -- the house unit's sheet
-unfoldable pub houseWritten : Output
+abbrev pub houseWritten : Output
 houseWritten = onOutput houseSheet
 
 -- ---- the arguments themselves
 -- `bench help`: the list of services
-unfoldable pub helped : Output
+abbrev pub helped : Output
 helped = onOutput helpText
 
 -- wrong arguments: their line on standard error
-unfoldable pub mistaken : Mistake → Output
+abbrev pub mistaken : Mistake → Output
 mistaken mistake = onError (mistakeLine mistake)

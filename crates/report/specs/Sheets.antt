@@ -19,12 +19,12 @@ pub mod House
 unfoldable pub wordSheet : List ℕ → List ℕ → List ℕ
 wordSheet s w = joined (recordIn standard s (standard .machine) ∷ fresh (standard .word) w ∷ [])
 
--- the sheet that `bench build` writes (§8.2): the records of machine and word as they are, and the built sequence
+-- the sheet that `bench build` writes (§8.2): the machine's record as it is, the word, and the built sequence
 unfoldable pub builtSheet : List ℕ → List ℕ
 builtSheet s =
     joined
     (recordIn standard s (standard .machine)
-    ∷ recordIn standard s (standard .word)
+    ∷ fresh (standard .word) (wordIn s)
     ∷ fresh (standard .sequence) (sequence (machineIn s) (wordIn s))
     ∷ [])
 

@@ -31,7 +31,7 @@ abbrev pub longestMistake : ℕ
 longestMistake = 44
 
 -- the line that tells what is wrong (§8.2), with this text
-unfoldable pub mistakeOf : List ℕ → List ℕ
+abbrev pub mistakeOf : List ℕ → List ℕ
 mistakeOf text = bytes "bench: " ++ text ++ bytes "; bench help lists the services\n"
 
 -- the line of a mistake (§8.2)

@@ -1,11 +1,11 @@
-// The output lines. A line stands at the start of the buffer, and its length is answered; later
-// bytes stay as they were.
+// The output lines, and how a refusal and the answer of a service that writes go to the streams. A
+// line stands at the start of the buffer; later bytes stay as they were.
 ghost use Prim.Native.Nat.{_≤_};
 ghost use lib.ListN.{length};
 ghost use Rattle.report.specs.Lines.{longestLabel, numberedLine, passLine, wrongLine, judgeLine, openLine};
 ghost use Rattle.report.specs.Lines.{certifyLine, refusalLine, orderLine, firstLine};
-ghost use Rattle.report.specs.Printing.{Prints};
-ghost use Rattle.report.specs.Output.{onError, Writes};
+ghost use Rattle.report.specs.Pieces.{Prints};
+ghost use Rattle.report.specs.Output.{onError, Writes, Tells};
 use crate::output::OUTPUT;
 use crate::output::Written;
 use crate::pieces::put;
@@ -15,6 +15,7 @@ use certify::Answer as Certification;
 use desk::First;
 use desk::Order;
 use judge::Answer as Judgement;
+use sheet::Answer;
 
 // A refusal: number, place and phrase.
 pub fn refusal_line(number: u8, place: usize, out: &mut [u8; OUTPUT]) -> usize
@@ -32,6 +33,19 @@ pub fn refused(number: u8, place: usize, out: &mut [u8; OUTPUT]) -> Written
 {
     let size = refusal_line(number, place, out);
     Written { out: 0, end: size }
+}
+
+// What a service that wrote into the buffer answered: those bytes for standard output, or its refusal.
+pub fn to_streams(answer: Answer, out: &mut [u8; OUTPUT]) -> Written
+    ensures { λ r. ⌜ Tells answer (now (out .entry)) (now (out .exit)) r ⌝ }
+{
+    match answer {
+        Answer::Written { length: size } => Written {
+            out: size,
+            end: size,
+        },
+        Answer::Refused { number, place } => refused(number, place, out),
+    }
 }
 
 // A line of a text and a number.

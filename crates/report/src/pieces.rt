@@ -4,11 +4,11 @@ ghost use mathlib.Core.List.{_++_};
 ghost use lib.ListN.{length};
 ghost use Rattle.facts.specs.Decimal.{decimal};
 ghost use Rattle.sheet.specs.Format.{header};
-ghost use Rattle.sheet.specs.Writing.{recordBytes};
+ghost use Rattle.sheet.specs.Writing.{recordBytes, Puts};
 ghost use Rattle.report.specs.Digits.{mostDigits};
 ghost use Rattle.report.specs.Phrases.{longestPhrase, phrase};
 ghost use Rattle.report.specs.Lines.{labelled, spaced, listed};
-ghost use Rattle.report.specs.Pieces.{listRoom, Puts};
+ghost use Rattle.report.specs.Pieces.{listRoom};
 use crate::phrases::phrase_of;
 use sheet::header_of;
 

@@ -1,27 +1,33 @@
 // The sheets that the bench writes: the lent sheet's records as they are with the word that was
 // found or the sequence that was built as the next one, and the house unit's.
 ghost use Prim.Native.Nat.{_+_, _≤_};
+ghost use mathlib.Core.Path.{_≡_};
 ghost use mathlib.Core.List.{[], _∷_};
 ghost use mathlib.Core.Option.{some};
 ghost use lib.ListN.{length};
-ghost use Rattle.sheet.specs.Format.{standard, header};
-ghost use Rattle.sheet.specs.Reader.{content};
-ghost use Rattle.sheet.specs.Joining.{bytesOf, recordIn};
+ghost use Rattle.sheet.specs.Format.{standard, header, longest};
+ghost use Rattle.sheet.specs.Check.{firstCause};
+ghost use Rattle.sheet.specs.Writing.{Puts};
+ghost use Rattle.sheet.specs.Promise.{Writes as Promise};
+ghost use Rattle.sheet.specs.Joining.{joined, fresh};
+ghost use Rattle.build.specs.Building.{connectedCauses};
 ghost use Rattle.report.specs.Lines.{noneLine};
-ghost use Rattle.report.specs.Pieces.{Puts, WordRequires};
+ghost use Rattle.report.specs.Pieces.{WordRequires};
 ghost use Rattle.report.specs.Output.{onError, Writes};
+ghost use Rattle.report.specs.Sheets.{builtSheet};
 ghost use Rattle.report.specs.Services.{foundOutput, searched, built, houseWritten};
 use crate::lines::refused;
+use crate::lines::to_streams;
 use crate::output::OUTPUT;
 use crate::output::Written;
 use crate::pieces::put;
 use crate::pieces::put_list;
 use crate::pieces::put_record;
-use build::Answer;
 use build::build;
 use machine::HOUSE_WORD;
 use machine::Machine;
 use machine::house_payload;
+use sheet::Answer;
 use sheet::MACHINE_KIND;
 use sheet::SEQUENCE_KIND;
 use sheet::WORD_KIND;
@@ -30,14 +36,17 @@ use sheet::record_of;
 use word::Answer as Search;
 use word::find_word;
 
-// Puts a sheet's record of a kind as it is to a place; gives the place behind it.
-fn put_kept(sheet: &[u8], kind: u16, at: usize, out: &mut [u8]) -> usize
-    requires { ⌜ at + header + length (content standard (kind ∷ []) (now sheet)) ≤ length (now out) ⌝ }
-    ensures { λ r. ⌜ Puts (now (out .entry)) at (bytesOf (recordIn standard (now (sheet .entry)) (kind ∷ [])))
+// Puts the records of a machine and a word to the start; gives the place behind them.
+fn put_two(kind: u16, machine: &[u8], word: &[u8], out: &mut [u8]) -> usize
+    requires { ⌜ header + length (now machine) + header + length (now word) ≤ length (now out) ⌝ }
+    ensures { λ r. ⌜
+        Puts (now (out .entry)) 0
+        (joined ((kind, now (machine .entry)) ∷ fresh (standard .word) (now (word .entry)) ∷ []))
         (now (out .exit)) r ⌝ }
+    ensures { λ r. ⌜ r ≡ header + length (now (machine .entry)) + header + length (now (word .entry)) ⌝ }
 {
-    let r = record_of(sheet, kind);
-    put_record(r.kind, read(sheet, kind), at, out)
+    let next = put_record(kind, machine, 0, out);
+    put_record(WORD_KIND, word, next, out)
 }
 
 // A sheet's machine with a word and, behind them, the word's line for standard error.
@@ -46,8 +55,8 @@ fn with_word(sheet: &[u8], w: &[u8], out: &mut [u8; OUTPUT]) -> Written
     ensures { λ r. ⌜
         Writes (foundOutput (now (sheet .entry)) (some (now (w .entry)))) (now (out .entry)) (now (out .exit)) r ⌝ }
 {
-    let next = put_kept(sheet, MACHINE_KIND, 0, out);
-    let size = put_record(WORD_KIND, w, next, out);
+    let r = record_of(sheet, MACHINE_KIND);
+    let size = put_two(r.kind, read(sheet, MACHINE_KIND), w, out);
     let a = put(b"WORD", size, out);
     let b = put_list(w, a, out);
     let end = put(b"\n", b, out);
@@ -76,35 +85,41 @@ pub fn word_sheet(sheet: &[u8], out: &mut [u8; OUTPUT]) -> Written
     }
 }
 
-// Builds the sequence of a sheet: the sheet that carries it, or a refusal's line.
-pub fn build_sheet(sheet: &[u8], out: &mut [u8; OUTPUT]) -> Written
-    ensures { λ r. ⌜ Writes (built (now (sheet .entry))) (now (out .entry)) (now (out .exit)) r ⌝ }
+// Builds the sequence of a sheet, and writes the sheet that carries it.
+fn write_built(sheet: &[u8], out: &mut [u8]) -> Answer
+    requires { ⌜ longest ≤ length (now out) ⌝ }
+    ensures { λ r. ⌜
+        Promise (firstCause (connectedCauses (now (sheet .entry)))) (builtSheet (now (sheet .entry)))
+        (now (out .entry)) (now (out .exit)) r ⌝ }
 {
     let mut sequence = [0u8; Machine::SEQUENCE];
     let answer = build(sheet, &mut sequence);
     match answer {
-        Answer::Built { length: n } => {
-            let a = put_kept(sheet, MACHINE_KIND, 0, out);
-            let b = put_kept(sheet, WORD_KIND, a, out);
-            let size = put_record(SEQUENCE_KIND, &sequence[..n], b, out);
-            Written {
-                out: size,
-                end: size,
-            }
+        Answer::Written { length: n } => {
+            let r = record_of(sheet, MACHINE_KIND);
+            let p = read(sheet, MACHINE_KIND);
+            let next = put_two(r.kind, p, read(sheet, WORD_KIND), out);
+            let size = put_record(SEQUENCE_KIND, &sequence[..n], next, out);
+            Answer::Written { length: size }
         }
-        Answer::Refused { number, place } => refused(number, place, out),
+        Answer::Refused { number, place } => Answer::Refused { number, place },
     }
 }
 
-// The house unit's sheet: its machine and its word.
+// The sheet that carries what was built, or a refusal's line.
+pub fn build_sheet(sheet: &[u8], out: &mut [u8; OUTPUT]) -> Written
+    ensures { λ r. ⌜ Writes (built (now (sheet .entry))) (now (out .entry)) (now (out .exit)) r ⌝ }
+{
+    let answer = write_built(sheet, out);
+    to_streams(answer, out)
+}
+
+// The house unit's sheet: its machine and its word. Nothing is refused.
 pub fn house_sheet(out: &mut [u8; OUTPUT]) -> Written
     ensures { λ r. ⌜ Writes houseWritten (now (out .entry)) (now (out .exit)) r ⌝ }
 {
     let payload = house_payload();
-    let next = put_record(MACHINE_KIND, &payload, 0, out);
-    let size = put_record(WORD_KIND, &HOUSE_WORD, next, out);
-    Written {
-        out: size,
-        end: size,
-    }
+    let size = put_two(MACHINE_KIND, &payload, &HOUSE_WORD, out);
+    let answer = Answer::Written { length: size };
+    to_streams(answer, out)
 }

@@ -2,7 +2,7 @@
 // other words.
 ghost use Prim.Native.Nat.{_≤_};
 ghost use lib.ListN.{length};
-ghost use Rattle.report.specs.Printing.{Prints};
+ghost use Rattle.report.specs.Pieces.{Prints};
 ghost use Rattle.report.specs.Output.{Writes};
 ghost use Rattle.report.specs.Words.{longestMistake, mistakeOf, mistakeLine, helpText};
 ghost use Rattle.report.specs.Services.{helped, mistaken};

@@ -12,8 +12,7 @@ use Rattle.sheet.specs.declared.record.Found.the-variants.{Missing}
 use Rattle.sheet.specs.declared.record.Record.{Record}
 use Rattle.sheet.specs.declared.record.Kind.{Kind}
 use Rattle.sheet.specs.Format.{standard, header, recordAt, kindOf, rank, rankAt, end, causeAt, Parsed, ended}
-use Rattle.sheet.specs.Format.{_before_}
-use Rattle.sheet.specs.Format.{parse, parsed, ofKind, _or_, find}
+use Rattle.sheet.specs.Format.{_before_, parse, parsed, ofKind, _or_, find}
 use Rattle.sheet.specs.Format.Laws.{end-is, clear-inside, parsed-is, parse-end, parse-stopped, parse-record}
 use Rattle.sheet.specs.Format.Laws.{or-missing, missing-or, or-assoc, find-none, find-cons}
 

@@ -55,13 +55,13 @@ recordAt s at = record {
   kind = getD s (at + 4) 0 + 256 * getD s (at + 5) 0;
 }
 
--- the offset of byte i of a record's payload (§2.1)
-unfoldable pub offset : Record → ℕ → ℕ
-offset r i = r .start + header + i
+-- the offset of byte i of the payload of a record that starts at an offset (§2.1)
+abbrev pub offset : ℕ → ℕ → ℕ
+offset start i = start + header + i
 
 -- the offset at which the record ends and the next one starts (§2.1)
 unfoldable pub end : Record → ℕ
-end r = offset r (r .size)
+end r = offset (r .start) (r .size)
 
 -- what a kind's number means (§2.2): the role, or Unknown for a number that the format does not have
 unfoldable pub kindOf : Format → ℕ → Kind

@@ -38,20 +38,21 @@ missing F s ks = refusal 2 with length s if isMissing (find ks (parsed F s .reco
 unfoldable pub sheetCauses : Format → List (List ℕ) → List ℕ → List Check
 sheetCauses F roles s = tooLong F s ∷ parsed F s .stop ∷ map (missing F s) roles
 
--- the list of this role alone where it is needed, else the empty list
-abbrev pub when : Bool → List ℕ → List (List ℕ)
-when true ks = ks ∷ []
-when false ks = []
+-- a list where it is needed, else the empty list
+abbrev pub when : {A : Type 0} → Bool → List A → List A
+when true xs = xs
+when false xs = []
 
 -- cause 2 of a role where it is needed and missing, else Clear
 unfoldable pub whenMissing : Format → List ℕ → List ℕ → Bool → Check
-whenMissing F s ks b = firstCause (map (missing F s) (when b ks))
+whenMissing F s ks b = firstCause (map (missing F s) (when b (ks ∷ [])))
 
 -- the roles that a service on a machine needs (§2.3): the machine always, the others where the flags say so
 abbrev pub needed : Format → Needs → List (List ℕ)
 needed F needs =
     F .machine
-    ∷ (when (needs .word) (F .word) ++ (when (needs .sequence) (F .sequence) ++ when (needs .answers) (F .answers)))
+    ∷ (when (needs .word) (F .word ∷ [])
+    ++ (when (needs .sequence) (F .sequence ∷ []) ++ when (needs .answers) (F .answers ∷ [])))
 
 -- what reading refuses with (§2.4): checks 1 and 2, a record of one of the kinds being needed
 unfoldable pub refusalOf : Format → List ℕ → List ℕ → Check

@@ -1,6 +1,7 @@
 -- A record's header and a record as they are written (§2.1), and bytes put into a lent buffer at an offset or at its
 -- start. The laws stand in Writing.Laws.
-use Prim.Native.Nat.{ℕ, _+_, _/_, _%_}
+use Prim.Native.Nat.{ℕ, _+_, _/_, _%_, _≤_}
+use mathlib.Core.Path.{_≡_}
 use mathlib.Core.Bool.{cond}
 use mathlib.Core.List.{List, [], _∷_, _++_}
 use lib.Dec.{leb}
@@ -31,6 +32,12 @@ putAt before at xs = cond (leb (at + length xs) (length before)) (paste before a
 -- the offset after what was put: that after the bytes where all of them fit, else the one at which they were to go
 unfoldable pub putEnd : List ℕ → ℕ → List ℕ → ℕ
 putEnd before at xs = cond (leb (at + length xs) (length before)) (at + length xs) at
+
+-- bytes put at an offset of a buffer where all of them fit, all else as it was, with the offset after them
+pub record Puts (before : List ℕ) (at : ℕ) (xs after : List ℕ) (end : ℕ) : Type 0 where
+  pub ends : end ≡ at + length xs
+  pub inside : end ≤ length before
+  pub written : after ≡ paste before at xs (length xs)
 
 -- a buffer with room for these bytes after they were written to its start: they are its first bytes, and the bytes
 -- after them keep their values (§4.3)

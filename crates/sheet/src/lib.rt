@@ -1,5 +1,5 @@
-// The byte format of a sheet: records, kinds, checks 1 and 2, the reader, a record's header, and
-// bytes put into a buffer.
+// The byte format of a sheet: records, kinds, checks 1 and 2, the reader, a record's header, bytes put
+// into a buffer, and what a service answers that writes into one.
 mod check;
 mod parse;
 mod reader;
@@ -27,5 +27,7 @@ pub use record::SEQUENCE_KIND;
 pub use record::TABLE;
 pub use record::WORD_KIND;
 pub use record::byte;
+pub use writing::Answer;
 pub use writing::header_of;
 pub use writing::put;
+pub use writing::room_check;

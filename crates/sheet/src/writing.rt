@@ -1,8 +1,26 @@
-// A record's header as it is written, and bytes put into a lent buffer.
+// A record's header as it is written, bytes put into a lent buffer, and what a service answers that
+// writes into one.
 ghost use mathlib.Core.Path.{_≡_};
 ghost use Prim.Native.Nat.{_%_};
+ghost use Rattle.sheet.specs.Promise.{cause9};
 ghost use Rattle.sheet.specs.Writing.{headerOf, putAt, putEnd};
+use crate::check::Check;
+use crate::check::refuse;
 use crate::record::HEADER;
+
+// What a service answers that writes into a lent buffer: the bytes written, or refused with number and
+// place.
+pub enum Answer {
+    Written { length: usize },
+    Refused { number: u8, place: usize },
+}
+
+// Cause 9: the room is smaller than the bytes that are needed.
+pub fn room_check(room: usize, bytes: usize) -> Check
+    ensures { λ r. ⌜ r ≡ cause9 room bytes ⌝ }
+{
+    refuse(9, bytes, room < bytes)
+}
 
 fn low(x: usize) -> u8
     ensures { λ r. ⌜ r ≡ x % 256 ⌝ }

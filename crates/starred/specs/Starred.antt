@@ -6,13 +6,13 @@ use mathlib.Core.Path.{_≡_}
 use mathlib.Core.List.{List, [], _∷_, _++_}
 use lib.ListN.{length, drop}
 use Rattle.facts.specs.Decimal.{bytes}
+use Rattle.sheet.specs.declared.writing.Answer.the-variants.{Written, Refused as RefusedWriting}
 use Rattle.sheet.specs.Format.{standard}
 use Rattle.sheet.specs.Joining.{joined, fresh}
 use Rattle.machine.specs.Machine.{noAnswer}
 use Rattle.certify.specs.declared.answer.Answer.the-variants.{Certified, Open, Refused as RefusedCertification}
 use Rattle.certify.specs.Certification.{certification}
 use Rattle.certify.specs.Marks.Twin.{twinTable, singleTable}
-use Rattle.build.specs.declared.service.Answer.the-variants.{Built, Refused as RefusedBuilding}
 use Rattle.build.specs.Building.{building, bufferAfter}
 use Rattle.build.specs.Building.Twin.{unitSheet, disconnectedTable}
 use Rattle.judge.specs.declared.answer.Answer.{Answer}
@@ -61,7 +61,7 @@ JudgedAs room s a line = (judgement room s ≡ a) × (judgeLine (judgement room 
 -- the cases, each by what its service answers
 pub record Starred : Type 0 where
   -- the twin as built, and certified
-  pub built : (room : ℕ) → 12 ≤ room → building room (unitSheet twinTable (0 ∷ [])) ≡ Built 12
+  pub built : (room : ℕ) → 12 ≤ room → building room (unitSheet twinTable (0 ∷ [])) ≡ Written 12
   pub built-bytes : (buffer : List ℕ) → 12 ≤ length buffer
       → bufferAfter (unitSheet twinTable (0 ∷ [])) buffer ≡ builtTwin ++ drop 12 buffer
   pub built-certified : (room : ℕ) → 13 ≤ room → certification room (twinWith builtTwin) ≡ Certified 13
@@ -86,22 +86,22 @@ pub record Starred : Type 0 where
   pub too-many : (room : ℕ) → 13 ≤ room → (a b c d e f g h i j k l m : ℕ)
       → judgement room (twinAnswered (a ∷ b ∷ c ∷ d ∷ e ∷ f ∷ g ∷ h ∷ i ∷ j ∷ k ∷ l ∷ m ∷ [])) ≡ RefusedJudgement 10 41
   -- a word that does not separate
-  pub no-separation-built : (room : ℕ) → building room (unitSheet twinTable (1 ∷ [])) ≡ RefusedBuilding 6 1
+  pub no-separation-built : (room : ℕ) → building room (unitSheet twinTable (1 ∷ [])) ≡ RefusedWriting 6 1
   pub no-separation-certified : (room : ℕ)
       → certification room (sequenceSheet twinTable (1 ∷ []) builtTwin) ≡ RefusedCertification 6 1
   pub no-separation-judged : (room : ℕ)
       → judgement room (answersSheet twinTable (1 ∷ []) builtTwin (0 ∷ [])) ≡ RefusedJudgement 6 1
   -- a next state that is none; the word's command and the answer may be any
-  pub no-state-built : (room command : ℕ) → building room (unitSheet noStateTable (command ∷ [])) ≡ RefusedBuilding 4 8
+  pub no-state-built : (room command : ℕ) → building room (unitSheet noStateTable (command ∷ [])) ≡ RefusedWriting 4 8
   pub no-state-certified : (room command : ℕ)
       → certification room (sequenceSheet noStateTable (command ∷ []) builtTwin) ≡ RefusedCertification 4 8
   pub no-state-judged : (room command answer : ℕ)
       → judgement room (answersSheet noStateTable (command ∷ []) builtTwin (answer ∷ [])) ≡ RefusedJudgement 4 8
   -- a table that is not connected
-  pub not-connected : (room : ℕ) → building room (unitSheet disconnectedTable (0 ∷ [])) ≡ RefusedBuilding 8 1
+  pub not-connected : (room : ℕ) → building room (unitSheet disconnectedTable (0 ∷ [])) ≡ RefusedWriting 8 1
   -- one state and one command, whatever the answer is but the byte for no answer
   pub single-built : (answer room : ℕ) → (answer ≡ noAnswer → ⊥) → 4 ≤ room
-      → building room (unitSheet (singleTable answer) (0 ∷ [])) ≡ Built 4
+      → building room (unitSheet (singleTable answer) (0 ∷ [])) ≡ Written 4
   pub single-bytes : (answer : ℕ) (buffer : List ℕ) → (answer ≡ noAnswer → ⊥) → 4 ≤ length buffer
       → bufferAfter (unitSheet (singleTable answer) (0 ∷ [])) buffer ≡ (0 ∷ 0 ∷ 0 ∷ 0 ∷ []) ++ drop 4 buffer
   pub single-pair : (answer room : ℕ) → (answer ≡ noAnswer → ⊥) → 3 ≤ room

@@ -1,18 +1,18 @@
 -- A command in front of a word, and the words by rising commands, over plain variables. Assumes nothing.
 use Prim.Native.Nat.{ℕ, suc, _+_, _-_, _*_, _≤_, _<_}
-use mathlib.Core.Path.{_≡_, refl, sym, ap, ap₂, subst, _∙_}
+use mathlib.Core.Path.{_≡_, refl, sym, ap, subst, _∙_}
 use mathlib.Core.Bool.{Bool, true, false, _&&_, and-false}
 use mathlib.Core.Logic.{inl, inr}
-use mathlib.Core.List.{List, [], _∷_, _++_, append-nil}
+use mathlib.Core.List.{List, [], _∷_, append-nil}
 use mathlib.Core.Option.{none, some, Option·map}
 use native.Mathlib.Omega.{arith}
-use lib.ListN.{length, set, take, drop, length-set, length-drop}
+use lib.ListN.{length, set, take, drop, length-set, length-take, length-drop}
 use lib.Seq.{length-take-le, drop-length}
 use borrow.Author.Count.{below-more}
 use borrow.Rule.Slice.PartMut.{putMid}
 use Rattle.facts.specs.Tests.{true-or-false}
 use Rattle.facts.specs.FirstOf.{guard, guard-true, guard-false, firstOf, least-first, none-first}
-use Rattle.facts.specs.FirstString.{firstString, string-here, string-not-here, string-inside, string-outside}
+use Rattle.facts.specs.FirstString.{string-here, string-not-here, string-inside, string-outside}
 use Rattle.word.specs.declared.pairs.Moved.{Moved}
 use Rattle.word.specs.declared.pairs.Moved.the-variants.{Met, On}
 use Rattle.word.specs.Search.{alike, moved, after, unmet, isEmpty, wordFrom}
@@ -41,9 +41,8 @@ module _ (k : ℕ) (next answer : List ℕ) where
       → wordOn k next answer ps m ≡ firstOf k (λ c. wordBehind k next answer ps c m)
   unfolding wordFrom
   on-more ps m l e =
-      let s : m ≡ suc (m - 1) = omega arith in
-      ap (λ (n : ℕ). firstString k unmet (after (cells k next) (cells k answer)) isEmpty n ps) s
-      ∙ string-inside k unmet (after (cells k next) (cells k answer)) isEmpty (m - 1) ps e
+      let s : suc (m - 1) ≡ m = omega arith in
+      rw s at (string-inside k unmet (after (cells k next) (cells k answer)) isEmpty (m - 1) ps e)
 
   -- no pair is left where none answers alike
   left-empty : (ps : List ℕ) (c : ℕ) → (unmet (leftBy k next answer ps c) && isEmpty (leftBy k next answer ps c))
@@ -92,9 +91,7 @@ module _ (k : ℕ) (next answer : List ℕ) where
 
     -- what is lent on: the rest of the word
     rest-long : 1 ≤ length word → length (take (length (set word 0 c) - 1) (drop 1 (set word 0 c))) ≡ length word - 1
-    rest-long l =
-        length-take-le (length (set word 0 c) - 1) (drop 1 (set word 0 c)) (omega (arith, length-drop 1 (set word 0 c)))
-        ∙ ap (λ (n : ℕ). n - 1) (length-set word 0 c)
+    rest-long l = simp (length-take, length-drop, length-set) (omega arith)
 
     -- the measure falls, which is twice the length
     pub behind-falls : {t : ℕ} → 2 * length word ≡ t → 1 ≤ length word
@@ -123,8 +120,7 @@ module _ (k : ℕ) (next answer : List ℕ) where
           go [] l e = let z : ⊥ = omega arith in absurd z
           go (x ∷ w) l e =
               let n : length (c ∷ w) - 1 ≡ length w = omega arith in
-              ap (λ (r : List ℕ). c ∷ (tail ++ r)) (ap (λ (n : ℕ). drop n w) n ∙ drop-length w)
-              ∙ ap (_∷_ c) (append-nil tail)
+              rw (n, drop-length, append-nil)
 
       -- a word that goes on behind the command
       pub behind-on : (tail : List ℕ) → 1 ≤ length word
@@ -134,13 +130,11 @@ module _ (k : ℕ) (next answer : List ℕ) where
           → guard b (some (putMid 1 (length (set word 0 c) - 1) (set word 0 c) tail))
           ≡ wordBehind k next answer ps c (length word)
       behind-on tail l long b e =
-          ap (λ (w : List ℕ). guard b (some w)) (mid-is tail l (long ∙ rest-long l))
-          ∙ go b
-          ∙ ap (Option·map (_∷_ c)) (e ∙ ap₂ (wordOn k next answer) lefts (rest-long l))
+          rw (mid-is tail l (long ∙ rest-long l), ← lefts, ← rest-long l, ← e) (go b)
         where
           go : (t : Bool) → guard t (some (c ∷ tail)) ≡ Option·map (_∷_ c) (guard t (some tail))
-          go true = guard-true (some (c ∷ tail)) refl ∙ ap (Option·map (_∷_ c)) (sym (guard-true (some tail) refl))
-          go false = guard-false (some (c ∷ tail)) refl ∙ ap (Option·map (_∷_ c)) (sym (guard-false (some tail) refl))
+          go true = unfold guard in refl
+          go false = unfold guard in refl
 
   -- ---- words by rising commands
   module _ (ps : List ℕ) (size : ℕ) where

@@ -1,6 +1,6 @@
 -- The lengths one after the other, over plain variables. Assumes nothing.
 use Prim.Native.Nat.{ℕ, suc, _+_, _-_, _≤_, _<_}
-use mathlib.Core.Path.{_≡_, refl, sym, ap, ap₂, _∙_}
+use mathlib.Core.Path.{_≡_, refl, sym, ap, _∙_}
 use mathlib.Core.Bool.{Bool, true, false}
 use mathlib.Core.List.{List, _++_}
 use mathlib.Core.Option.{Option, none, some}
@@ -72,16 +72,12 @@ module _ (m : Machine) where
         searched : guard b (some w) ≡ ofLength (suc (size - 1))
         searched =
             let s : length (take size word) ≡ suc (size - 1) = omega (arith, lent-long, h .some) in
-            e ∙ ap₂ (wordOn (m .k) (m .next) (m .answer)) all s
+            rw (all, s) at e
 
         rest-zero : drop size word ≡ drop size zeros
         rest-zero =
             let s : (size - 1) + 1 ≡ size = omega (arith, h .some) in
-            ap (λ (n : ℕ). drop n word) (sym s)
-            ∙ sym (drop-drop 1 (size - 1) word)
-            ∙ ap (drop 1) (h .rest)
-            ∙ drop-drop 1 (size - 1) zeros
-            ∙ ap (λ (n : ℕ). drop n zeros) s
+            rw (drop-drop 1 (size - 1) word, drop-drop 1 (size - 1) zeros, s) at (ap (drop 1) (h .rest))
 
         -- a word
         pub lengthening-found : b ≡ true
@@ -96,10 +92,8 @@ module _ (m : Machine) where
               found = sym (sym (guard-true (some w) t) ∙ searched);
               passed = λ i l. h .passed i (omega arith);
             }) in
-            let l : length w ≡ size = long ∙ lent-long in (
-              ap Found (sym l) ∙ sym (ap answerOf found),
-              ap (λ (x : List ℕ). w ++ x) (rest-zero ∙ ap (λ (n : ℕ). drop n zeros) (sym l)) ∙ sym (ap padded found),
-            )
+            let l : length w ≡ size = long ∙ lent-long in
+            (rw (found, l), rw (found, rest-zero, l))
 
         -- no word of this length
         pub lengthening-on : b ≡ false → Lengthening (w ++ drop size word) (size + 1)
@@ -110,11 +104,7 @@ module _ (m : Machine) where
               few = omega arith;
               long = omega (arith, length-append w (drop size word), length-drop size word, long, lent-long, h .long);
               passed = λ i l. before i (omega arith);
-              rest =
-                  ap (λ (x : ℕ). drop x (w ++ drop size word)) n
-                  ∙ drop-at w (drop size word) size (long ∙ lent-long)
-                  ∙ rest-zero
-                  ∙ ap (λ (x : ℕ). drop x zeros) (sym n);
+              rest = rw (n, drop-at w (drop size word) size (long ∙ lent-long)) rest-zero;
             }
           where
             before : (i : ℕ) → i < suc (size - 1) → ofLength (suc i) ≡ none

@@ -1,12 +1,11 @@
 -- What the loops over pairs keep, over plain variables. Assumes nothing.
 use Prim.Native.Nat.{ℕ, zero, suc, _+_, _-_, _≤_, _<_}
-use mathlib.Core.Path.{_≡_, refl, sym, ap, ap₂, _∙_}
+use mathlib.Core.Path.{_≡_, refl, sym, ap, _∙_}
 use mathlib.Core.Bool.{Bool, true, false, not, _&&_, and-assoc}
 use mathlib.Core.List.{List, [], _∷_, _++_, append-assoc, append-nil}
 use native.Mathlib.Omega.{arith}
 use native.Mathlib.Numerals.{add-one}
 use borrow.Author.Tests.{eq-eqb, ne-eqb}
-use lib.Dec.{eqb}
 use lib.ListN.{length, getD, set, take, drop, length-set, length-append, drop-of-length-le}
 use lib.Seq.{append-snoc}
 use Rattle.facts.specs.Lists.{take-stored, rest-cons}
@@ -25,37 +24,28 @@ module _ (k : ℕ) (answer ps : List ℕ) (c : ℕ) where
   pub telling-none : Telling 0
   telling-none = record { inside = omega arith; same = refl }
 
-  none-here : (i : ℕ) → i < length ps → noneAlike k answer (drop i ps) c
-      ≡ (not (alike (cells k answer) c (getD ps i 0)) && noneAlike k answer (drop (i + 1) ps) c)
-  unfolding noneAlike
-  none-here i l = ap (λ (l : List ℕ). noneAlike k answer l c) (rest-cons ps i l)
-
   module _ {i : ℕ} {b : Bool} (h : Telling i) (l : i < length ps)
       (e : b ≡ alike (cells k answer) c (getD ps i 0)) where
     step : noneAlike k answer ps c ≡ (not b && noneAlike k answer (drop (i + 1) ps) c)
-    step = h .same ∙ none-here i l
-        ∙ ap (λ (x : Bool). not x && noneAlike k answer (drop (i + 1) ps) c) (sym e)
+    unfolding noneAlike
+    step = rw (h .same, rest-cons ps i l, e)
 
     pub telling-stop : b ≡ true → false ≡ noneAlike k answer ps c
-    telling-stop t = sym (step ∙ ap (λ (x : Bool). not x && noneAlike k answer (drop (i + 1) ps) c) t)
+    telling-stop t = rw (step, t)
 
     pub telling-on : b ≡ false → Telling (i + 1)
-    telling-on t = record {
-      inside = omega arith;
-      same = step ∙ ap (λ (x : Bool). not x && noneAlike k answer (drop (i + 1) ps) c) t;
-    }
+    telling-on t = record { inside = omega arith; same = rw t at step }
 
   pub telling-end : {i : ℕ} → Telling i → length ps ≤ i → true ≡ noneAlike k answer ps c
   unfolding noneAlike
-  telling-end {i} h o = sym (h .same ∙ ap (λ (l : List ℕ). noneAlike k answer l c) (drop-of-length-le ps o))
+  telling-end {i} h o = rw (h .same, drop-of-length-le ps o)
 
 -- ---- pairs moved on
 -- pairs one behind the other have not met where none of both has
 unmet-append : (xs ys : List ℕ) → unmet (xs ++ ys) ≡ (unmet xs && unmet ys)
 unfolding unmet
 unmet-append [] ys = refl
-unmet-append (x ∷ xs) ys =
-    rw (unmet-append xs ys) (sym (and-assoc (not (eqb (one x) (other x))) (unmet xs) (unmet ys)))
+unmet-append (x ∷ xs) ys = rw (unmet-append xs ys, and-assoc)
 
 module _ (k : ℕ) (next answer ps : List ℕ) (c : ℕ) (room : ℕ) where
   -- what the loop keeps: what is left of the pairs before i stands in the list, and none of it has met
@@ -75,22 +65,13 @@ module _ (k : ℕ) (next answer ps : List ℕ) (c : ℕ) (room : ℕ) where
       → Moving list′ size′ i
   moving-same le se h = rw (le, se) h
 
-  left-here : (i : ℕ) → i < length ps → leftBy k next answer (drop i ps) c
-      ≡ keep (alike (cells k answer) c (getD ps i 0)) (moved (cells k next) c (getD ps i 0))
-      (leftBy k next answer (drop (i + 1) ps) c)
-  unfolding after
-  left-here i l = ap (λ (l : List ℕ). leftBy k next answer l c) (rest-cons ps i l)
-
   module _ {list : List ℕ} {size i : ℕ} {b : Bool} (h : Moving list size i) (l : i < length ps)
       (e : b ≡ alike (cells k answer) c (getD ps i 0)) where
-    step-moved : {t : Bool} → b ≡ t → leftBy k next answer ps c
+    step-moved : leftBy k next answer ps c
         ≡ take size list
-        ++ keep t (moved (cells k next) c (getD ps i 0)) (leftBy k next answer (drop (i + 1) ps) c)
-    step-moved {t} be =
-        h .same
-        ∙ ap (λ (l : List ℕ). take size list ++ l) (left-here i l
-        ∙ ap (λ (x : Bool). keep x (moved (cells k next) c (getD ps i 0)) (leftBy k next answer (drop (i + 1) ps) c))
-        (sym e ∙ be))
+        ++ keep b (moved (cells k next) c (getD ps i 0)) (leftBy k next answer (drop (i + 1) ps) c)
+    unfolding after
+    step-moved = rw (h .same, rest-cons ps i l, e)
 
     -- a pair that is told apart
     pub moving-past : b ≡ false → Moving list size (i + 1)
@@ -98,24 +79,18 @@ module _ (k : ℕ) (next answer ps : List ℕ) (c : ℕ) (room : ℕ) where
       inside = omega arith;
       few = omega (arith, h .few);
       long = h .long;
-      same = step-moved be;
+      same = rw be at step-moved;
       apart = h .apart;
     }
 
     module _ (be : b ≡ true) {q : ℕ} (qe : q ≡ moved (cells k next) c (getD ps i 0)) where
       step-kept : leftBy k next answer ps c ≡ take size list ++ (q ∷ leftBy k next answer (drop (i + 1) ps) c)
-      step-kept =
-          step-moved be
-          ∙ ap (λ (x : ℕ). take size list ++ (x ∷ leftBy k next answer (drop (i + 1) ps) c)) (sym qe)
+      step-kept = rw qe (rw be at step-moved)
 
       -- a pair that met
       pub moving-met : one q ≡ other q → unmet (leftBy k next answer ps c) ≡ false
       unfolding unmet
-      moving-met m =
-          ap unmet step-kept
-          ∙ unmet-append (take size list) (q ∷ leftBy k next answer (drop (i + 1) ps) c)
-          ∙ ap₂ (λ (x y : Bool). x && (not y && unmet (leftBy k next answer (drop (i + 1) ps) c))) (h .apart)
-          (eq-eqb (one q) (other q) m)
+      moving-met m = rw (step-kept, unmet-append, h .apart, eq-eqb (one q) (other q) m)
 
       -- a pair that is left
       pub moving-kept : size < room → (one q ≡ other q → ⊥) → Moving (set list size q) (size + 1) (i + 1)
@@ -126,24 +101,15 @@ module _ (k : ℕ) (next answer ps : List ℕ) (c : ℕ) (room : ℕ) where
             inside = omega arith;
             few = omega (arith, h .few);
             long = length-set list size q ∙ h .long;
-            same =
-                step-kept
-                ∙ sym (append-snoc (take size list) q (leftBy k next answer (drop (i + 1) ps) c))
-                ∙ ap (λ (l : List ℕ). l ++ leftBy k next answer (drop (i + 1) ps) c) (sym front);
-            apart =
-                ap unmet front
-                ∙ unmet-append (take size list) (q ∷ [])
-                ∙ ap₂ (λ (x y : Bool). x && (not y && true)) (h .apart) (ne-eqb (one q) (other q) o);
+            same = rw (front, append-snoc) step-kept;
+            apart = rw (front, unmet-append, h .apart, ne-eqb (one q) (other q) o);
           }
 
   pub moving-end : {list : List ℕ} {size i : ℕ} → Moving list size i → length ps ≤ i
       → MovesOn k next answer ps c list (On size)
   unfolding after
   moving-end {list} {size} {i} h o =
-      let all : leftBy k next answer ps c ≡ take size list =
-      h .same
-      ∙ ap (λ (l : List ℕ). take size list ++ leftBy k next answer l c) (drop-of-length-le ps o)
-      ∙ append-nil (take size list) in
+      let all : leftBy k next answer ps c ≡ take size list = rw (h .same, drop-of-length-le ps o, append-nil) in
       (omega (arith, h .few, h .inside), sym all, ap unmet all ∙ h .apart)
 
 -- ---- all pairs
@@ -172,10 +138,8 @@ module _ (j at : ℕ) (before : List ℕ) where
     end-is = omega (arith, h .end-is);
     long = length-set list end q ∙ h .long;
     holds =
-        take-stored list end q (omega (arith, h .end-is, h .long))
-        ∙ ap₂ (λ (l : List ℕ) (x : ℕ). l ++ (x ∷ [])) (h .holds) qe
-        ∙ append-assoc (take at before) (pairsWith j i) (pairOf i j ∷ [])
-        ∙ ap (λ (x : ℕ). take at before ++ pairsWith j x) (sym (add-one i));
+        let stored = take-stored list end q (omega (arith, h .end-is, h .long)) in
+        rw (stored, h .holds, qe, append-assoc, add-one i);
   }
 
   pub putting-end : {list : List ℕ} {i end : ℕ} → Putting list i end → j ≤ i → PutsPairs j at before list end
@@ -183,19 +147,18 @@ module _ (j at : ℕ) (before : List ℕ) where
       let e : i ≡ j = omega (arith, h .few) in
       record {
         end-is = omega (arith, h .end-is);
-        holds = h .holds ∙ ap (λ (x : ℕ). take at before ++ pairsWith j x) e;
+        holds = rw e at (h .holds);
       }
 
 -- ---- how many there are
 with-long : (j m : ℕ) → length (pairsWith j m) ≡ m
 unfolding pairsWith
 with-long j zero = refl
-with-long j (suc m) = length-append (pairsWith j m) (pairOf m j ∷ []) ∙ ap (λ (n : ℕ). n + 1) (with-long j m)
-    ∙ add-one m
+with-long j (suc m) = rw (length-append, with-long j m, add-one)
 
 all-more : (j : ℕ) → length (allPairs (suc j)) ≡ length (allPairs j) + j
 unfolding allPairs
-all-more j = length-append (allPairs j) (pairsWith j j) ∙ ap (λ (n : ℕ). length (allPairs j) + n) (with-long j j)
+all-more j = rw (length-append, with-long)
 
 all-grow : (j d : ℕ) → length (allPairs j) ≤ length (allPairs (d + j))
 all-grow j zero = let e : 0 + j ≡ j = omega arith in rw e (omega arith)
@@ -235,11 +198,8 @@ module _ (n : ℕ) where
   filling-on {list} {after} {size} {j} {end} h l long p = record {
     few = omega arith;
     long = long ∙ h .long;
-    size-is =
-        p .end-is ∙ ap (λ (x : ℕ). x + j) (h .size-is) ∙ sym (all-more j)
-        ∙ ap (λ (x : ℕ). length (allPairs x)) (sym (add-one j));
-    holds =
-        p .holds ∙ ap (λ (x : List ℕ). x ++ pairsWith j j) (h .holds) ∙ ap allPairs (sym (add-one j));
+    size-is = rw (p .end-is, h .size-is, add-one j) (sym (all-more j));
+    holds = rw (p .holds, h .holds, add-one j);
   }
 
   pub filling-end : n ≤ mostStates → {list : List ℕ} {size j : ℕ} → Filling list size j → n ≤ j

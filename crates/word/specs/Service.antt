@@ -13,7 +13,7 @@ use Rattle.sheet.specs.declared.reader.Needs.{Needs}
 use Rattle.sheet.specs.Check.{firstCause, refusedOr}
 use Rattle.sheet.specs.Values.{refusalValues, Returns}
 use Rattle.sheet.specs.Writing.{written}
-use Rattle.machine.specs.Causes.{machineIn, machineCauses}
+use Rattle.machine.specs.Causes.{machineIn, loadCauses}
 use Rattle.word.specs.declared.answer.Answer.{Answer}
 use Rattle.word.specs.declared.answer.Answer.the-variants.{Found, Nothing, Refused as RefusedAnswer}
 use Rattle.word.specs.declared.answer.Searched.{Searched}
@@ -24,9 +24,9 @@ pub mod Laws
 abbrev pub searchNeeds : Needs
 searchNeeds = record { word = false; sequence = false; answers = false }
 
--- the causes of the machine in order (§4.1, §14.2)
+-- the causes of loading in order (§4.1, §14.2), which with these needs are 1 to 4 and 12
 abbrev pub searchCauses : List ℕ → List Check
-searchCauses s = machineCauses searchNeeds s
+searchCauses s = loadCauses searchNeeds s
 
 -- what is answered where nothing is refused (§14.2): the length of the word, or nothing
 abbrev pub answerOf : Option (List ℕ) → Answer

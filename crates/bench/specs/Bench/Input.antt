@@ -20,17 +20,15 @@ use Rattle.machine.specs.Limits.{mostSequence}
 use Rattle.machine.specs.Causes.{loadCauses}
 use Rattle.machine.specs.Causes.Lists.{machine-causes-are, load-causes-are}
 use Rattle.word.specs.Service.{searchNeeds}
-use Rattle.word.specs.Service.Laws.{search-causes-are}
-use Rattle.certify.specs.Certification.{sequenceNeeds, sequenceCauses}
-use Rattle.certify.specs.Certification.Laws.{sequence-causes-are, certification-refused}
+use Rattle.certify.specs.Certification.{sequenceNeeds, markingCauses}
+use Rattle.certify.specs.Certification.Laws.{marking-causes-are, certification-refused}
 use Rattle.build.specs.Building.{buildNeeds}
 use Rattle.build.specs.Building.Connection.{load-refused}
-use Rattle.build.specs.Building.Service.{refused-early, building-refused}
 use Rattle.judge.specs.Judging.Laws.{judge-causes-are, judgement-refused}
 use Rattle.report.specs.Lines.{refusalLine, judgeLine, certifyLine}
 use Rattle.report.specs.Output.{Output, onOutput, onError}
-use Rattle.report.specs.Services.{certified}
-use Rattle.report.specs.Services.Laws.{judged-line, searched-refused, built-refused, read-refused}
+use Rattle.report.specs.Output.Laws.{unless-refused}
+use Rattle.report.specs.Services.Laws.{searched-refused}
 use Rattle.report.specs.Dialogue.Laws.{begun-refused}
 use Rattle.bench.specs.declared.words.Service.{Service}
 use Rattle.bench.specs.declared.words.Service.the-variants.{Wrong, OnSheet, House, Help}
@@ -65,24 +63,20 @@ module _ (s : List ℕ) (l : longest < length s) where
       ∙ stays _ (machine-causes-are n s
       ∙ stays _ (checks-are standard n s ∙ stays _ (read-long (standard .machine))))
 
-  sequence-long : (answers : Bool) (room : ℕ) → firstCause (sequenceCauses answers room s) ≡ Refused 1 longest
-  sequence-long answers room = sequence-causes-are answers room s ∙ stays _ (load-long (sequenceNeeds answers))
+  marking-long : (answers : Bool) (room : ℕ) → firstCause (markingCauses answers room s) ≡ Refused 1 longest
+  marking-long answers room = marking-causes-are answers room s ∙ stays _ (load-long (sequenceNeeds answers))
 
   output-long : (service : SheetService) → sheetOutput service s ≡ long service
-  unfolding certified
   output-long Judge =
-      judged-line s
-      ∙ ap (λ a. onOutput (judgeLine a))
+      ap (λ a. onOutput (judgeLine a))
       (judgement-refused (mostSequence + 1) s
-      (judge-causes-are (mostSequence + 1) s ∙ stays _ (sequence-long true (mostSequence + 1))))
+      (judge-causes-are (mostSequence + 1) s ∙ stays _ (marking-long true (mostSequence + 1))))
   output-long Certify =
       ap (λ a. onOutput (certifyLine a))
-      (certification-refused (mostSequence + 1) s (sequence-long false (mostSequence + 1)))
-  output-long Word = searched-refused s (sym (search-causes-are s) ∙ load-long searchNeeds)
-  output-long Build =
-      built-refused s
-      (building-refused mostSequence s (refused-early mostSequence s (load-refused s (load-long buildNeeds))))
-  output-long (Read kind) = read-refused s kind (read-long (kind ∷ []))
+      (certification-refused (mostSequence + 1) s (marking-long false (mostSequence + 1)))
+  output-long Word = searched-refused s (load-long searchNeeds)
+  output-long Build = unless-refused _ (load-refused s (load-long buildNeeds))
+  output-long (Read kind) = unless-refused _ (read-long (kind ∷ []))
   output-long Desk = begun-refused s (load-refused s (load-long buildNeeds))
 
 -- the first bytes of an input, one more than a sheet may have

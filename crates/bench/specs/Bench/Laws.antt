@@ -16,7 +16,6 @@ use Rattle.report.specs.Lines.{passLine, judgeLine}
 use Rattle.report.specs.Lines.Identity.{Passing, line-identity}
 use Rattle.report.specs.Words.{mistakeLine}
 use Rattle.report.specs.Output.{Output, onOutput, onError}
-use Rattle.report.specs.Services.Laws.{judged-line, mistake-told}
 use Rattle.bench.specs.declared.words.Service.{Service}
 use Rattle.bench.specs.declared.words.Service.the-variants.{Wrong, OnSheet, House, Help}
 use Rattle.bench.specs.declared.words.SheetService.the-variants.{Judge, Certify, Word, Build, Read, Desk}
@@ -48,11 +47,11 @@ module _ (words : List (List ℕ)) (s : List ℕ) where
   pub wrong-words : {mistake : Mistake} → serviceOf words ≡ Wrong mistake
       → bench words s ≡ onError (mistakeLine mistake)
   unfolding bench
-  wrong-words {mistake} e = ap (λ (service : Service). output service s) e ∙ mistake-told mistake
+  wrong-words {mistake} e = ap (λ (service : Service). output service s) e
 
   judge-words : serviceOf words ≡ OnSheet Judge → bench words s ≡ onOutput (judgeLine (judgement (mostSequence + 1) s))
   unfolding bench
-  judge-words e = ap (λ (service : Service). output service s) e ∙ judged-line s
+  judge-words e = ap (λ (service : Service). output service s) e
 
   -- whatever the unit, if standard output begins as a pass does and the answers judged are the unit's own, it
   -- is the line of a pass with some end state, and there is a renaming, which assigns the unit's present

@@ -1,16 +1,15 @@
 -- The laws of the words: how many there are and the first two of them are enough, and of these the first 4,096 bytes.
 use Prim.Native.Nat.{ℕ, zero, suc, _+_, _<_}
-use mathlib.Core.Path.{_≡_, refl, sym, ap, ap₂, _∙_}
-use mathlib.Core.Bool.{Bool, true, false, cond, _&&_, _||_}
+use mathlib.Core.Path.{_≡_, refl}
+use mathlib.Core.Bool.{Bool, true, false, _&&_, _||_}
 use mathlib.Core.List.{List, [], _∷_}
 use native.Mathlib.Omega.{arith}
 use borrow.Author.Tests.{lt-ltb, ne-eqb}
 use lib.Dec.{eqb}
 use lib.ListN.{length, getD, take, length-replicate}
 use lib.Seq.{take-all, length-take-le}
-use Rattle.report.specs.declared.words.Mistake.the-variants.{Empty, Long}
+use Rattle.report.specs.declared.words.Mistake.the-variants.{Long}
 use Rattle.report.specs.Words.{helpText}
-use Rattle.bench.specs.declared.words.Lookup.{Lookup}
 use Rattle.bench.specs.declared.words.Service.{Service}
 use Rattle.bench.specs.declared.words.Service.the-variants.{Wrong, OnSheet}
 use Rattle.bench.specs.declared.words.SheetService.the-variants.{Desk}
@@ -24,8 +23,7 @@ pub words-are : (ws : List (List ℕ)) → serviceOf (wordsOf (length ws) (getD 
 unfolding serviceOf wordsOf behindFirst
 words-are [] = refl
 words-are (w ∷ []) = refl
-words-are (w ∷ v ∷ ws) =
-    ap (λ (n : ℕ). unlessUnfit w (counted (suc n) (named services w v))) (length-replicate {A = List ℕ} (length ws) [])
+words-are (w ∷ v ∷ ws) = rw length-replicate
 
 -- ---- the first bytes of a word, one more than a word may have
 abbrev pub cut : List ℕ → List ℕ
@@ -33,16 +31,14 @@ cut w = take (mostArgument + 1) w
 
 too-long : (w : List ℕ) (service : Service) → mostArgument < length w → unlessUnfit w service ≡ Wrong Long
 unfolding unlessUnfit
-too-long w service l =
-    ap₂ (λ (a b : Bool). cond a (Wrong Empty) (cond b (Wrong Long) service))
-    (ne-eqb (length w) 0 (λ e. omega arith)) (lt-ltb mostArgument (length w) l)
+too-long w service l = rw (ne-eqb (length w) 0 (λ e. omega arith), lt-ltb mostArgument (length w) l)
 
 -- whatever a word stands for
 cut-word : (w : List ℕ) (f : List ℕ → Service) → unlessUnfit (cut w) (f (cut w)) ≡ unlessUnfit w (f w)
 cut-word w f = elim (less-or-not mostArgument (length w)) [
-  | inl l ↦ too-long (cut w) (f (cut w)) (omega (arith, length-take-le (mostArgument + 1) w (omega arith)))
-      ∙ sym (too-long w (f w) l)
-  | inr l ↦ ap (λ (u : List ℕ). unlessUnfit u (f u)) (take-all (mostArgument + 1) w (omega arith))
+  | inl l ↦ (let long = length-take-le (mostArgument + 1) w (omega arith) in
+      rw (too-long (cut w) (f (cut w)) (omega arith), too-long w (f w) l))
+  | inr l ↦ rw (take-all (mostArgument + 1) w (omega arith))
 ]
 
 cut-kind : (w : List ℕ) → kindOf (cut w) ≡ kindOf w
@@ -64,8 +60,7 @@ words-cut zero first second = refl
 words-cut (suc zero) first second = cut-word first (λ w. counted 0 (named services w []))
 words-cut (suc (suc n)) first second =
     let m = length (behindFirst (suc n) second) in
-    cut-word first (λ w. counted m (named services w (cut second)))
-    ∙ ap (λ (found : Lookup). unlessUnfit first (counted m found)) (cut-named first second)
+    rw (cut-named first second) at (cut-word first (λ w. counted m (named services w (cut second))))
 
 -- ---- every name stands in the list of services
 pub starts : List ℕ → List ℕ → Bool

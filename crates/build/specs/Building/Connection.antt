@@ -11,9 +11,8 @@ use Rattle.facts.specs.Lists.{low-append}
 use Rattle.sheet.specs.declared.check.Check.{Check}
 use Rattle.sheet.specs.declared.check.Check.the-variants.{Clear, Refused}
 use Rattle.sheet.specs.Check.{refusal_with_if_, _else_, firstCause, first}
-use Rattle.sheet.specs.Check.Laws.{both-clear, else-clear, else-refused, cause-one, cause-append}
-use Rattle.sheet.specs.Check.Laws.{absent, present, clear-absent, first-clear, first-clear-at, first-found}
-use Rattle.sheet.specs.Check.Laws.{first-present, present-test}
+use Rattle.sheet.specs.Check.Laws.{both-clear, else-clear, else-refused, cause-one, cause-append, absent, present}
+use Rattle.sheet.specs.Check.Laws.{clear-absent, first-clear, first-clear-at, first-found, first-present, present-test}
 use Rattle.sheet.specs.Reader.{wordIn}
 use Rattle.machine.specs.Limits.{mostWord}
 use Rattle.machine.specs.Machine.{Mealy, run, Proper, Commands, Distinguishes}

@@ -1,175 +1,82 @@
--- The laws of the service: its answer and the lent buffer by the first cause; it succeeds exactly on what is buildable;
--- and what an answer of built shows of the sequence.
+-- The laws of the service: it succeeds exactly on what is buildable, why it refuses, and what an answer of built shows
+-- of the sequence.
 use Prim.Native.Nat.{ℕ, _-_, _≤_, _<_}
-use mathlib.Core.Path.{_≡_, refl, sym, ap, _∙_}
-use mathlib.Core.Bool.{true}
-use mathlib.Core.List.{List, [], _∷_}
+use mathlib.Core.Path.{_≡_, refl, sym, _∙_}
+use mathlib.Core.Bool.{true≢false}
+use mathlib.Core.Logic.{inl, inr}
+use mathlib.Core.List.{List}
 use native.Mathlib.Omega.{arith}
 use lib.ListN.{length, take, drop}
-use lib.Seq.{take-append-seam, drop-append-seam}
-use Rattle.sheet.specs.declared.check.Check.{Check}
 use Rattle.sheet.specs.declared.check.Check.the-variants.{Clear, Refused}
-use Rattle.sheet.specs.Check.{_else_, firstCause, refusedOr}
-use Rattle.sheet.specs.Check.Laws.{both-clear, else-clear, else-refused, else-assoc, cause-one, cause-append}
+use Rattle.sheet.specs.declared.writing.Answer.the-variants.{Written, Refused as RefusedAnswer}
+use Rattle.sheet.specs.Check.{firstCause}
+use Rattle.sheet.specs.Check.Laws.{both-clear, else-clear, either-refused}
 use Rattle.sheet.specs.Reader.{wordIn, sequenceIn, wordRecord}
-use Rattle.sheet.specs.Writing.{written}
+use Rattle.sheet.specs.Promise.Laws.{room-clear, clear-room, Outcome, wrote, by-cause, by-room, writing-outcome}
+use Rattle.sheet.specs.Promise.Laws.{outcome-writing, written-clear, refused-leaves, written-first}
 use Rattle.machine.specs.Limits.{mostWord, mostSequence}
-use Rattle.machine.specs.Machine.{Mealy, run, Proper, Commands}
-use Rattle.machine.specs.Causes.{cause6, machineIn, wordCauses, loadCauses}
+use Rattle.machine.specs.Machine.{Mealy, run, Commands}
+use Rattle.machine.specs.Causes.{machineIn, loadCauses}
 use Rattle.machine.specs.Causes.Laws.{clear-commands}
-use Rattle.machine.specs.Causes.Separation.{separates-clear}
-use Rattle.machine.specs.Causes.Lists.{word-causes-are, load-causes-are, machine-proper, load-proper, clear-machine}
-use Rattle.machine.specs.Causes.Lists.{word-distinguishes}
+use Rattle.machine.specs.Causes.Lists.{word-causes-are, distinguishes-clear, loading-clear, machine-proper, load-proper}
+use Rattle.machine.specs.Causes.Lists.{clear-machine, clear-word, word-distinguishes}
 use Rattle.certify.specs.declared.answer.Answer.the-variants.{Certified as CertifiedAnswer}
 use Rattle.certify.specs.Recognition.{Certified}
 use Rattle.certify.specs.Marks.{count, marks}
-use Rattle.certify.specs.Certification.{cause9, certifyCauses, outcome, certification}
-use Rattle.certify.specs.Certification.Laws.{room-clear, clear-room, room-refused, certified-clear, outcome-clear}
-use Rattle.certify.specs.Certification.Laws.{certification-clear}
-use Rattle.build.specs.declared.service.Answer.the-variants.{Built, Refused as RefusedAnswer}
+use Rattle.certify.specs.Certification.{certifyCauses, outcome, certification}
+use Rattle.certify.specs.Certification.Laws.{certified-clear, outcome-clear, certification-clear}
 use Rattle.build.specs.Sequence.{following, sequence, lengthBound}
 use Rattle.build.specs.Sequence.Laws.{Blocks, sequence-leads}
 use Rattle.build.specs.Sequence.Certified.{sequence-some, sequence-certified}
 use Rattle.build.specs.Sequence.Length.{sequence-length, sequence-low, longest-below}
-use Rattle.build.specs.Building.{buildNeeds, cause8, connectedCauses, buildCauses, building, bufferAfter}
+use Rattle.build.specs.Building.{buildNeeds, cause8, connectedCauses, buildCause, building, bufferAfter}
 use Rattle.build.specs.Building.{Buildable}
-use Rattle.build.specs.Building.Connection.{clear-blocks, clear-connected, connected-clear, NotConnected}
-use Rattle.build.specs.Building.Connection.{refused-unconnected, connected-causes-are, all-clear}
-
--- ---- the causes in order
-connected-then-room : (room : ℕ) (s : List ℕ) → firstCause (buildCauses room s)
-    ≡ (firstCause (connectedCauses s) else cause9 room (length (sequence (machineIn s) (wordIn s))))
-unfolding buildCauses
-connected-then-room room s =
-    let nine = cause9 room (length (sequence (machineIn s) (wordIn s))) in
-    cause-append (connectedCauses s) (nine ∷ [])
-    ∙ ap (λ (c : Check). firstCause (connectedCauses s) else c) (cause-one nine)
-
-pub build-causes-are : (room : ℕ) (s : List ℕ) → firstCause (buildCauses room s)
-    ≡ (firstCause (loadCauses buildNeeds s)
-    else (cause8 (machineIn s) (wordIn s) else cause9 room (length (sequence (machineIn s) (wordIn s)))))
-build-causes-are room s =
-    connected-then-room room s
-    ∙ ap (λ (c : Check). c else cause9 room (length (sequence (machineIn s) (wordIn s)))) (connected-causes-are s)
-    ∙ else-assoc _ _ _
-
-module _ (room : ℕ) (s : List ℕ) where
-  -- the first cause is one of loading, or 8
-  pub refused-early : {a b : ℕ} → firstCause (connectedCauses s) ≡ Refused a b
-      → firstCause (buildCauses room s) ≡ Refused a b
-  refused-early {a} {b} e = connected-then-room room s ∙ (rw e (else-refused a b _))
-
-  -- where these are clear, it is 9
-  pub room-cause : firstCause (connectedCauses s) ≡ Clear
-      → firstCause (buildCauses room s) ≡ cause9 room (length (sequence (machineIn s) (wordIn s)))
-  room-cause e = connected-then-room room s ∙ (rw e (else-clear _))
-
-  -- ---- where all are clear
-  module _ (e : firstCause (buildCauses room s) ≡ Clear) where
-    parts-clear : (firstCause (loadCauses buildNeeds s) ≡ Clear)
-        × ((cause8 (machineIn s) (wordIn s) else cause9 room (length (sequence (machineIn s) (wordIn s))))
-        ≡ Clear)
-    parts-clear = both-clear _ _ (sym (build-causes-are room s) ∙ e)
-
-    pub load-clear : firstCause (loadCauses buildNeeds s) ≡ Clear
-    load-clear = parts-clear .0
-
-    pub eight-clear : cause8 (machineIn s) (wordIn s) ≡ Clear
-    eight-clear = both-clear _ _ (parts-clear .1) .0
-
-    pub room-enough : length (sequence (machineIn s) (wordIn s)) ≤ room
-    room-enough = clear-room _ _ (both-clear _ _ (parts-clear .1) .1)
-
-  -- ---- the answer and the buffer
-  pub building-refused : {a b : ℕ} → firstCause (buildCauses room s) ≡ Refused a b → building room s ≡ RefusedAnswer a b
-  unfolding building
-  building-refused e = rw e
-
-  pub building-clear : firstCause (buildCauses room s) ≡ Clear
-      → building room s ≡ Built (length (sequence (machineIn s) (wordIn s)))
-  unfolding building
-  building-clear e = rw e
-
-  built-by : (c : Check) (m : ℕ) {n : ℕ} → refusedOr RefusedAnswer c (Built m) ≡ Built n → (c ≡ Clear) × (n ≡ m)
-  built-by Clear m e = (refl, cc)
-  built-by (Refused a b) m e = let z : _≡_ {A = ℕ} 0 1 = cc in absurd (omega arith)
-
-  refused-by : (c : Check) (m : ℕ) {a b : ℕ} → refusedOr RefusedAnswer c (Built m) ≡ RefusedAnswer a b → c ≡ Refused a b
-  refused-by Clear m e = let z : _≡_ {A = ℕ} 0 1 = cc in absurd (omega arith)
-  refused-by (Refused a b) m e = cc
-
-  -- an answer of built: nothing is refused, and the number is the sequence's length
-  pub answer-built : {n : ℕ} → building room s ≡ Built n
-      → (firstCause (buildCauses room s) ≡ Clear) × (n ≡ length (sequence (machineIn s) (wordIn s)))
-  unfolding building
-  answer-built {n} e = built-by (firstCause (buildCauses room s)) (length (sequence (machineIn s) (wordIn s))) e
-
-  -- an answer of refused: that is the first cause
-  pub answer-refused : {a b : ℕ} → building room s ≡ RefusedAnswer a b → firstCause (buildCauses room s) ≡ Refused a b
-  unfolding building
-  answer-refused {a} {b} e =
-      refused-by (firstCause (buildCauses room s)) (length (sequence (machineIn s) (wordIn s))) e
-
-module _ (s buffer : List ℕ) where
-  pub buffer-refused : {a b : ℕ} → firstCause (buildCauses (length buffer) s) ≡ Refused a b
-      → bufferAfter s buffer ≡ buffer
-  unfolding bufferAfter
-  buffer-refused e = rw e
-
-  pub buffer-clear : firstCause (buildCauses (length buffer) s) ≡ Clear
-      → bufferAfter s buffer ≡ written (sequence (machineIn s) (wordIn s)) buffer
-  unfolding bufferAfter
-  buffer-clear e = rw e
+use Rattle.build.specs.Building.Connection.{clear-blocks, connected-clear, NotConnected, refused-unconnected}
+use Rattle.build.specs.Building.Connection.{connected-causes-are, clear-load, clear-eight, clear-proper}
+use Rattle.build.specs.Building.Connection.{clear-distinguishes, clear-strongly, all-clear}
 
 -- ---- building succeeds exactly where the sheet is well formed, the word separates, the table is strongly
 -- connected, and there is room
 module _ (room : ℕ) (s : List ℕ) where
-  pub clear-buildable : firstCause (buildCauses room s) ≡ Clear → Buildable room s
-  clear-buildable e =
-      let load = load-clear room s e in
-      let word : firstCause (wordCauses true s) ≡ Clear =
-      both-clear _ _ (sym (load-causes-are buildNeeds s) ∙ load) .1 in
-      let d = word-distinguishes buildNeeds s refl load in
+  connected-buildable : firstCause (connectedCauses s) ≡ Clear → length (sequence (machineIn s) (wordIn s)) ≤ room
+      → Buildable room s
+  connected-buildable e l =
+      let load = clear-load s e in
+      let word = word-causes-are (machineIn s) (wordRecord s .start) (wordIn s) in
       record {
         machine = clear-machine buildNeeds s load;
-        word = both-clear _ _ (sym (word-causes-are s) ∙ word) .0;
-        separates = d .separates;
-        connected =
-            clear-connected (machineIn s) (wordIn s) (load-proper buildNeeds s load) (d .commands)
-            (eight-clear room s e);
-        fits = room-enough room s e;
+        word = both-clear _ _ (sym word ∙ clear-word buildNeeds s load refl) .0;
+        separates = clear-distinguishes s e .separates;
+        connected = clear-strongly s e;
+        fits = l;
       }
 
-  pub buildable-clear : Buildable room s → firstCause (buildCauses room s) ≡ Clear
-  buildable-clear h =
-      let six : cause6 (machineIn s) (wordIn s) ≡ Clear =
-      separates-clear (machineIn s) (wordIn s) (h .separates) in
-      let word : firstCause (wordCauses true s) ≡ Clear = word-causes-are s ∙ (rw (h .word, six) (else-clear Clear)) in
-      let load : firstCause (loadCauses buildNeeds s) ≡ Clear =
-      load-causes-are buildNeeds s ∙ (rw (h .machine, word) (else-clear Clear)) in
+  buildable-connected : Buildable room s → firstCause (connectedCauses s) ≡ Clear
+  buildable-connected h =
       let commands : Commands mostWord (machineIn s .k) (wordIn s) =
-      clear-commands 5 mostWord (machineIn s .k) (wordRecord s) (wordIn s) (h .word) in
-      let eight =
-      connected-clear (machineIn s) (wordIn s) (machine-proper buildNeeds s (h .machine)) commands (h .connected) in
-      room-cause room s (all-clear s load eight) ∙ room-clear _ _ (h .fits)
+      clear-commands 5 mostWord (machineIn s .k) (wordRecord s .start) (wordIn s) (h .word) in
+      all-clear s
+      (loading-clear buildNeeds s (h .machine)
+      (λ t. distinguishes-clear (machineIn s) (wordRecord s .start) (wordIn s)
+      (record { commands = commands; separates = h .separates }))
+      (λ t. absurd (true≢false (sym t))))
+      (connected-clear (machineIn s) (wordIn s) (machine-proper buildNeeds s (h .machine)) commands (h .connected))
 
-  pub built-buildable : {n : ℕ} → building room s ≡ Built n → Buildable room s
-  built-buildable e = clear-buildable (answer-built room s e .0)
+  pub clear-buildable : buildCause room s ≡ Clear → Buildable room s
+  clear-buildable e = let h = both-clear _ _ e in connected-buildable (h .0) (clear-room _ _ (h .1))
 
-  pub buildable-built : Buildable room s → building room s ≡ Built (length (sequence (machineIn s) (wordIn s)))
-  buildable-built h = building-clear room s (buildable-clear h)
+  pub buildable-clear : Buildable room s → buildCause room s ≡ Clear
+  buildable-clear h = rw (buildable-connected h, room-clear room _ (h .fits)) (else-clear Clear)
+
+  pub built-buildable : {n : ℕ} → building room s ≡ Written n → Buildable room s
+  built-buildable e =
+      let o = written-clear (writing-outcome e) in
+      connected-buildable (o .0) (omega (arith, o .1))
+
+  pub buildable-built : Buildable room s → building room s ≡ Written (length (sequence (machineIn s) (wordIn s)))
+  buildable-built h = outcome-writing (wrote (buildable-connected h) refl (h .fits))
 
 -- ---- a refusal
-data Which (c d e : Check) (a b : ℕ) : Type 0 where
-  one : c ≡ Refused a b → Which c d e a b
-  two : c ≡ Clear → d ≡ Refused a b → Which c d e a b
-  three : c ≡ Clear → d ≡ Clear → e ≡ Refused a b → Which c d e a b
-
-which : (c d e : Check) {a b : ℕ} → (c else (d else e)) ≡ Refused a b → Which c d e a b
-which Clear Clear e h = three refl refl (sym (else-clear (Clear else e) ∙ else-clear e) ∙ h)
-which Clear (Refused n p) e h = two refl (sym (else-clear (Refused n p else e) ∙ else-refused n p e) ∙ h)
-which (Refused n p) d e h = one (sym (else-refused n p (d else e)) ∙ h)
-
 -- why building refuses with number a and place b: one of the causes of loading; 8, at the least s from which no path of
 -- any length leads on; or 9, with the built length, which is above the room
 pub data RefusedFor (room : ℕ) (s : List ℕ) (a b : ℕ) : Type 0 where
@@ -177,32 +84,24 @@ pub data RefusedFor (room : ℕ) (s : List ℕ) (a b : ℕ) : Type 0 where
   unconnected : a ≡ 8 → NotConnected (machineIn s) (wordIn s) b → RefusedFor room s a b
   narrow : a ≡ 9 → b ≡ length (sequence (machineIn s) (wordIn s)) → room < b → RefusedFor room s a b
 
-module _ (room : ℕ) (s : List ℕ) where
-  narrow-by : {a b : ℕ} → cause9 room (length (sequence (machineIn s) (wordIn s))) ≡ Refused a b
-      → RefusedFor room s a b
-  narrow-by {a} {b} e =
-      let t = room-refused _ _ e in
-      narrow (t .0) (t .1 .0) (omega (arith, t .1))
+why : (room : ℕ) (s : List ℕ) {a b : ℕ}
+    → Outcome (firstCause (connectedCauses s)) room (sequence (machineIn s) (wordIn s)) (RefusedAnswer a b)
+    → RefusedFor room s a b
+why room s (by-cause e) = elim (either-refused _ _ (sym (connected-causes-are s) ∙ e)) [
+  | inl l ↦ early l
+  | inr t ↦ (let commands = word-distinguishes buildNeeds s refl (t .0) .commands in
+      let r = refused-unconnected (machineIn s) (wordIn s) (load-proper buildNeeds s (t .0)) commands (t .1) in
+      unconnected (r .0) (r .1))
+]
+why room s (by-room e n p l) = narrow n p l
 
-  why : {a b : ℕ}
-      → Which (firstCause (loadCauses buildNeeds s)) (cause8 (machineIn s) (wordIn s))
-      (cause9 room (length (sequence (machineIn s) (wordIn s)))) a b
-      → RefusedFor room s a b
-  why (one e) = early e
-  why (two l e) =
-      let proper = load-proper buildNeeds s l in
-      let r =
-      refused-unconnected (machineIn s) (wordIn s) proper (word-distinguishes buildNeeds s refl l .commands) e in
-      unconnected (r .0) (r .1)
-  why (three l c e) = narrow-by e
-
-  pub refused-for : {a b : ℕ} → building room s ≡ RefusedAnswer a b → RefusedFor room s a b
-  refused-for e = why (which _ _ _ (sym (build-causes-are room s) ∙ answer-refused room s e))
+pub refused-for : (room : ℕ) (s : List ℕ) {a b : ℕ} → building room s ≡ RefusedAnswer a b → RefusedFor room s a b
+refused-for room s e = why room s (writing-outcome e)
 
 -- it writes nothing
 pub refused-buffer : (s buffer : List ℕ) {a b : ℕ} → building (length buffer) s ≡ RefusedAnswer a b
     → bufferAfter s buffer ≡ buffer
-refused-buffer s buffer e = buffer-refused s buffer (answer-refused (length buffer) s e)
+refused-buffer s buffer e = refused-leaves buffer (writing-outcome e)
 
 -- ---- what is built
 -- a sequence of n commands of a machine M and a word w: it is certified, by certification's own definition and
@@ -216,20 +115,23 @@ pub record BuiltSequence (M : Mealy) (w xs : List ℕ) (n : ℕ) : Type 0 where
   pub outcome : outcome M w xs ≡ CertifiedAnswer (count (marks M w xs))
   pub ends : run M (M .start) xs ≡ following (M .n) (M .next (M .n - 1) (M .k - 1))
 
-pub sequence-built : (M : Mealy) (w : List ℕ) → Proper M → Commands mostWord (M .k) w → cause8 M w ≡ Clear
-    → BuiltSequence M w (sequence M w) (length (sequence M w))
-sequence-built M w proper commands clear =
-    let blocks : Blocks M w = clear-blocks M w proper commands clear in
-    let short = sequence-length M w blocks in
+-- where no cause before 9 is present
+pub connected-built : (s : List ℕ) → firstCause (connectedCauses s) ≡ Clear
+    → let xs = sequence (machineIn s) (wordIn s) in BuiltSequence (machineIn s) (wordIn s) xs (length xs)
+connected-built s e =
+    let M = machineIn s in
+    let w = wordIn s in
+    let commands = clear-distinguishes s e .commands in
+    let blocks : Blocks M w = clear-blocks M w (clear-proper s e) commands (clear-eight s e) in
     let certified = sequence-certified M w blocks in
     record {
       long = refl;
       commands = record {
         some = sequence-some M w blocks;
-        few = omega (arith, longest-below M w proper (commands .few));
+        few = omega (arith, longest-below M w (clear-proper s e) (commands .few), sequence-length M w blocks);
         low = sequence-low M w blocks;
       };
-      bounded = short;
+      bounded = sequence-length M w blocks;
       certified = certified;
       outcome = outcome-clear M w (sequence M w) (certified-clear M w (sequence M w) certified);
       ends = sequence-leads M w blocks;
@@ -237,37 +139,28 @@ sequence-built M w proper commands clear =
 
 -- in a room of 20,355 bytes cause 9 is never present
 pub always-fits : (room : ℕ) (s : List ℕ) → mostSequence ≤ room → firstCause (loadCauses buildNeeds s) ≡ Clear
-    → cause8 (machineIn s) (wordIn s) ≡ Clear → firstCause (buildCauses room s) ≡ Clear
+    → cause8 (machineIn s) (wordIn s) ≡ Clear → buildCause room s ≡ Clear
 always-fits room s l load eight =
-    let proper = load-proper buildNeeds s load in
-    let xs =
-    sequence-built (machineIn s) (wordIn s) proper (word-distinguishes buildNeeds s refl load .commands) eight in
-    room-cause room s (all-clear s load eight) ∙ room-clear _ _ (omega (arith, xs .commands .few))
+    let e = all-clear s load eight in
+    let fits : length (sequence (machineIn s) (wordIn s)) ≤ room = omega (arith, connected-built s e .commands .few) in
+    rw (e, room-clear room _ fits) (else-clear Clear)
 
 -- an answer of built shows all that of the sequence
-pub built-sequence : (room : ℕ) (s : List ℕ) {n : ℕ} → building room s ≡ Built n
+pub built-sequence : (room : ℕ) (s : List ℕ) {n : ℕ} → building room s ≡ Written n
     → BuiltSequence (machineIn s) (wordIn s) (sequence (machineIn s) (wordIn s)) n
 built-sequence room s e =
-    let a = answer-built room s e in
-    let load = load-clear room s (a .0) in
-    let d = word-distinguishes buildNeeds s refl load in
-    rw (a .1)
-    (sequence-built (machineIn s) (wordIn s) (load-proper buildNeeds s load) (d .commands)
-    (eight-clear room s (a .0)))
+    let o = written-clear (writing-outcome e) in
+    rw (o .1 .0) (connected-built s (o .0))
 
 -- and of the buffer: its first bytes are the sequence, the later ones as they were
-pub built-buffer : (s buffer : List ℕ) {n : ℕ} → building (length buffer) s ≡ Built n
+pub built-buffer : (s buffer : List ℕ) {n : ℕ} → building (length buffer) s ≡ Written n
     → (take n (bufferAfter s buffer) ≡ sequence (machineIn s) (wordIn s))
     × (drop n (bufferAfter s buffer) ≡ drop n buffer)
-built-buffer s buffer e =
-    let a = answer-built (length buffer) s e in
-    let after = buffer-clear s buffer (a .0) in
-    let xs = sequence (machineIn s) (wordIn s) in
-    rw (a .1, after) (take-append-seam xs (drop (length xs) buffer), drop-append-seam xs (drop (length xs) buffer))
+built-buffer s buffer e = written-first buffer (writing-outcome e)
 
 -- a sheet with the same machine and word, and what is built as its sequence, is answered certified wherever
 -- certifying refuses nothing
-pub built-certification : (room : ℕ) (s : List ℕ) {n : ℕ} → building room s ≡ Built n
+pub built-certification : (room : ℕ) (s : List ℕ) {n : ℕ} → building room s ≡ Written n
     → (marksRoom : ℕ) (with-sequence : List ℕ) → machineIn with-sequence ≡ machineIn s
     → wordIn with-sequence ≡ wordIn s → sequenceIn with-sequence ≡ sequence (machineIn s) (wordIn s)
     → firstCause (certifyCauses marksRoom with-sequence) ≡ Clear

@@ -2,19 +2,19 @@
 -- every T(s) is recognised by rule 2, its start by rule 1: each tested command lies between the end of one and the
 -- start of another. M is the machine, w the word; a split of the sequence says where a block stands.
 use Prim.Native.Nat.{ℕ, zero, suc, _+_, _-_, _≤_, _<_}
-use mathlib.Core.Path.{_≡_, refl, sym, ap, ap₂, _∙_}
+use mathlib.Core.Path.{_≡_, refl, sym, ap, _∙_}
 use mathlib.Core.Logic.{inl, inr}
 use mathlib.Core.List.{List, [], _∷_, _++_, append-assoc, append-nil}
 use native.Mathlib.Omega.{arith}
 use native.Mathlib.Numerals.{add-one}
 use native.Mathlib.Nat.{add-zero, add-suc, not-suc-le-zero, le-refl, le-of-suc-le}
 use Rattle.facts.specs.Numbers.{equal-or-not}
-use lib.ListN.{length, getD, take, drop, length-append}
+use lib.ListN.{length, take, drop, length-append}
 use lib.Seq.{take-append-seam, drop-append-seam, getD-append-seam}
 use borrow.Author.Count.{below-more}
 use Rattle.machine.specs.Machine.{Mealy, run, stateAt}
 use Rattle.machine.specs.Machine.Laws.{run-none, run-append, run-cons, state-split}
-use Rattle.certify.specs.Recognition.{OccursAt, Recognised, Verified, Certified}
+use Rattle.certify.specs.Recognition.{Recognised, Verified, Certified}
 use Rattle.certify.specs.Recognition.Laws.{by-rule1, by-rule2}
 use Rattle.build.specs.Sequence.{following, T, nthState, firstBlocks, opening, approach, test, stateTests, tests}
 use Rattle.build.specs.Sequence.{sequence}
@@ -98,22 +98,9 @@ module _ (M : Mealy) (w : List ℕ) (h : Blocks M w) where
       record {
         before = firstBlocks M w i;
         after = o .0;
-        split =
-            o .1
-            ∙ ap₂ (λ (x y : ℕ). firstBlocks M w i ++ (T M w x ++ (T M w y ++ o .0))) at
-            (nthState-next M (h .proper) i ∙ ap (following (M .n)) at);
+        split = rw (nthState-next M (h .proper) i, at) at (o .1);
         state = first-blocks-lead M w h i ∙ at;
       }
-
-  opening-begins : (after : List ℕ) × (opening M w ≡ T M w (M .start) ++ after)
-  opening-begins =
-      let o = opening-split 0 (h .proper .some-states) in
-      let after = T M w (nthState M 1) ++ o .0 in (
-        after,
-        o .1
-            ∙ ap₂ (λ (xs : List ℕ) (s : ℕ). xs ++ (T M w s ++ after)) (first-blocks-none M w)
-            (nthState-start M (h .proper)),
-      )
 
   opening-ended : Ended (opening M w)
   opening-ended = record {
@@ -127,18 +114,10 @@ module _ (M : Mealy) (w : List ℕ) (h : Blocks M w) where
   -- ---- the tests
   -- the machine's state after a beginning that ends with a block
   ended-leads : (xs : List ℕ) (o : Ended xs) → run M (M .start) xs ≡ following (M .n) (o .last)
-  ended-leads xs o =
-      ap (run M (M .start)) (o .split)
-      ∙ run-append M (M .start) (o .before) (T M w (o .last))
-      ∙ ap (λ (x : ℕ). run M x (T M w (o .last))) (o .state)
-      ∙ h .leads (o .last) (o .low)
+  ended-leads xs o = rw (o .split, run-append, o .state) (h .leads (o .last) (o .low))
 
   ended-stays : (xs : List ℕ) → Ended xs → run M (M .start) xs < M .n
   ended-stays xs o = rw (ended-leads xs o) (following-below (M .n) (o .last) (o .low))
-
-  -- T of the present state
-  ended-more : (xs : List ℕ) (p : ℕ) → p < M .n → run M (M .start) xs ≡ p → Ended (xs ++ T M w p)
-  ended-more xs p pl e = record { before = xs; last = p; low = pl; split = refl; state = e }
 
   -- the approach
   ended-here : (xs : List ℕ) → Ended xs → {ys : List ℕ} → ys ≡ [] → Ended (xs ++ ys)
@@ -149,9 +128,10 @@ module _ (M : Mealy) (w : List ℕ) (h : Blocks M w) where
   ended-approach zero xs p s o e = ended-here xs o (approach-none M w p s)
   ended-approach (suc i) xs p s o e = elim (equal-or-not p s) [
     | inl q ↦ ended-here xs o (rw q (approach-here M w (suc i) s))
-    | inr ne ↦ rw (approach-on M w i p s ne, ← append-assoc)
-        (ended-approach i (xs ++ T M w p) (run M p (T M w p)) s (ended-more xs p (rw (← e) (ended-stays xs o)) e)
-        (run-append M (M .start) xs (T M w p) ∙ ap (λ (x : ℕ). run M x (T M w p)) e))
+    | inr ne ↦ (let now : Ended (xs ++ T M w p) =
+        record { before = xs; last = p; low = rw (← e) (ended-stays xs o); split = refl; state = e } in
+        rw (approach-on M w i p s ne, ← append-assoc)
+        (ended-approach i (xs ++ T M w p) (run M p (T M w p)) s now (rw (run-append, e))))
   ]
 
   -- the test of an entry behind a beginning
@@ -165,16 +145,11 @@ module _ (M : Mealy) (w : List ℕ) (h : Blocks M w) where
 
     at-leads : run M (M .start) at-state ≡ s
     unfolding at-state
-    at-leads =
-        run-append M (M .start) xs (approach M w (M .n) p s)
-        ∙ ap (λ (x : ℕ). run M x (approach M w (M .n) p s)) e
-        ∙ approach-reaches M w h p s (rw (← e) (ended-stays xs o)) sl
+    at-leads = rw (run-append, e) (approach-reaches M w h p s (rw (← e) (ended-stays xs o)) sl)
 
     tested-is : xs ++ test M w p s c ≡ at-state ++ (c ∷ T M w (M .next s c))
     unfolding at-state
-    tested-is =
-        ap (λ (l : List ℕ). xs ++ l) (test-is M w p s c)
-        ∙ sym (append-assoc xs (approach M w (M .n) p s) (c ∷ T M w (M .next s c)))
+    tested-is = rw (test-is M w p s c, append-assoc)
 
     test-tested : Tested (xs ++ test M w p s c) s c
     test-tested = record {
@@ -182,10 +157,7 @@ module _ (M : Mealy) (w : List ℕ) (h : Blocks M w) where
       last = at-ended .last;
       after = [];
       low = at-ended .low;
-      split =
-          tested-is
-          ∙ ap (λ (l : List ℕ). l ++ (c ∷ T M w (M .next s c))) (at-ended .split)
-          ∙ (rw (append-nil, append-assoc));
+      split = rw (tested-is, at-ended .split, append-nil, append-assoc);
       state = at-ended .state;
       reached = sym (ended-leads at-state at-ended) ∙ at-leads;
     }
@@ -196,11 +168,7 @@ module _ (M : Mealy) (w : List ℕ) (h : Blocks M w) where
       last = M .next s c;
       low = h .proper .stays s c sl cl;
       split = tested-is ∙ sym (append-assoc at-state (c ∷ []) (T M w (M .next s c)));
-      state =
-          run-append M (M .start) at-state (c ∷ [])
-          ∙ ap (λ (x : ℕ). run M x (c ∷ [])) at-leads
-          ∙ run-cons M s c []
-          ∙ run-none M (M .next s c);
+      state = rw (run-append, at-leads, run-cons, run-none);
     }
 
   -- the tests of a state's first entries
@@ -219,7 +187,7 @@ module _ (M : Mealy) (w : List ℕ) (h : Blocks M w) where
   state-step : (xs ys : List ℕ) (p s k : ℕ) → run M (M .start) xs ≡ p → s < M .n → k < M .k → StateTested (xs ++ ys) s k
       → StateTested (xs ++ (ys ++ test M w (run M p ys) s k)) s (suc k)
   state-step xs ys p s k e sl kl so =
-      let at = run-append M (M .start) xs ys ∙ ap (λ (x : ℕ). run M x ys) e in
+      let at : run M (M .start) (xs ++ ys) ≡ run M p ys = rw (run-append, e) in
       rw (← append-assoc)
       (state-more (xs ++ ys) (test M w (run M p ys) s k) s k so
       (test-ended (xs ++ ys) (run M p ys) s k (so .ended) at sl kl)
@@ -251,10 +219,9 @@ module _ (M : Mealy) (w : List ℕ) (h : Blocks M w) where
   all-step : (xs ys : List ℕ) (p n : ℕ) → run M (M .start) xs ≡ p → n < M .n → AllTested (xs ++ ys) n
       → AllTested (xs ++ (ys ++ stateTests M w (run M p ys) n (M .k))) (suc n)
   all-step xs ys p n e nl so =
-      let at = run-append M (M .start) xs ys ∙ ap (λ (x : ℕ). run M x ys) e in
       rw (← append-assoc)
       (all-more (xs ++ ys) (stateTests M w (run M p ys) n (M .k)) n so
-      (state-tested (xs ++ ys) (run M p ys) n (M .k) (so .ended) at nl (le-refl (M .k))))
+      (state-tested (xs ++ ys) (run M p ys) n (M .k) (so .ended) (rw (run-append, e)) nl (le-refl (M .k))))
 
   all-tested : (xs : List ℕ) (p n : ℕ) → Ended xs → run M (M .start) xs ≡ p → n ≤ M .n
       → AllTested (xs ++ tests M w p n) n
@@ -277,49 +244,37 @@ module _ (M : Mealy) (w : List ℕ) (h : Blocks M w) where
 
   sequence-begins : (after : List ℕ) × (sequence M w ≡ T M w (M .start) ++ after)
   sequence-begins =
-      let o = opening-begins in
-      let rest = tests M w (run M (M .start) (opening M w)) (M .n) in (
-        o .0 ++ rest,
-        sequence-is M w ∙ ap (λ (l : List ℕ). l ++ rest) (o .1) ∙ append-assoc (T M w (M .start)) (o .0) rest,
-      )
+      let o = opening-split 0 (h .proper .some-states) in
+      let begins = rw (first-blocks-none M w, nthState-start M (h .proper)) at (o .1) in
+      let rest = tests M w (run M (M .start) (opening M w)) (M .n) in
+      ((T M w (nthState M 1) ++ o .0) ++ rest, rw (sequence-is M w, ← append-assoc, ← begins))
 
   -- it is not empty
   pub sequence-some : 1 ≤ length (sequence M w)
   sequence-some =
-      let b = sequence-begins in
-      let t = h .begins (M .start) (h .proper .starts) in
-      let long : length (sequence M w) ≡ length (T M w (M .start)) + length (b .0) =
-      ap length (b .1) ∙ length-append (T M w (M .start)) (b .0) in
-      let word : length (T M w (M .start)) ≡ length w + length (t .0) = ap length (t .1) ∙ length-append w (t .0) in
-      omega (arith, h .some)
+      rw (sequence-begins .1, h .begins (M .start) (h .proper .starts) .1, append-assoc, length-append)
+      (omega (arith, h .some))
 
   -- ---- recognised places
   module _ (xs : List ℕ) where
     -- a block begins with the word
-    block-occurs : (before : List ℕ) (s : ℕ) (after : List ℕ) → s < M .n → xs ≡ before ++ (T M w s ++ after)
-        → OccursAt w xs (length before)
-    block-occurs before s after sl e =
-        let b = h .begins s sl in
-        let whole : xs ≡ before ++ (w ++ (b .0 ++ after)) =
-        e ∙ ap (λ (l : List ℕ). before ++ l) (ap (λ (l : List ℕ). l ++ after) (b .1) ∙ append-assoc w (b .0) after) in
-        let long : length xs ≡ length before + (length w + length (b .0 ++ after)) =
-        ap length whole ∙ length-append before _ ∙ ap (λ (x : ℕ). length before + x) (length-append w _) in
-        record {
-          inside = omega arith;
-          commands = rw (whole, drop-append-seam before (w ++ (b .0 ++ after))) (take-append-seam w (b .0 ++ after));
-        }
-
     block-start : (before : List ℕ) (s : ℕ) (after : List ℕ) → s < M .n → xs ≡ before ++ (T M w s ++ after)
         → Recognised M w xs (length before)
-    block-start before s after sl e = by-rule1 M w xs (length before) (block-occurs before s after sl e)
+    block-start before s after sl e =
+        let b = h .begins s sl in
+        let whole : xs ≡ before ++ (w ++ (b .0 ++ after)) = rw (e, b .1, append-assoc w) in
+        by-rule1 M w xs (length before) (record {
+          inside = rw whole (simp length-append (omega arith));
+          commands = rw (whole, drop-append-seam, take-append-seam);
+        })
 
     state-behind : (before after : List ℕ) → xs ≡ before ++ after
         → stateAt M xs (length before) ≡ run M (M .start) before
-    state-behind before after e = ap (λ (l : List ℕ). stateAt M l (length before)) e ∙ state-split M before after
+    state-behind before after e = rw (e, state-split)
 
     commands-at : (before : List ℕ) (s : ℕ) (after : List ℕ) → xs ≡ before ++ (T M w s ++ after)
         → take (length (T M w s)) (drop (length before) xs) ≡ T M w s
-    commands-at before s after e = rw (e, drop-append-seam before (T M w s ++ after)) (take-append-seam (T M w s) after)
+    commands-at before s after e = rw (e, drop-append-seam, take-append-seam)
 
     -- the end of a block, by the same block in the opening
     block-end : (before : List ℕ) (s : ℕ) (after : List ℕ) → s < M .n → xs ≡ before ++ (T M w s ++ after)
@@ -330,13 +285,11 @@ module _ (M : Mealy) (w : List ℕ) (h : Blocks M w) where
         let q = length before in
         let b = h .begins s sl in
         let long : length (T M w s) ≡ length w + length (b .0) = ap length (b .1) ∙ length-append w (b .0) in
-        let next : xs ≡ (o .before ++ T M w s) ++ (T M w (following (M .n) s) ++ o .after) =
-        o .split ∙ sym (append-assoc (o .before) (T M w s) _) in
         let end : Recognised M w xs (p + m) =
         rw (← length-append (o .before) (T M w s))
-        (block-start (o .before ++ T M w s) (following (M .n) s) (o .after) (following-below (M .n) s sl) next) in
-        let whole : length xs ≡ q + (m + length after) =
-        ap length e ∙ length-append before _ ∙ ap (λ (x : ℕ). q + x) (length-append (T M w s) after) in
+        (block-start (o .before ++ T M w s) (following (M .n) s) (o .after) (following-below (M .n) s sl)
+        (rw append-assoc (o .split))) in
+        let whole : length xs ≡ q + (m + length after) = ap length e ∙ (simp length-append) in
         by-rule2 M w xs p q m (omega (arith, h .some)) (block-start (o .before) s _ sl (o .split))
         (block-start before s after sl e)
         (state-behind (o .before) _ (o .split) ∙ o .state ∙ sym (state-behind before _ e ∙ st)) end (omega arith)
@@ -348,20 +301,15 @@ module _ (M : Mealy) (w : List ℕ) (h : Blocks M w) where
     tested-verified s c sl cl o t =
         let u = t .before ++ T M w (t .last) in
         let behind = T M w (M .next s c) ++ t .after in
-        let here : xs ≡ u ++ (c ∷ behind) = t .split ∙ sym (append-assoc (t .before) (T M w (t .last)) (c ∷ behind)) in
-        let there : xs ≡ (u ++ (c ∷ [])) ++ behind = here ∙ sym (append-assoc u (c ∷ []) behind) in
-        let long : length xs ≡ length u + suc (length behind) = ap length here ∙ length-append u (c ∷ behind) in
+        let here : xs ≡ u ++ (c ∷ behind) = rw append-assoc (t .split) in
+        let there : xs ≡ (u ++ (c ∷ [])) ++ behind = rw append-assoc here in
         let at : length (u ++ (c ∷ [])) ≡ length u + 1 = length-append u (c ∷ []) in
         record {
           place = length u;
-          inside = omega arith;
+          inside = rw (here, length-append u) (omega arith);
           state =
-              state-behind u (c ∷ behind) here
-              ∙ run-append M (M .start) (t .before) (T M w (t .last))
-              ∙ ap (λ (x : ℕ). run M x (T M w (t .last))) (t .state)
-              ∙ h .leads (t .last) (t .low)
-              ∙ t .reached;
-          command = ap (λ (l : List ℕ). getD l (length u) 0) here ∙ getD-append-seam u c behind 0;
+              rw (state-behind u (c ∷ behind) here, run-append, t .state, h .leads (t .last) (t .low)) (t .reached);
+          command = rw (here, getD-append-seam);
           before =
               rw (length-append (t .before) (T M w (t .last)))
               (block-end (t .before) (t .last) _ (t .low) (t .split) (t .state) (o (t .last) (t .low)));

@@ -1,6 +1,6 @@
 -- The states counted round: s+1 after s, 0 after n-1.
 use Prim.Native.Nat.{ℕ, zero, suc, _+_, _-_, _≤_, _<_}
-use mathlib.Core.Path.{_≡_, refl, ap}
+use mathlib.Core.Path.{_≡_, refl}
 use mathlib.Core.Bool.{Bool, true, false}
 use mathlib.Core.Logic.{inl, inr}
 use native.Mathlib.Omega.{arith}
@@ -9,7 +9,7 @@ use lib.Arith.{lt-of-le-ne}
 use lib.Dec.{leb}
 use Rattle.facts.specs.Numbers.{equal-or-not, less-or-not}
 use Rattle.machine.specs.Machine.{Mealy, Proper}
-use Rattle.build.specs.Sequence.{nextOr, following, nthState}
+use Rattle.build.specs.Sequence.{following, nthState}
 
 -- ---- the state after a state
 -- 0 after the last, else one more
@@ -24,20 +24,16 @@ following-is n s l = elim (equal-or-not (s + 1) n) [
   | inr o ↦ on (lt-of-le-ne (omega arith) o) (rw (ne-eqb (s + 1) n o))
 ]
 
-after-below : {n s t : ℕ} → s < n → After n s t → t < n
-after-below l (around e q) = omega arith
-after-below l (on m q) = omega arith
-
 pub following-below : (n s : ℕ) → s < n → following n s < n
-following-below n s l = after-below l (following-is n s l)
+following-below n s l = elim (following-is n s l) [ around e q ↦ omega arith | on m q ↦ omega arith ]
 
 pub following-last : (n s : ℕ) → s + 1 ≡ n → following n s ≡ 0
 unfolding following
-following-last n s e = ap (λ (b : Bool). nextOr b s) (eq-eqb (s + 1) n e)
+following-last n s e = rw (eq-eqb (s + 1) n e)
 
 pub following-next : (n s : ℕ) → (s + 1 ≡ n → ⊥) → following n s ≡ s + 1
 unfolding following
-following-next n s ne = ap (λ (b : Bool). nextOr b s) (ne-eqb (s + 1) n ne)
+following-next n s ne = rw (ne-eqb (s + 1) n ne)
 
 -- ---- how many states s is after p, counted round
 abbrev pub gapOr : Bool → ℕ → ℕ → ℕ → ℕ
@@ -56,20 +52,12 @@ unfolding gap
 gap-is n p s =
     elim (less-or-not s p) [ inl l ↦ round-about l (rw (lt-leb p s l)) | inr l ↦ ahead l (rw (le-leb p s l)) ]
 
-below-by : {n p s g : ℕ} → p < n → s < n → Gap n p s g → g < n
-below-by pl sl (ahead l e) = omega arith
-below-by pl sl (round-about l e) = omega arith
-
 pub gap-below : (n p s : ℕ) → p < n → s < n → gap n p s < n
-gap-below n p s pl sl = below-by pl sl (gap-is n p s)
-
-none-by : {n p s g : ℕ} → p < n → Gap n p s g → g ≡ 0 → p ≡ s
-none-by pl (ahead l e) z = omega arith
-none-by pl (round-about l e) z = omega arith
+gap-below n p s pl sl = elim (gap-is n p s) [ ahead l e ↦ omega arith | round-about l e ↦ omega arith ]
 
 -- none: it is s
 pub gap-none : (n p s : ℕ) → p < n → gap n p s ≡ 0 → p ≡ s
-gap-none n p s pl z = none-by pl (gap-is n p s) z
+gap-none n p s pl z = elim (gap-is n p s) [ ahead l e ↦ omega arith | round-about l e ↦ omega arith ]
 
 step-by : {n p s q g h : ℕ} → p < n → s < n → (p ≡ s → ⊥) → After n p q → Gap n p s g → Gap n q s h → h + 1 ≡ g
 step-by pl sl ne (around a b) (ahead l e) (ahead m f) = absurd (ne (omega arith))
@@ -110,13 +98,9 @@ module _ (M : Mealy) (proper : Proper M) where
       turned-on (proper .starts) (omega arith) (state-is i (omega arith))
       (following-is (M .n) (nthState M i) (nthState-below i))
 
-  home-by : {t : ℕ} → Turned (M .n) (M .start) (M .n) t → t ≡ M .start
-  home-by (before-end l e) = let z : ⊥ = omega arith in absurd z
-  home-by (past-end l e) = omega arith
-
   -- after n states it is the start again
   pub nthState-home : nthState M (M .n) ≡ M .start
-  nthState-home = home-by (state-is (M .n) (omega arith))
+  nthState-home = elim (state-is (M .n) (omega arith)) [ before-end l e ↦ omega arith | past-end l e ↦ omega arith ]
 
   pub nthState-start : nthState M 0 ≡ M .start
   unfolding nthState
@@ -126,23 +110,16 @@ module _ (M : Mealy) (proper : Proper M) where
   unfolding nthState
   nthState-next i = refl
 
-  is-by : {i t : ℕ} → M .start ≡ 0 → i < M .n → Turned (M .n) (M .start) i t → t ≡ i
-  is-by e l (before-end m f) = omega arith
-  is-by e l (past-end m f) = omega arith
-
   -- from state 0 on it is the number itself
   pub nthState-is : (i : ℕ) → M .start ≡ 0 → i < M .n → nthState M i ≡ i
-  nthState-is i e l = is-by e l (state-is i (omega arith))
-
-  at-by : {s t : ℕ} → s < M .n → Gap (M .n) (M .start) s (gap (M .n) (M .start) s)
-      → Turned (M .n) (M .start) (gap (M .n) (M .start) s) t → t ≡ s
-  at-by sl (ahead l e) (before-end m f) = omega arith
-  at-by sl (ahead l e) (past-end m f) = omega arith
-  at-by sl (round-about l e) (before-end m f) = omega arith
-  at-by sl (round-about l e) (past-end m f) = omega (arith, proper .starts)
+  nthState-is i e l = elim (state-is i (omega arith)) [ before-end m f ↦ omega arith | past-end m f ↦ omega arith ]
 
   -- every state is among the first n
   pub nthState-at : (s : ℕ) → s < M .n → nthState M (gap (M .n) (M .start) s) ≡ s
   nthState-at s sl =
       let g = gap-below (M .n) (M .start) s (proper .starts) sl in
-      at-by sl (gap-is (M .n) (M .start) s) (state-is (gap (M .n) (M .start) s) (omega arith))
+      let at = state-is (gap (M .n) (M .start) s) (omega arith) in
+      elim (gap-is (M .n) (M .start) s) [
+        | ahead l e ↦ elim at [ before-end m f ↦ omega arith | past-end m f ↦ omega arith ]
+        | round-about l e ↦ elim at [ before-end m f ↦ omega arith | past-end m f ↦ omega (arith, proper .starts) ]
+      ]

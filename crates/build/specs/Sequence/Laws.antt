@@ -1,6 +1,6 @@
 -- The laws of the prescribed sequence: where each part of it leads.
 use Prim.Native.Nat.{ℕ, zero, suc, _-_, _≤_, _<_}
-use mathlib.Core.Path.{_≡_, refl, sym, ap, _∙_}
+use mathlib.Core.Path.{_≡_, refl, _∙_}
 use mathlib.Core.Logic.{inl, inr}
 use mathlib.Core.List.{List, [], _∷_, _++_}
 use mathlib.Core.Option.{Option·getD}
@@ -86,22 +86,19 @@ module _ (M : Mealy) (w : List ℕ) (h : Blocks M w) where
   -- T of a state p other than s, then the approach from the state after p
   pub approach-step : (i p s : ℕ) → p < M .n → (p ≡ s → ⊥)
       → approach M w (suc i) p s ≡ T M w p ++ approach M w i (following (M .n) p) s
-  approach-step i p s pl ne = approach-on M w i p s ne ∙ ap (λ (x : ℕ). T M w p ++ approach M w i x s) (h .leads p pl)
+  approach-step i p s pl ne = rw (approach-on M w i p s ne, h .leads p pl)
 
   -- any number of times that is not below the gap is enough
-  same-at : (i j s : ℕ) → approach M w i s s ≡ approach M w j s s
-  same-at i j s = approach-here M w i s ∙ sym (approach-here M w j s)
-
   approach-same : (i j p s : ℕ) → p < M .n → s < M .n → gap (M .n) p s ≤ i → gap (M .n) p s ≤ j
       → approach M w i p s ≡ approach M w j p s
-  approach-same zero j p s pl sl li lj = rw (gap-none (M .n) p s pl (omega arith)) (same-at zero j s)
-  approach-same (suc i) zero p s pl sl li lj = rw (gap-none (M .n) p s pl (omega arith)) (same-at (suc i) zero s)
+  approach-same zero j p s pl sl li lj = rw (gap-none (M .n) p s pl (omega arith)) (simp approach-here)
+  approach-same (suc i) zero p s pl sl li lj = rw (gap-none (M .n) p s pl (omega arith)) (simp approach-here)
   approach-same (suc i) (suc j) p s pl sl li lj = elim (equal-or-not p s) [
-    | inl e ↦ rw e (same-at (suc i) (suc j) s)
+    | inl e ↦ rw e (simp approach-here)
     | inr ne ↦ (let st = gap-step (M .n) p s pl sl ne in
         let on =
         approach-same i j (following (M .n) p) s (following-below (M .n) p pl) sl (omega arith) (omega arith) in
-        approach-step i p s pl ne ∙ ap (λ (xs : List ℕ). T M w p ++ xs) on ∙ sym (approach-step j p s pl ne))
+        rw (approach-step i p s pl ne, on, approach-step j p s pl ne))
   ]
 
   -- the same, for the n times of the definition
@@ -113,19 +110,13 @@ module _ (M : Mealy) (w : List ℕ) (h : Blocks M w) where
       approach-same (M .n) (suc (M .n)) p s pl sl (omega arith) (omega arith) ∙ approach-step (M .n) p s pl ne
 
   -- it reaches s
-  reached-at : (i s : ℕ) → run M s (approach M w i s s) ≡ s
-  reached-at i s = ap (run M s) (approach-here M w i s) ∙ run-none M s
-
   reaches : (i p s : ℕ) → p < M .n → s < M .n → gap (M .n) p s ≤ i → run M p (approach M w i p s) ≡ s
-  reaches zero p s pl sl l = rw (gap-none (M .n) p s pl (omega arith)) (reached-at zero s)
+  reaches zero p s pl sl l = rw (gap-none (M .n) p s pl (omega arith), approach-here, run-none)
   reaches (suc i) p s pl sl l = elim (equal-or-not p s) [
-    | inl e ↦ rw e (reached-at (suc i) s)
+    | inl e ↦ rw (e, approach-here, run-none)
     | inr ne ↦ (let st = gap-step (M .n) p s pl sl ne in
-        let rest = approach M w i (following (M .n) p) s in
-        ap (run M p) (approach-step i p s pl ne)
-        ∙ run-append M p (T M w p) rest
-        ∙ ap (λ (x : ℕ). run M x rest) (h .leads p pl)
-        ∙ reaches i (following (M .n) p) s (following-below (M .n) p pl) sl (omega arith))
+        rw (approach-step i p s pl ne, run-append, h .leads p pl)
+        (reaches i (following (M .n) p) s (following-below (M .n) p pl) sl (omega arith)))
   ]
 
   pub approach-reaches : (p s : ℕ) → p < M .n → s < M .n → run M p (approach M w (M .n) p s) ≡ s
@@ -136,20 +127,15 @@ module _ (M : Mealy) (w : List ℕ) (h : Blocks M w) where
   unfolding firstBlocks nthState
   first-blocks-lead zero = run-none M (M .start)
   first-blocks-lead (suc i) =
-      run-append M (M .start) (firstBlocks M w i) (T M w (nthState M i))
-      ∙ ap (λ (x : ℕ). run M x (T M w (nthState M i))) (first-blocks-lead i)
-      ∙ h .leads (nthState M i) (nthState-below M (h .proper) i)
+      rw (run-append, first-blocks-lead i) (h .leads (nthState M i) (nthState-below M (h .proper) i))
 
   pub opening-is : opening M w ≡ firstBlocks M w (suc (M .n))
   unfolding opening firstBlocks
-  opening-is = ap (λ (x : ℕ). firstBlocks M w (M .n) ++ T M w x) (sym (nthState-home M (h .proper)))
+  opening-is = rw (nthState-home M (h .proper))
 
   pub opening-leads : run M (M .start) (opening M w) ≡ following (M .n) (M .start)
   unfolding nthState
-  opening-leads =
-      ap (run M (M .start)) opening-is
-      ∙ first-blocks-lead (suc (M .n))
-      ∙ ap (following (M .n)) (nthState-home M (h .proper))
+  opening-leads = rw (opening-is, first-blocks-lead, nthState-home M (h .proper))
 
   -- ---- the tests
   -- a test leads to the state after the one that the entry leads to
@@ -157,34 +143,24 @@ module _ (M : Mealy) (w : List ℕ) (h : Blocks M w) where
       → run M p (test M w p s c) ≡ following (M .n) (M .next s c)
   unfolding test
   test-leads p s c pl sl cl =
-      run-append M p (approach M w (M .n) p s) (c ∷ T M w (M .next s c))
-      ∙ ap (λ (x : ℕ). run M x (c ∷ T M w (M .next s c))) (approach-reaches p s pl sl)
-      ∙ run-cons M s c (T M w (M .next s c))
-      ∙ h .leads (M .next s c) (h .proper .stays s c sl cl)
+      rw (run-append, approach-reaches p s pl sl, run-cons) (h .leads (M .next s c) (h .proper .stays s c sl cl))
 
   pub test-stays : (p s c : ℕ) → p < M .n → s < M .n → c < M .k → run M p (test M w p s c) < M .n
   test-stays p s c pl sl cl =
       rw (test-leads p s c pl sl cl) (following-below (M .n) (M .next s c) (h .proper .stays s c sl cl))
 
   -- the tests of the first s + 1 states lead to the state after the one that the last entry leads to
-  last-test : (p s c : ℕ) → p < M .n → s < M .n → c < M .k → (q : ℕ) → run M p (stateTests M w p s c) ≡ q → q < M .n
-      → run M p (stateTests M w p s (suc c)) ≡ following (M .n) (M .next s c)
-  last-test p s c pl sl cl q e ql =
-      let xs = stateTests M w p s c in
-      ap (run M p) (state-tests-more M w p s c)
-      ∙ run-append M p xs (test M w (run M p xs) s c)
-      ∙ ap (λ (x : ℕ). run M x (test M w x s c)) e
-      ∙ test-leads q s c ql sl cl
-
   pub state-tests-stay : (p s c : ℕ) → p < M .n → s < M .n → c ≤ M .k → run M p (stateTests M w p s c) < M .n
   state-tests-stay p s zero pl sl cl = rw (state-tests-none M w p s, run-none) pl
   state-tests-stay p s (suc c) pl sl cl =
-      rw (last-test p s c pl sl cl _ refl (state-tests-stay p s c pl sl (omega arith)))
-      (following-below (M .n) (M .next s c) (h .proper .stays s c sl cl))
+      rw (state-tests-more M w p s c, run-append)
+      (test-stays (run M p (stateTests M w p s c)) s c (state-tests-stay p s c pl sl (omega arith)) sl cl)
 
   state-tests-lead : (p s c : ℕ) → p < M .n → s < M .n → c < M .k
       → run M p (stateTests M w p s (suc c)) ≡ following (M .n) (M .next s c)
-  state-tests-lead p s c pl sl cl = last-test p s c pl sl cl _ refl (state-tests-stay p s c pl sl (omega arith))
+  state-tests-lead p s c pl sl cl =
+      rw (state-tests-more M w p s c, run-append)
+      (test-leads (run M p (stateTests M w p s c)) s c (state-tests-stay p s c pl sl (omega arith)) sl cl)
 
   pub tests-stay : (p s : ℕ) → p < M .n → s ≤ M .n → run M p (tests M w p s) < M .n
   tests-stay p zero pl sl = rw (tests-none M w p, run-none) pl
@@ -196,18 +172,15 @@ module _ (M : Mealy) (w : List ℕ) (h : Blocks M w) where
   ends-by : (p s c : ℕ) → p < M .n → M .n ≡ suc s → M .k ≡ suc c
       → run M p (tests M w p (M .n)) ≡ following (M .n) (M .next s c)
   ends-by p s c pl ne ke =
-      let q = run M p (tests M w p s) in
-      ap (λ (x : ℕ). run M p (tests M w p x)) ne
-      ∙ ap (run M p) (tests-more M w p s)
-      ∙ run-append M p (tests M w p s) (stateTests M w q s (M .k))
-      ∙ ap (λ (x : ℕ). run M q (stateTests M w q s x)) ke
-      ∙ state-tests-lead q s c (tests-stay p s pl (omega arith)) (omega arith) (omega arith)
+      let whole : run M p (tests M w p (suc s)) ≡ following (M .n) (M .next s c) =
+      rw (tests-more M w p s, run-append)
+      (rw (← ke) at (state-tests-lead _ s c (tests-stay p s pl (omega arith)) (omega arith) (omega arith))) in
+      rw (← ne) at whole
 
   pub sequence-leads : run M (M .start) (sequence M w) ≡ following (M .n) (M .next (M .n - 1) (M .k - 1))
   sequence-leads =
       let p = run M (M .start) (opening M w) in
       let pl : p < M .n = rw opening-leads (following-below (M .n) (M .start) (h .proper .starts)) in
-      ap (run M (M .start)) (sequence-is M w)
-      ∙ run-append M (M .start) (opening M w) (tests M w p (M .n))
-      ∙ ends-by p (M .n - 1) (M .k - 1) pl (omega (arith, h .proper .some-states))
-      (omega (arith, h .proper .some-commands))
+      rw (sequence-is M w, run-append)
+      (ends-by p (M .n - 1) (M .k - 1) pl (omega (arith, h .proper .some-states))
+      (omega (arith, h .proper .some-commands)))

@@ -12,13 +12,14 @@ use Rattle.facts.specs.Lists.{Below, low-append}
 use Rattle.facts.specs.Numbers.{equal-or-not}
 use Rattle.machine.specs.Limits.{mostStates, mostEntries, mostWord, mostSequence}
 use Rattle.machine.specs.Machine.{Mealy, run, Proper}
-use Rattle.machine.specs.Machine.Laws.{run-none, run-append, proper-entries}
+use Rattle.machine.specs.Machine.Laws.{proper-entries}
 use Rattle.build.specs.Sequence.{following, T, nthState, firstBlocks, opening, approach, test, stateTests, tests}
 use Rattle.build.specs.Sequence.{sequence, blockBound, mostBlock, lengthBound}
 use Rattle.build.specs.Sequence.Cycle.{following-below, gap, gap-below, gap-step, nthState-below}
 use Rattle.build.specs.Sequence.Laws.{Blocks, test-is, approach-none, approach-here, approach-step, opening-is}
-use Rattle.build.specs.Sequence.Laws.{opening-leads, first-blocks-none, first-blocks-more, test-stays}
-use Rattle.build.specs.Sequence.Laws.{state-tests-none, state-tests-more, tests-none, tests-more, sequence-is}
+use Rattle.build.specs.Sequence.Laws.{opening-leads, first-blocks-none, first-blocks-more, state-tests-stay}
+use Rattle.build.specs.Sequence.Laws.{state-tests-none, state-tests-more, tests-none, tests-more, tests-stay}
+use Rattle.build.specs.Sequence.Laws.{sequence-is}
 
 -- ---- lists of commands below k and of at most m commands
 record Short (k m : ℕ) (xs : List ℕ) : Type 0 where
@@ -87,37 +88,22 @@ module _ (M : Mealy) (w : List ℕ) (h : Blocks M w) where
       (omega (arith, suc-mul (gap (M .n) p s) block, mul-le-mul-right {m = suc (gap (M .n) p s)} {n = M .n} block g))
       (short-append (approach M w (M .n) p s) (c ∷ T M w (M .next s c)) (approach-short (M .n) p s pl sl) rest))
 
-  -- a part from a state p, and where it leads
-  record Part (p m : ℕ) (xs : List ℕ) : Type 0 where
-    short : Short (M .k) m xs
-    stays : run M p xs < M .n
-
-  part-append : {p m n : ℕ} (xs ys : List ℕ) → Part p m xs → Part (run M p xs) n ys → Part p (m + n) (xs ++ ys)
-  part-append {p} xs ys a b = record {
-    short = short-append xs ys (a .short) (b .short);
-    stays = rw (run-append M p xs ys) (b .stays);
-  }
-
-  part-none : (p : ℕ) {xs : List ℕ} → p < M .n → xs ≡ [] → Part p 0 xs
-  part-none p pl e = record { short = short-none (M .k) e; stays = rw (e, run-none) pl }
-
-  state-tests-part : (p s c : ℕ) → p < M .n → s < M .n → c ≤ M .k → Part p (c * testLength) (stateTests M w p s c)
-  state-tests-part p s zero pl sl cl = rw zero-mul (part-none p pl (state-tests-none M w p s))
-  state-tests-part p s (suc c) pl sl cl =
-      let o = state-tests-part p s c pl sl (omega arith) in
-      let q = run M p (stateTests M w p s c) in
+  state-tests-short : (p s c : ℕ) → p < M .n → s < M .n → c ≤ M .k
+      → Short (M .k) (c * testLength) (stateTests M w p s c)
+  state-tests-short p s zero pl sl cl = rw zero-mul (short-none (M .k) (state-tests-none M w p s))
+  state-tests-short p s (suc c) pl sl cl =
+      let stays = state-tests-stay M w h p s c pl sl (omega arith) in
       rw (suc-mul, state-tests-more M w p s c)
-      (part-append (stateTests M w p s c) (test M w q s c) o
-      (record { short = test-short q s c (o .stays) sl cl; stays = test-stays M w h q s c (o .stays) sl cl }))
+      (short-append (stateTests M w p s c) _ (state-tests-short p s c pl sl (omega arith))
+      (test-short _ s c stays sl cl))
 
-  tests-part : (p s : ℕ) → p < M .n → s ≤ M .n → Part p (s * (M .k * testLength)) (tests M w p s)
-  tests-part p zero pl sl = rw zero-mul (part-none p pl (tests-none M w p))
-  tests-part p (suc s) pl sl =
-      let o = tests-part p s pl (omega arith) in
-      let q = run M p (tests M w p s) in
+  tests-short : (p s : ℕ) → p < M .n → s ≤ M .n → Short (M .k) (s * (M .k * testLength)) (tests M w p s)
+  tests-short p zero pl sl = rw zero-mul (short-none (M .k) (tests-none M w p))
+  tests-short p (suc s) pl sl =
+      let stays = tests-stay M w h p s pl (omega arith) in
       rw (suc-mul, tests-more M w p s)
-      (part-append (tests M w p s) (stateTests M w q s (M .k)) o
-      (state-tests-part q s (M .k) (o .stays) sl (omega arith)))
+      (short-append (tests M w p s) _ (tests-short p s pl (omega arith))
+      (state-tests-short _ s (M .k) stays sl (omega arith)))
 
   -- ---- the lengths of the parts
   pub approach-length : (i p s : ℕ) → p < M .n → s < M .n
@@ -135,7 +121,7 @@ module _ (M : Mealy) (w : List ℕ) (h : Blocks M w) where
   pub state-tests-length : (p s c : ℕ) → p < M .n → s < M .n → c ≤ M .k
       → length (stateTests M w p s c) ≤ c * (M .n * blockBound M w + 1)
   unfolding block testLength
-  state-tests-length p s c pl sl cl = state-tests-part p s c pl sl cl .short .few
+  state-tests-length p s c pl sl cl = state-tests-short p s c pl sl cl .few
 
   pub opening-length : length (opening M w) ≤ (M .n + 1) * blockBound M w
   unfolding block
@@ -148,7 +134,7 @@ module _ (M : Mealy) (w : List ℕ) (h : Blocks M w) where
       let p = run M (M .start) (opening M w) in
       let pl : p < M .n = rw (opening-leads M w h) (following-below (M .n) (M .start) (h .proper .starts)) in
       rw (sequence-is M w, mul-assoc)
-      (short-append (opening M w) (tests M w p (M .n)) opening-short (tests-part p (M .n) pl (omega arith) .short))
+      (short-append (opening M w) (tests M w p (M .n)) opening-short (tests-short p (M .n) pl (omega arith)))
 
   -- the length formula bounds the length
   pub sequence-length : length (sequence M w) ≤ lengthBound M w

@@ -1,7 +1,7 @@
 -- The laws of transfers: what `transfer` computes is the transfer of §6.1, and it is there wherever a
 -- string of any length leads.
 use Prim.Native.Nat.{ℕ, zero, suc, _≤_, _<_}
-use mathlib.Core.Path.{_≡_, refl, sym, ap, _∙_}
+use mathlib.Core.Path.{_≡_, refl, ap, _∙_}
 use mathlib.Core.Logic.{inl, inr}
 use mathlib.Core.List.{List, [], _∷_, _++_}
 use mathlib.Core.Option.{none, some}
@@ -25,12 +25,7 @@ pub leads-cut : (M : Mealy) (a b i j : ℕ) (u : List ℕ) → Leads M a b u →
 leads-cut M a b i j u h e = record {
   commands =
       low-append (M .k) (take i u) (drop j u) (low-take (M .k) i u (h .commands)) (low-drop (M .k) j u (h .commands));
-  ends =
-      run-append M a (take i u) (drop j u)
-      ∙ ap (λ (s : ℕ). run M s (drop j u)) e
-      ∙ sym (run-append M a (take j u) (drop j u))
-      ∙ ap (run M a) (take-append-drop j u)
-      ∙ h .ends;
+  ends = rw (run-append, e, ← run-append, take-append-drop) (h .ends);
 }
 
 -- it is shorter
@@ -149,17 +144,17 @@ pub transfer-rest : (M : Mealy) (a b c : ℕ) {u : List ℕ} → transfer M a b 
 transfer-rest M a b c {u} e =
     let h = transfer-path M a b e in
     let s = path-step M b (length u) a (h .found) in
-    let al = path-state M b (suc (length u)) a (h .found) in
     let head : c ≡ s .command = cc (s .string) in
     let tail : u ≡ s .rest = cc (s .string) in
     let low : c < M .k = omega (arith, s .low) in (
       low,
       path-transfer M (M .next a c) b (record {
         few = omega (arith, h .few);
-        found = ap (λ (x : ℕ). firstPath M b (length u) (M .next a x)) head ∙ s .found ∙ ap some (sym tail);
+        found = rw (← head, ← tail) at (s .found);
         passed = λ m l. elim (seen (firstPath M b m (M .next a c))) [
           | nothing q ↦ q
-          | value t q ↦ absurd (some-none (some-path M b m a c al low q .1) (h .passed (suc m) (omega arith)))
+          | value t q ↦ absurd
+              (some-none (some-path M b m a c (s .inside) low q .1) (h .passed (suc m) (omega arith)))
         ];
       }),
     )
@@ -167,6 +162,5 @@ transfer-rest M a b c {u} e =
 -- and so behind any front of it
 pub transfer-drop : (M : Mealy) (a b : ℕ) (p q : List ℕ) → transfer M a b ≡ some (p ++ q)
     → transfer M (run M a p) b ≡ some q
-transfer-drop M a b [] q e = ap (λ (x : ℕ). transfer M x b) (run-none M a) ∙ e
-transfer-drop M a b (c ∷ p) q e =
-    ap (λ (x : ℕ). transfer M x b) (run-cons M a c p) ∙ transfer-drop M (M .next a c) b p q (transfer-rest M a b c e .1)
+transfer-drop M a b [] q e = rw run-none e
+transfer-drop M a b (c ∷ p) q e = rw run-cons (transfer-drop M (M .next a c) b p q (transfer-rest M a b c e .1))

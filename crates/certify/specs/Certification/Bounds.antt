@@ -6,18 +6,19 @@ use mathlib.Core.Bool.{Bool, false}
 use mathlib.Core.List.{List}
 use native.Mathlib.Omega.{arith}
 use Rattle.sheet.specs.declared.check.Check.the-variants.{Clear}
-use Rattle.sheet.specs.Check.{_else_, firstCause}
+use Rattle.sheet.specs.Check.{firstCause}
 use Rattle.sheet.specs.Check.Bounds.{WhereRefused, place-of, place-else}
 use Rattle.sheet.specs.Values.{Fits}
-use Rattle.sheet.specs.Reader.{wordIn, sequenceIn, sequenceRecord}
+use Rattle.sheet.specs.Reader.{wordIn, sequenceIn}
 use Rattle.sheet.specs.Reader.Bounds.{Small}
+use Rattle.sheet.specs.Promise.{cause9}
+use Rattle.sheet.specs.Promise.Laws.{room-refused}
 use Rattle.machine.specs.Limits.{mostSequence}
 use Rattle.machine.specs.Machine.{Mealy}
 use Rattle.machine.specs.Machine.Laws.{proper-entries}
 use Rattle.machine.specs.Causes.{machineIn, loadCauses}
-use Rattle.machine.specs.Causes.Laws.{clear-commands}
-use Rattle.machine.specs.Causes.Lists.{load-proper}
-use Rattle.machine.specs.Causes.Bounds.{commands-small, load-small, load-short}
+use Rattle.machine.specs.Causes.Lists.{load-proper, sequence-commands}
+use Rattle.machine.specs.Causes.Bounds.{load-small}
 use Rattle.certify.specs.declared.answer.Answer.{Answer}
 use Rattle.certify.specs.declared.answer.Answer.the-variants.{Certified, Open, Refused as RefusedAnswer}
 use Rattle.certify.specs.Recognition.{RecognisedNumber}
@@ -25,30 +26,26 @@ use Rattle.certify.specs.Recognition.Laws.{open-small}
 use Rattle.certify.specs.Marks.{marks}
 use Rattle.certify.specs.Marks.Laws.{count-most}
 use Rattle.certify.specs.Marks.Agreement.{marks-length}
-use Rattle.certify.specs.Certification.{sequenceNeeds, cause7, cause9, markBytes, sequenceCauses, certifyCauses}
-use Rattle.certify.specs.Certification.{certification, valuesOf}
-use Rattle.certify.specs.Certification.Laws.{room-refused, sequence-causes-are, load-clear, sequence-commands}
+use Rattle.certify.specs.Certification.{sequenceNeeds, markBytes, markingCauses, certifyCauses, certification}
+use Rattle.certify.specs.Certification.{valuesOf}
+use Rattle.certify.specs.Certification.Laws.{marking-causes-are, load-clear, marked-commands}
 use Rattle.certify.specs.Certification.Contract.{number-is, certification-says}
-use Rattle.sheet.specs.Format.{standard}
 
 -- ---- refusals
--- of the causes of loading, 7 and 9, for a service that certifies, whether it needs the answers or not
-pub sequence-small : (answers : Bool) (room : ℕ) (s : List ℕ)
-    → WhereRefused Small (firstCause (sequenceCauses answers room s))
-sequence-small answers room s =
+-- of the causes of loading and 9, for a service that marks places, whether it needs the answers or not
+pub marking-small : (answers : Bool) (room : ℕ) (s : List ℕ)
+    → WhereRefused Small (firstCause (markingCauses answers room s))
+marking-small answers room s =
     let xs = sequenceIn s in
     let needs = sequenceNeeds answers in
-    place-of Small (sequence-causes-are answers room s)
-    (place-else Small (firstCause (loadCauses needs s))
-    (cause7 (machineIn s .k) (sequenceRecord s) xs else cause9 room (markBytes xs)) (load-small needs s)
-    (λ q. place-else Small (cause7 (machineIn s .k) (sequenceRecord s) xs) (cause9 room (markBytes xs))
-    (commands-small s (load-short needs s q) 7 mostSequence (machineIn s .k) (standard .sequence) (omega arith))
+    place-of Small (marking-causes-are answers room s)
+    (place-else Small (firstCause (loadCauses needs s)) (cause9 room (markBytes xs)) (load-small needs s)
     (λ t n p e.
     let h = room-refused room (markBytes xs) e in
     record {
       number = omega (arith, h .0);
-      place = omega (arith, h .1 .0, clear-commands 7 mostSequence (machineIn s .k) (sequenceRecord s) xs t .few);
-    })))
+      place = omega (arith, h .1 .0, sequence-commands needs s refl t .few);
+    }))
 
 -- ---- results, where nothing is refused
 -- the recognised places are at most N+1
@@ -62,7 +59,7 @@ certification-fits room s = go (certification room s) refl
     few : {n : ℕ} → firstCause (certifyCauses room s) ≡ Clear
         → RecognisedNumber (machineIn s) (wordIn s) (sequenceIn s) n → n ≤ mostSequence + 1
     few e h =
-        omega (arith, number-small (machineIn s) (wordIn s) (sequenceIn s) h, sequence-commands false room s e .few)
+        omega (arith, number-small (machineIn s) (wordIn s) (sequenceIn s) h, marked-commands false room s e .few)
 
     go : (x : Answer) → certification room s ≡ x → Fits (valuesOf (certification room s))
     go (Certified n) e =
@@ -82,7 +79,7 @@ certification-fits room s = go (certification room s) refl
         })
     go (RefusedAnswer n p) e =
         rw e (record {
-          place = omega (arith, sequence-small false room s n p (certification-says room s .refused n p .0 e) .place);
+          place = omega (arith, marking-small false room s n p (certification-says room s .refused n p .0 e) .place);
           a = omega arith;
           b = omega arith;
         })

@@ -1,6 +1,6 @@
 -- The contract of certifying holds of the definitions: what the answer says, and what stands in the buffer.
 use Prim.Native.Nat.{ℕ}
-use mathlib.Core.Path.{_≡_, refl, sym, ap, _∙_}
+use mathlib.Core.Path.{_≡_, refl, ap, _∙_}
 use mathlib.Core.Logic.{inl, inr}
 use mathlib.Core.List.{List}
 use native.Mathlib.Omega.{arith}
@@ -56,22 +56,16 @@ module _ (M : Mealy) (w xs : List ℕ) where
   number-is h = h .number ∙ ap count (marks-unique M w xs (h .marks) (of-exact (h .marks) (h .are)))
 
 -- ---- what an answer says
-certified-by : (c d : Check) (m n : ℕ) → refusedOr RefusedAnswer c (answerOf d m) ≡ CertifiedAnswer n
-    → (c ≡ Clear) × ((d ≡ Clear) × (n ≡ m))
-certified-by Clear Clear m n e = (refl, (refl, cc))
-certified-by Clear (Refused a b) m n e = let z : _≡_ {A = ℕ} 0 1 = cc in absurd (omega arith)
-certified-by (Refused a b) d m n e = let z : _≡_ {A = ℕ} 0 1 = cc in absurd (omega arith)
+-- by the first cause, the open number as a cause, and the number of marks
+data Answered (c d : Check) (m : ℕ) : Answer → Type 0 where
+  certified : {n : ℕ} → c ≡ Clear → d ≡ Clear → n ≡ m → Answered c d m (CertifiedAnswer n)
+  still-open : {n v : ℕ} → c ≡ Clear → (a : ℕ) → d ≡ Refused a v → n ≡ m → Answered c d m (Open n v)
+  refused : {n p : ℕ} → c ≡ Refused n p → Answered c d m (RefusedAnswer n p)
 
-open-by : (c d : Check) (m n v : ℕ) → refusedOr RefusedAnswer c (answerOf d m) ≡ Open n v
-    → (c ≡ Clear) × (((a : ℕ) × (d ≡ Refused a v)) × (n ≡ m))
-open-by Clear Clear m n v e = let z : _≡_ {A = ℕ} 0 1 = cc in absurd (omega arith)
-open-by Clear (Refused a b) m n v e = (refl, ((a, cc), cc))
-open-by (Refused a b) d m n v e = let z : _≡_ {A = ℕ} 0 1 = cc in absurd (omega arith)
-
-refused-by : (c d : Check) (m n p : ℕ) → refusedOr RefusedAnswer c (answerOf d m) ≡ RefusedAnswer n p → c ≡ Refused n p
-refused-by Clear Clear m n p e = let z : _≡_ {A = ℕ} 0 1 = cc in absurd (omega arith)
-refused-by Clear (Refused a b) m n p e = let z : _≡_ {A = ℕ} 0 1 = cc in absurd (omega arith)
-refused-by (Refused a b) d m n p e = cc
+answered : (c d : Check) (m : ℕ) → Answered c d m (refusedOr RefusedAnswer c (answerOf d m))
+answered Clear Clear m = certified refl refl refl
+answered Clear (Refused a b) m = still-open refl a refl refl
+answered (Refused a b) d m = refused refl
 
 module _ (room : ℕ) (s : List ℕ) where
   abbrev M : Mealy
@@ -83,40 +77,41 @@ module _ (room : ℕ) (s : List ℕ) where
   abbrev xs : List ℕ
   xs = sequenceIn s
 
-  answer-certified : (n : ℕ) → certification room s ≡ CertifiedAnswer n → CertifiedWith room s n
+  answer-by : Answered (firstCause (certifyCauses room s)) (openIn M w xs) (count (marks M w xs)) (certification room s)
   unfolding certification outcome
-  answer-certified n e =
-      let h = certified-by (firstCause (certifyCauses room s)) (openIn M w xs) _ n e in
-      record {
-        clear = h .0;
-        certified = clear-certified M w xs (h .1 .0);
-        number = marks-number M w xs (h .1 .1);
-      }
+  answer-by = answered (firstCause (certifyCauses room s)) (openIn M w xs) (count (marks M w xs))
+
+  answer-certified : (n : ℕ) → certification room s ≡ CertifiedAnswer n → CertifiedWith room s n
+  answer-certified n e = elim (rw e at answer-by) [
+    | certified c d q ↦ record {
+      clear = c;
+      certified = clear-certified M w xs d;
+      number = marks-number M w xs q;
+    }
+  ]
 
   certified-answer : (n : ℕ) → CertifiedWith room s n → certification room s ≡ CertifiedAnswer n
   certified-answer n h =
-      certification-clear room s (h .clear) ∙ outcome-clear M w xs (certified-clear M w xs (h .certified))
-      ∙ ap CertifiedAnswer (sym (number-is M w xs (h .number)))
+      rw (number-is M w xs (h .number), certification-clear room s (h .clear))
+      (outcome-clear M w xs (certified-clear M w xs (h .certified)))
 
   answer-open : (n v : ℕ) → certification room s ≡ Open n v → OpenWith room s n v
-  unfolding certification outcome
-  answer-open n v e =
-      let h = open-by (firstCause (certifyCauses room s)) (openIn M w xs) _ n v e in
-      record {
-        clear = h .0;
-        open-number = refused-open M w xs (h .1 .0 .1) .1;
-        number = marks-number M w xs (h .1 .1);
-      }
+  answer-open n v e = elim (rw e at answer-by) [
+    | still-open c a d q ↦ record {
+      clear = c;
+      open-number = refused-open M w xs d .1;
+      number = marks-number M w xs q;
+    }
+  ]
 
   open-answer : (n v : ℕ) → OpenWith room s n v → certification room s ≡ Open n v
   open-answer n v h =
-      certification-clear room s (h .clear) ∙ outcome-open M w xs (open-refused M w xs (h .open-number))
-      ∙ ap (λ (m : ℕ). Open m v) (sym (number-is M w xs (h .number)))
+      rw (number-is M w xs (h .number), certification-clear room s (h .clear))
+      (outcome-open M w xs (open-refused M w xs (h .open-number)))
 
   answer-refused : (n p : ℕ) → certification room s ≡ RefusedAnswer n p
       → firstCause (certifyCauses room s) ≡ Refused n p
-  unfolding certification outcome
-  answer-refused n p e = refused-by (firstCause (certifyCauses room s)) (openIn M w xs) _ n p e
+  answer-refused n p e = elim (rw e at answer-by) [ refused c ↦ c ]
 
   pub certification-says : Says room s (certification room s)
   certification-says = record {
@@ -129,19 +124,13 @@ module _ (room : ℕ) (s : List ℕ) where
 module _ (M : Mealy) (w xs buffer : List ℕ) where
   kept-marked : MarksOf M w xs (keptIn xs (kept (marks M w xs) buffer))
   unfolding kept keptIn
-  kept-marked =
-      rw (← marks-length M w xs, take-append-seam (marks M w xs) (drop (length (marks M w xs)) buffer))
-      (marks-of M w xs)
+  kept-marked = rw (← marks-length M w xs, take-append-seam) (marks-of M w xs)
 
   kept-later : drop (markBytes xs) (kept (marks M w xs) buffer) ≡ drop (markBytes xs) buffer
   unfolding kept
-  kept-later = rw (← marks-length M w xs) (drop-append-seam (marks M w xs) (drop (length (marks M w xs)) buffer))
+  kept-later = rw (← marks-length M w xs, drop-append-seam)
 
 module _ (s before : List ℕ) where
-  buffer-marked : firstCause (certifyCauses (length before) s) ≡ Clear
-      → MarksOf (machineIn s) (wordIn s) (sequenceIn s) (keptIn (sequenceIn s) (marksAfter s before))
-  buffer-marked e = rw (after-clear s before e) (kept-marked (machineIn s) (wordIn s) (sequenceIn s) before)
-
   later-by : (c : Check) → firstCause (certifyCauses (length before) s) ≡ c
       → drop (markBytes (sequenceIn s)) (marksAfter s before) ≡ drop (markBytes (sequenceIn s)) before
   later-by Clear e = rw (after-clear s before e) (kept-later (machineIn s) (wordIn s) (sequenceIn s) before)
@@ -152,7 +141,7 @@ module _ (s before : List ℕ) where
     answer = returns-specified valuesOf refl;
     says = certification-says (length before) s;
     marks = refl;
-    marked = buffer-marked;
+    marked = λ e. rw (after-clear s before e) (kept-marked (machineIn s) (wordIn s) (sequenceIn s) before);
     later = later-by (firstCause (certifyCauses (length before) s)) refl;
     unwritten = λ n p e. after-refused s before (answer-refused (length before) s n p e);
   }

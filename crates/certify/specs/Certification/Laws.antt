@@ -5,30 +5,32 @@ use mathlib.Core.Path.{_≡_, refl, sym, ap, ap₂, _∙_}
 use mathlib.Core.Bool.{Bool, true, false, true≢false, not}
 use mathlib.Core.Logic.{inl, inr}
 use mathlib.Core.List.{List, [], _∷_}
-use borrow.Author.Tests.{eq-eqb, ne-eqb, eqb-true, eqb-false, le-ltb, ltb-true, ltb-false, not-true, not-false}
-use lib.Dec.{ltb}
+use borrow.Author.Tests.{eq-eqb, ne-eqb, eqb-true, eqb-false, not-true, not-false}
 use lib.ListN.{length, getD}
 use Rattle.facts.specs.Tests.{true-or-false, both-true}
 use Rattle.sheet.specs.declared.check.Check.{Check}
 use Rattle.sheet.specs.declared.check.Check.the-variants.{Clear, Refused}
-use Rattle.sheet.specs.Check.{refusal_with_if_, _else_, firstCause, first}
-use Rattle.sheet.specs.Check.Laws.{cause-two, cause-append, absent, present, clear-absent, both-clear, else-clear}
+use Rattle.sheet.specs.Check.{_else_, firstCause, first}
+use Rattle.sheet.specs.Check.Laws.{cause-one, cause-append, absent, present, clear-absent, both-clear, else-clear}
 use Rattle.sheet.specs.Check.Laws.{else-refused, first-clear, first-clear-at, first-found, Present, first-present}
 use Rattle.sheet.specs.Check.Laws.{present-test}
-use Rattle.sheet.specs.Reader.{wordIn, sequenceIn, sequenceRecord}
+use Rattle.sheet.specs.Reader.{wordIn, sequenceIn}
 use Rattle.sheet.specs.Writing.{written}
+use Rattle.sheet.specs.Promise.{cause9}
+use Rattle.sheet.specs.Promise.Laws.{clear-room}
 use Rattle.machine.specs.Limits.{mostSequence}
-use Rattle.machine.specs.Machine.{Mealy, stateAt, Commands}
+use Rattle.machine.specs.declared.loading.Loaded.{Loaded}
+use Rattle.machine.specs.Machine.{Mealy, stateAt, meaning, Proper, Commands}
 use Rattle.machine.specs.Causes.{machineIn, loadCauses}
-use Rattle.machine.specs.Causes.Laws.{clear-commands}
-use Rattle.machine.specs.Causes.Lists.{load-without-answers}
+use Rattle.machine.specs.Causes.Lists.{load-proper, sequence-commands, load-without-answers}
+use Rattle.machine.specs.Loading.{LoadedBy}
 use Rattle.certify.specs.declared.answer.Answer.the-variants.{Certified as CertifiedAnswer, Open}
 use Rattle.certify.specs.declared.answer.Answer.the-variants.{Refused as RefusedAnswer}
 use Rattle.certify.specs.Recognition.{Recognised, Verified, Certified, OpenNumber, start-open, entry-open}
 use Rattle.certify.specs.Marks.{marked, count, marks}
 use Rattle.certify.specs.Marks.Laws.{any-found, any-holds, marked-true, true-marked}
 use Rattle.certify.specs.Marks.Agreement.{marked-recognised, recognised-marked}
-use Rattle.certify.specs.Certification.{sequenceNeeds, cause7, cause9, markBytes, sequenceCauses, certifyCauses}
+use Rattle.certify.specs.Certification.{sequenceNeeds, markBytes, markingCauses, certifyCauses}
 use Rattle.certify.specs.Certification.{verified, entryCause, openCause, openIn, answerOf, outcome, certification}
 use Rattle.certify.specs.Certification.{kept, marksAfter}
 
@@ -223,59 +225,43 @@ unfolding marksAfter
 after-clear s buffer e = rw e
 
 -- ---- the causes of a service that certifies, and what a sheet shows where they are clear
-pub cause9-is : (room bytes : ℕ) → (refusal 9 with bytes if ltb room bytes) ≡ cause9 room bytes
-unfolding cause9
-cause9-is room bytes = refl
-
--- it is clear exactly where the bytes fit, and otherwise has the bytes needed
-pub room-clear : (room bytes : ℕ) → bytes ≤ room → cause9 room bytes ≡ Clear
-unfolding cause9
-room-clear room bytes l = absent 9 bytes (le-ltb room bytes l)
-
-pub clear-room : (room bytes : ℕ) → cause9 room bytes ≡ Clear → bytes ≤ room
-unfolding cause9
-clear-room room bytes e = ltb-false room bytes (clear-absent 9 bytes (ltb room bytes) e)
-
-pub room-refused : (room bytes : ℕ) {a b : ℕ} → cause9 room bytes ≡ Refused a b
-    → (a ≡ 9) × ((b ≡ bytes) × (room < bytes))
-unfolding cause9
-room-refused room bytes e =
-    let t = present-test 9 bytes (ltb room bytes) e in
-    (t .1 .0, (t .1 .1, ltb-true room bytes (t .0)))
-
-pub sequence-causes-are : (answers : Bool) (room : ℕ) (s : List ℕ) → firstCause (sequenceCauses answers room s)
-    ≡ (firstCause (loadCauses (sequenceNeeds answers) s)
-    else (cause7 (machineIn s .k) (sequenceRecord s) (sequenceIn s) else cause9 room (markBytes (sequenceIn s))))
-unfolding sequenceCauses
-sequence-causes-are answers room s =
-    let seven = cause7 (machineIn s .k) (sequenceRecord s) (sequenceIn s) in
+pub marking-causes-are : (answers : Bool) (room : ℕ) (s : List ℕ) → firstCause (markingCauses answers room s)
+    ≡ (firstCause (loadCauses (sequenceNeeds answers) s) else cause9 room (markBytes (sequenceIn s)))
+unfolding markingCauses
+marking-causes-are answers room s =
     let nine = cause9 room (markBytes (sequenceIn s)) in
-    cause-append (loadCauses (sequenceNeeds answers) s) (seven ∷ nine ∷ [])
-    ∙ ap (λ (c : Check). firstCause (loadCauses (sequenceNeeds answers) s) else c) (cause-two seven nine)
+    cause-append (loadCauses (sequenceNeeds answers) s) (nine ∷ [])
+    ∙ ap (λ (c : Check). firstCause (loadCauses (sequenceNeeds answers) s) else c) (cause-one nine)
 
-module _ (answers : Bool) (room : ℕ) (s : List ℕ) (e : firstCause (sequenceCauses answers room s) ≡ Clear) where
-  both-parts : (firstCause (loadCauses (sequenceNeeds answers) s) ≡ Clear)
-      × ((cause7 (machineIn s .k) (sequenceRecord s) (sequenceIn s) else cause9 room (markBytes (sequenceIn s)))
-      ≡ Clear)
-  both-parts = both-clear _ _ (sym (sequence-causes-are answers room s) ∙ e)
-
+module _ (answers : Bool) (room : ℕ) (s : List ℕ) (e : firstCause (markingCauses answers room s) ≡ Clear) where
   pub load-clear : firstCause (loadCauses (sequenceNeeds answers) s) ≡ Clear
-  load-clear = both-parts .0
+  load-clear = both-clear _ _ (sym (marking-causes-are answers room s) ∙ e) .0
 
-  pub sequence-commands : Commands mostSequence (machineIn s .k) (sequenceIn s)
-  sequence-commands =
-      clear-commands 7 mostSequence (machineIn s .k) (sequenceRecord s) (sequenceIn s)
-      (both-clear _ _ (both-parts .1) .0)
+  pub marked-commands : Commands mostSequence (machineIn s .k) (sequenceIn s)
+  marked-commands = sequence-commands (sequenceNeeds answers) s refl load-clear
 
   pub room-enough : markBytes (sequenceIn s) ≤ room
-  room-enough = clear-room _ _ (both-clear _ _ (both-parts .1) .1)
+  room-enough = clear-room _ _ (both-clear _ _ (sym (marking-causes-are answers room s) ∙ e) .1)
+
+-- so does what was loaded
+module _ (answers : Bool) (room : ℕ) (s : List ℕ) {l : Loaded} (h : LoadedBy (markingCauses answers room s) s l)
+    (e : l .check ≡ Clear) where
+  pub marking-proper : Proper (meaning (l .machine))
+  marking-proper =
+      rw (h .machine e) (load-proper (sequenceNeeds answers) s (load-clear answers room s (sym (h .check) ∙ e)))
+
+  pub marking-commands : Commands mostSequence (meaning (l .machine) .k) (sequenceIn s)
+  marking-commands = rw (h .machine e) (marked-commands answers room s (sym (h .check) ∙ e))
+
+  pub marking-fits : markBytes (sequenceIn s) ≤ room
+  marking-fits = room-enough answers room s (sym (h .check) ∙ e)
 
 -- certifying refuses no sheet that a service which needs the answers takes
-pub certify-without-answers : (room : ℕ) (s : List ℕ) → firstCause (sequenceCauses true room s) ≡ Clear
+pub certify-without-answers : (room : ℕ) (s : List ℕ) → firstCause (markingCauses true room s) ≡ Clear
     → firstCause (certifyCauses room s) ≡ Clear
 certify-without-answers room s e =
-    let h = both-clear _ _ (sym (sequence-causes-are true room s) ∙ e) in
-    sequence-causes-are false room s ∙ ap₂ _else_ (load-without-answers true true s (h .0)) (h .1) ∙ else-clear Clear
+    let h = both-clear _ _ (sym (marking-causes-are true room s) ∙ e) in
+    marking-causes-are false room s ∙ ap₂ _else_ (load-without-answers true true s (h .0)) (h .1) ∙ else-clear Clear
 
 -- how marks are kept
 pub kept-is : (ms buffer : List ℕ) → written ms buffer ≡ kept ms buffer

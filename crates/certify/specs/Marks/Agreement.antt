@@ -118,24 +118,14 @@ Stable : List ℕ → (ℕ → ℕ) → List ℕ → Type 0
 Stable xs state ms = (p : ℕ) → getD (grown xs state ms) p 0 ≡ 1 → getD ms p 0 ≡ 1
 
 module _ (xs : List ℕ) (state : ℕ → ℕ) where
-  settled-ends : (f : ℕ) (ms : List ℕ) → eqb (count (grown xs state ms)) (count ms) ≡ true
-      → settled (suc f) xs state ms ≡ ms
-  unfolding settled
-  settled-ends f ms e = rw (settled, e)
-
-  settled-on : (f : ℕ) (ms : List ℕ) → eqb (count (grown xs state ms)) (count ms) ≡ false
-      → settled (suc f) xs state ms ≡ settled f xs state (grown xs state ms)
-  unfolding settled
-  settled-on f ms e = rw (settled, e)
-
   -- what holds of a list and goes on to the grown one holds in the end
   settled-has : (P : List ℕ → Type 0) → ((ms : List ℕ) → P ms → P (grown xs state ms)) → (f : ℕ) (ms : List ℕ) → P ms
       → P (settled f xs state ms)
   unfolding settled
   settled-has P on zero ms h = h
   settled-has P on (suc f) ms h = elim (true-or-false (eqb (count (grown xs state ms)) (count ms))) [
-    | inl e ↦ rw (settled-ends f ms e) h
-    | inr e ↦ rw (settled-on f ms e) (settled-has P on f (grown xs state ms) (on ms h))
+    | inl e ↦ rw (settled, e) h
+    | inr e ↦ rw (settled, e) (settled-has P on f (grown xs state ms) (on ms h))
   ]
 
   module _ (ms : List ℕ) (long : length ms ≡ length xs + 1) where
@@ -153,11 +143,11 @@ module _ (xs : List ℕ) (state : ℕ → ℕ) where
   settled-stable zero ms long enough =
       full-stable ms long (omega (arith, count-most (grown xs state ms), grown-length xs state ms))
   settled-stable (suc f) ms long enough = elim (true-or-false (eqb (count (grown xs state ms)) (count ms))) [
-    | inl e ↦ rw (settled-ends f ms e)
+    | inl e ↦ rw (settled, e)
         (full-stable ms long (omega (arith, eqb-true (count (grown xs state ms)) (count ms) e)))
     | inr e ↦ (let more = grown-length xs state ms in
         let rise = count-below ms (grown xs state ms) (omega arith) (grown-above ms long) in
-        rw (settled-on f ms e)
+        rw (settled, e)
         (settled-stable f (grown xs state ms) more (omega (arith, eqb-false (count (grown xs state ms)) (count ms) e))))
   ]
 
@@ -169,13 +159,6 @@ pub record Exact (xs : List ℕ) (state : ℕ → ℕ) (Base : ℕ → Type 0) (
   pub sound : (p : ℕ) → getD ms p 0 ≡ 1 → Closure xs state Base p
   pub complete : (p : ℕ) → p ≤ length xs → Closure xs state Base p → getD ms p 0 ≡ 1
 
--- the m commands from p are as many as those from q, so that p + m is a place where q + m is
-equal-inside : (xs : List ℕ) (p q m : ℕ) → 1 ≤ m → q + m ≤ length xs → take m (drop p xs) ≡ take m (drop q xs)
-    → p + m ≤ length xs
-equal-inside xs p q m l i e =
-    let a = simp (length-take, length-drop) at (ap length e) in
-    omega (arith, a)
-
 module _ (xs : List ℕ) (state : ℕ → ℕ) (Base : ℕ → Type 0) where
   -- what has both rules contains the smallest set
   pub closed-complete : (ms : List ℕ) → length ms ≡ length xs + 1 → ((p : ℕ) → p ≤ length xs → Base p → getD ms p 0 ≡ 1)
@@ -183,7 +166,9 @@ module _ (xs : List ℕ) (state : ℕ → ℕ) (Base : ℕ → Type 0) where
       → (p : ℕ) → p ≤ length xs → Closure xs state Base p → getD ms p 0 ≡ 1
   closed-complete ms long one two p l (rule1 h) = one p l h
   closed-complete ms long one two r l (rule2 p q m ml hp hq e hm i same at) =
-      let inside = equal-inside xs p q m ml i same in
+      let many = simp (length-take, length-drop) at (ap length same) in
+      -- the m commands from p are as many as those from q, so that p + m is a place where q + m is
+      let inside : p + m ≤ length xs = omega arith in
       two r l (record {
         p = p;
         q = q;
@@ -213,20 +198,15 @@ module _ (xs : List ℕ) (state : ℕ → ℕ) (Base : ℕ → Type 0) where
       sound : (p : ℕ) → getD ms p 0 ≡ 1 → Closure xs state Base p
       holds : (p : ℕ) → p ≤ length xs → Base p → getD ms p 0 ≡ 1
 
-    by-rule2-sound : (ms : List ℕ) (r : ℕ) → r ≤ length xs → ((p : ℕ) → getD ms p 0 ≡ 1 → Closure xs state Base p)
-        → ByRule2 xs state ms r → Closure xs state Base r
-    by-rule2-sound ms r l h s =
-        rule2 (s .p) (s .q) (s .m) (s .some) (h _ (s .p-marked)) (h _ (s .q-marked)) (s .states) (h _ (s .end-marked))
-        (omega arith) (s .commands) (s .at)
-
     grows : (ms : List ℕ) → Growing ms → Growing (grown xs state ms)
     grows ms h = record {
       long = grown-length xs state ms;
       bits = grown-bits xs state ms;
       sound = λ p e. elim (grown-from xs state ms p e) [
         | inl q ↦ h .sound p q
-        | inr q ↦ by-rule2-sound ms p (omega (arith, marked-inside (grown xs state ms) p e, grown-length xs state ms))
-            (h .sound) q
+        | inr s ↦ rule2 (s .p) (s .q) (s .m) (s .some) (h .sound _ (s .p-marked)) (h .sound _ (s .q-marked))
+            (s .states) (h .sound _ (s .end-marked))
+            (omega (arith, marked-inside (grown xs state ms) p e, grown-length xs state ms)) (s .commands) (s .at)
       ];
       holds = λ p l b. grown-keeps xs state ms p l (h .holds p l b);
     }

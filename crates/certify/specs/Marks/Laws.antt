@@ -106,11 +106,7 @@ count-append (m ∷ a) b = omega (arith, count-append a b)
 pub count-next : (a : List ℕ) (i : ℕ) → i < length a
     → count (take (i + 1) a) ≡ count (take i a) + mark (eqb (getD a i 0) 1)
 unfolding count
-count-next a i l =
-    ap count (take-more a i l)
-    ∙ count-append (take i a) (getD a i 0 ∷ [])
-    ∙ (let z : count (getD a i 0 ∷ []) ≡ mark (eqb (getD a i 0) 1) = omega arith in
-    ap (λ (n : ℕ). count (take i a) + n) z)
+count-next a i l = rw (take-more a i l, count-append) (omega arith)
 
 pub count-none : (a : List ℕ) → count (take 0 a) ≡ 0
 unfolding count
@@ -118,10 +114,6 @@ count-none a = refl
 
 -- of two lists of one length, the second marked wherever the first is
 module _ where
-  shifted : (m : ℕ) (a : List ℕ) (n : ℕ) (b : List ℕ) → ((p : ℕ) → getD (m ∷ a) p 0 ≡ 1 → getD (n ∷ b) p 0 ≡ 1)
-      → (p : ℕ) → getD a p 0 ≡ 1 → getD b p 0 ≡ 1
-  shifted m a n b h p e = h (suc p) e
-
   mark-below : (m n : ℕ) → (m ≡ 1 → n ≡ 1) → mark (eqb m 1) ≤ mark (eqb n 1)
   mark-below m n h = elim (true-or-false (eqb m 1)) [
     | inl e ↦ rw (e, eq-eqb n 1 (h (eqb-true m 1 e))) (omega arith)
@@ -134,8 +126,7 @@ module _ where
   count-below [] b l h = omega arith
   count-below (m ∷ a) [] l h = let z : ⊥ = omega arith in absurd z
   count-below (m ∷ a) (n ∷ b) l h =
-      let k : length a ≡ length b = omega arith in
-      omega (arith, mark-below m n (h 0), count-below a b k (shifted m a n b h))
+      omega (arith, mark-below m n (h 0), count-below a b (omega arith) (λ p e. h (suc p) e))
 
   pub count-same : (a b : List ℕ) → length a ≡ length b → ((p : ℕ) → getD a p 0 ≡ 1 → getD b p 0 ≡ 1)
       → count b ≤ count a → (p : ℕ) → getD b p 0 ≡ 1 → getD a p 0 ≡ 1
@@ -145,11 +136,8 @@ module _ where
   count-same (m ∷ a) [] l h c p e = let z : ⊥ = omega arith in absurd z
   count-same (m ∷ a) (n ∷ b) l h c zero e = elim (true-or-false (eqb m 1)) [
     | inl q ↦ eqb-true m 1 q
-    | inr q ↦ (let k : length a ≡ length b = omega arith in
-        let below = count-below a b k (shifted m a n b h) in
-        let z : ⊥ = omega (arith, below, ap mark (eq-eqb n 1 e), ap mark q) in
-        absurd z)
+    | inr q ↦ (let below = count-below a b (omega arith) (λ p i. h (suc p) i) in
+        absurd (omega (arith, ap mark (eq-eqb n 1 e), ap mark q)))
   ]
   count-same (m ∷ a) (n ∷ b) l h c (suc p) e =
-      let k : length a ≡ length b = omega arith in
-      count-same a b k (shifted m a n b h) (omega (arith, mark-below m n (h 0))) p e
+      count-same a b (omega arith) (λ q i. h (suc q) i) (omega (arith, mark-below m n (h 0))) p e

@@ -1,7 +1,7 @@
 -- What the desk orders as the specification says it and as it is computed agree, for a machine and a word that starting
 -- does not refuse.
 use Prim.Native.Nat.{ℕ, suc, _+_, _-_, _≤_, _<_}
-use mathlib.Core.Path.{_≡_, refl, sym, ap, ap₂, subst, _∙_}
+use mathlib.Core.Path.{_≡_, refl, sym, ap, _∙_}
 use mathlib.Core.Logic.{inl, inr}
 use mathlib.Core.List.{List, _∷_, _++_, append-assoc}
 use mathlib.Core.Option.{some}
@@ -9,7 +9,7 @@ use native.Mathlib.Omega.{arith}
 use lib.ListN.{length, getD, take, drop, length-append, take-append-drop, List·getD-append}
 use lib.Seq.{ext-getD, getD-take, length-take-le, take-append-add, drop-append-add, drop-cons}
 use Rattle.facts.specs.Numbers.{less-or-not}
-use Rattle.facts.specs.CommonPrefix.{agreed, Agreed, agreed-holds, agreed-is}
+use Rattle.facts.specs.CommonPrefix.{Agreed, agreed-holds, agreed-is}
 use Rattle.facts.specs.FirstOf.{nothing, value, seen}
 use Rattle.sheet.specs.declared.check.Check.the-variants.{Clear}
 use Rattle.sheet.specs.Check.{firstCause}
@@ -22,7 +22,7 @@ use Rattle.build.specs.Transfer.Laws.{transfer-is, is-transfer, leads-some, tra
 use Rattle.build.specs.Building.{connectedCauses, StronglyConnected}
 use Rattle.build.specs.Building.Connection.{clear-proper, clear-distinguishes, clear-strongly}
 use Rattle.desk.specs.declared.desk.Order.{Order}
-use Rattle.desk.specs.declared.desk.Order.the-variants.{Command, Home, Stranger}
+use Rattle.desk.specs.declared.desk.Order.the-variants.{Command, Stranger}
 use Rattle.desk.specs.Desk.{Course, RightFrom, Ordered, word-next, transfer-next, home, strange}
 use Rattle.desk.specs.Desk.{no-state, differing, beganIn, course, orderAt, orderOf}
 use Rattle.desk.specs.Desk.Laws.{first-answers, first-none, first-one, at-home, course-is, Along}
@@ -32,8 +32,7 @@ use Rattle.desk.specs.Desk.Laws.{began-is, order-reading, order-none, or
 front-answers : (M : Mealy) (s : ℕ) (u v : List ℕ) (i : ℕ) → i < length u
     → getD (answers M s (u ++ v)) i 0 ≡ getD (answers M s u) i 0
 front-answers M s u v i l =
-    ap (λ (x : List ℕ). getD x i 0) (answers-append M s u v)
-    ∙ List·getD-append (answers M s u) (answers M (run M s u) v) 0 i (omega (arith, answers-length M s u))
+    rw (answers-append, List·getD-append (answers M s u) _ 0 i (omega (arith, answers-length M s u)))
 
 -- a machine and a word that starting does not refuse: the machine is within its limits and strongly connected, the word
 -- within its own, and it separates
@@ -83,15 +82,10 @@ module _ (M : Mealy) (w : List ℕ) (suited : Suited M w) where
       → Along M w s (w ++ take m t) (drop m t) (answers M s (w ++ take m t))
   along-at s l {t} e m = record {
     state = l;
-    splits =
-        course-is M w s e
-        ∙ ap (_++_ w) (sym (take-append-drop m t))
-        ∙ sym (append-assoc w (take m t) (drop m t));
+    splits = rw (course-is M w s e, append-assoc, take-append-drop);
     long = omega (arith, length-append w (take m t));
     answered = refl;
-    drives =
-        ap (λ (x : ℕ). transfer M x (M .start)) (run-append M s w (take m t))
-        ∙ transfer-drop M (run M s w) (M .start) (take m t) (drop m t) (e ∙ ap some (sym (take-append-drop m t)));
+    drives = rw run-append (transfer-drop M (run M s w) (M .start) (take m t) (drop m t) (rw take-append-drop e));
   }
 
   -- so of a course of which p commands are answered, the word's among them
@@ -101,20 +95,12 @@ module _ (M : Mealy) (w : List ℕ) (suited : Suited M w) where
       let e = is-transfer M proper (run M s w) (M .start) (h .drives) in
       let a = along-at s (h .state) e (p - length w) in
       let pe : p ≡ length w + (p - length w) = omega arith in
-      let front : take p xs ≡ w ++ take (p - length w) (h .homeward) =
-      ap₂ take pe (h .commands) ∙ take-append-add w (h .homeward) (p - length w) in
-      let rest : drop p xs ≡ drop (p - length w) (h .homeward) =
-      ap₂ drop pe (h .commands) ∙ drop-append-add w (h .homeward) (p - length w) in
-      rw (front, rest) a
+      rw (h .commands, pe, take-append-add, drop-append-add) a
 
   -- ---- the word's answers are right where the unit began in s
   word-right : (s : ℕ) (xs ys : List ℕ) → Course M w s xs → length w ≤ length ys → answers M s w ≡ take (length w) ys
       → (i : ℕ) → i < length w → getD (answers M s xs) i 0 ≡ getD ys i 0
-  word-right s xs ys h l e i il =
-      ap (λ (x : List ℕ). getD (answers M s x) i 0) (h .commands)
-      ∙ front-answers M s w (h .homeward) i il
-      ∙ ap (λ (x : List ℕ). getD x i 0) e
-      ∙ getD-take (length w) ys i 0 il
+  word-right s xs ys h l e i il = rw (h .commands, front-answers M s w (h .homeward) i il, e, getD-take)
 
   right-word : (s : ℕ) (xs ys : List ℕ) → Course M w s xs → (p : ℕ) → length w ≤ p → p ≤ length ys
       → RightFrom M s xs ys p
@@ -124,10 +110,7 @@ module _ (M : Mealy) (w : List ℕ) (suited : Suited M w) where
       (answers-length M s w ∙ sym (length-take-le (length w) ys (omega arith)))
       (λ i il.
       let low : i < length w = omega (arith, answers-length M s w) in
-      sym (front-answers M s w (h .homeward) i low)
-      ∙ ap (λ (x : List ℕ). getD (answers M s x) i 0) (sym (h .commands))
-      ∙ r i (omega arith)
-      ∙ sym (getD-take (length w) ys i 0 low))
+      rw (getD-take, ← r i (omega arith), h .commands, front-answers M s w (h .homeward) i low))
 
   -- ---- from what is computed to what is said
   ordered-by : (s : ℕ) (ys : List ℕ) → s < M .n → length w ≤ length ys → answers M s w ≡ take (length w) ys → (p : ℕ)
@@ -170,12 +153,18 @@ module _ (M : Mealy) (w : List ℕ) (suited : Suited M w) where
       began-is M w ys
       ∙ first-one M w (take (length w) ys) (word .separates) s (h .state) (right-word s xs ys h p l pl r)
 
-  order-right : (s : ℕ) (xs ys : List ℕ) → Course M w s xs → (p : ℕ) → length w ≤ p → p ≤ length ys
-      → Agreed (answers M s xs) ys p → orderOf M w ys ≡ orderAt xs ys p
-  order-right s xs ys h p l pl a =
-      order-some M w ys (omega arith) (began-right s xs ys h p l pl (a .before))
-      ∙ ap (λ (x : List ℕ). orderAt x ys (agreed (answers M s x) ys)) (course-one s xs h)
-      ∙ ap (orderAt xs ys) (sym (agreed-is (answers M s xs) ys p a))
+  order-right : (s : ℕ) (xs ys : List ℕ) → Course M w s xs → (p : ℕ) → length w ≤ p → p ≤ length ys → p ≤ length xs
+      → RightFrom M s xs ys p
+      → (p < length xs → p < length ys → getD (answers M s xs) p 0 ≡ getD ys p 0 → ⊥)
+      → orderOf M w ys ≡ orderAt xs ys p
+  order-right s xs ys h p l pl xl r d =
+      let many = answers-length M s xs in
+      rw (
+        order-some M w ys (omega arith) (began-right s xs ys h p l pl r),
+        course-one s xs h,
+        ← agreed-is (answers M s xs) ys p
+            (record { in-first = omega arith; in-second = pl; before = r; here = λ k q. d (omega arith) q }),
+      )
 
   course-long : (s : ℕ) (xs : List ℕ) → Course M w s xs → length w ≤ length xs
   course-long s xs h = omega (arith, ap length (h .commands), length-append w (h .homeward))
@@ -189,59 +178,24 @@ module _ (M : Mealy) (w : List ℕ) (suited : Suited M w) where
             absurd (h s (f .0) (f .1)))
       ]))
   ordered-order ys (transfer-next s xs h l k r e) =
-      let many = answers-length M s xs in
-      let a : Agreed (answers M s xs) ys (length ys) = record {
-        in-first = omega (arith, many);
-        in-second = omega arith;
-        before = r;
-        here = λ p q x. omega arith;
-      } in
-      ap Command e ∙ sym (order-right s xs ys h (length ys) l (omega arith) a ∙ at-command xs ys k (omega arith))
+      let is = order-right s xs ys h (length ys) l (omega arith) (omega arith) r (λ p q x. omega arith) in
+      rw (is, at-command xs ys k (omega arith), e)
   ordered-order ys (strange {p = p} (differing s xs h l yl xl r d)) =
-      let many = answers-length M s xs in
-      let a : Agreed (answers M s xs) ys p = record {
-        in-first = omega (arith, many);
-        in-second = omega arith;
-        before = r;
-        here = λ i k q. d q;
-      } in
-      sym (order-right s xs ys h p l (omega arith) a ∙ at-stranger xs ys xl yl)
+      rw (order-right s xs ys h p l (omega arith) (omega arith) r (λ i k. d), at-stranger xs ys xl yl)
   ordered-order ys (home s xs h l r e) =
-      let many = answers-length M s xs in
-      let a : Agreed (answers M s xs) ys (length xs) = record {
-        in-first = omega (arith, many);
-        in-second = l;
-        before = r;
-        here = λ p q x. omega (arith, many);
-      } in
-      ap Home e
-      ∙ sym (order-right s xs ys h (length xs) (course-long s xs h) l a ∙ at-home xs ys (omega arith))
+      let is = order-right s xs ys h (length xs) (course-long s xs h) l (omega arith) r (λ p q x. omega arith) in
+      rw (is, at-home xs ys {right = length xs} (omega arith), e)
 
   -- ---- where the desk drives: how far the unit has come
   pub order-along : (ys : List ℕ) {c : ℕ} → length w ≤ length ys → orderOf M w ys ≡ Command c
       → (s : ℕ) × (v : List ℕ) × (u : List ℕ) × Along M w s v (c ∷ u) ys
-  order-along ys {c} l e = go (order-ordered ys) e
-    where
-      go : {o : Order} → Ordered M w ys o → o ≡ Command c
-          → (s : ℕ) × (v : List ℕ) × (u : List ℕ) × Along M w s v (c ∷ u) ys
-      go (word-next k q) f = let z : ⊥ = omega arith in absurd z
-      go (strange why) f = let z : _≡_ {A = ℕ} 0 1 = cc in absurd (omega arith)
-      go (home s xs h k r q) f = let z : _≡_ {A = ℕ} 0 1 = cc in absurd (omega arith)
-      go (transfer-next {c = d} s xs h k yl r q) f =
-          let same-command : d ≡ c = cc in
-          let next : drop (length ys) xs ≡ c ∷ drop (suc (length ys)) xs =
-          drop-cons xs (length ys) 0 yl ∙ ap (λ (x : ℕ). x ∷ drop (suc (length ys)) xs) (sym q ∙ same-command) in
-          let given : answers M s (take (length ys) xs) ≡ ys =
-          sym (answers-take M s (length ys) xs)
-          ∙ ext-getD 0 (take (length ys) (answers M s xs)) ys
-          (length-take-le (length ys) (answers M s xs) (omega (arith, answers-length M s xs)))
-          (λ i il.
-          let low : i < length ys =
-          omega (arith, length-take-le (length ys) (answers M s xs) (omega (arith, answers-length M s xs))) in
-          getD-take (length ys) (answers M s xs) i 0 low ∙ r i low) in (
-            s,
-            take (length ys) xs,
-            drop (suc (length ys)) xs,
-            subst (Along M w s (take (length ys) xs) (c ∷ drop (suc (length ys)) xs)) given
-                (rw (← next) (course-along s xs h (length ys) k)),
-          )
+  order-along ys l e = elim (rw e at (order-ordered ys)) [
+    | word-next k q ↦ absurd (omega arith)
+    | transfer-next s xs h k yl r q ↦ (let many = answers-length M s (take (length ys) xs) in
+        let size = length-take-le (length ys) xs (omega arith) in
+        let given : answers M s (take (length ys) xs) ≡ ys =
+        ext-getD 0 _ ys (many ∙ size)
+        (λ i il. let low : i < length ys = omega arith in rw (← answers-take M s _ xs, getD-take) (r i low)) in
+        let next = rw (← q) at (drop-cons xs (length ys) 0 yl) in
+        (s, take (length ys) xs, drop (suc (length ys)) xs, rw (given, next) at (course-along s xs h (length ys) k)))
+  ]

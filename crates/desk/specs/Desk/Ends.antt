@@ -6,10 +6,9 @@ use mathlib.Core.Bool.{true, false, true≢false}
 use mathlib.Core.Logic.{inl, inr}
 use mathlib.Core.List.{List, _++_}
 use native.Mathlib.Omega.{arith}
-use lib.Dec.{ltb}
 use lib.ListN.{length, length-append}
 use borrow.Author.Tests.{lt-ltb, le-ltb}
-use Rattle.facts.specs.Tests.{true-or-false, if-true}
+use Rattle.facts.specs.Tests.{if-true}
 use Rattle.facts.specs.Numbers.{less-or-not}
 use Rattle.facts.specs.CommonPrefix.{agreed, agreed-longer, agreed-differ}
 use Rattle.facts.specs.FirstOf.{nothing, value, seen}
@@ -17,6 +16,7 @@ use Rattle.machine.specs.Machine.{Mealy, answers}
 use Rattle.machine.specs.Machine.Laws.{answers-length}
 use Rattle.desk.specs.declared.desk.Order.{Order}
 use Rattle.desk.specs.declared.desk.Order.the-variants.{Command, Home, Stranger}
+use Rattle.desk.specs.declared.desk.Phase.{Phase}
 use Rattle.desk.specs.declared.desk.Phase.the-variants.{Reading, Driving, Home as HomePhase}
 use Rattle.desk.specs.declared.desk.Phase.the-variants.{Stranger as StrangerPhase}
 use Rattle.desk.specs.Desk.{beganIn, course, orderAt, orderOf, isEnd, phaseFor, phaseOf}
@@ -93,55 +93,38 @@ module _ (M : Mealy) (w ys : List ℕ) where
   phase-stranger e = ap (phaseFor M w ys) e
 
   -- ---- and what a phase says
-  phase-read-by : (o : Order) {p : ℕ} → phaseFor M w ys o ≡ Reading p → (length ys < length w) × (p ≡ length ys)
+  -- the order of each phase
+  data Said (o : Order) : Phase → Type 0 where
+    reads : {p : ℕ} → length ys < length w → p ≡ length ys → Said o (Reading p)
+    drives : {t : ℕ} → length w ≤ length ys → (c : ℕ) → o ≡ Command c → Said o (Driving t)
+    ends : {n : ℕ} → o ≡ Home n → Said o (HomePhase n)
+    strange : {p : ℕ} → o ≡ Stranger p → Said o (StrangerPhase p)
+
+  said : (o : Order) → Said o (phaseFor M w ys o)
   unfolding phaseFor
-  phase-read-by (Command c) e = elim (less-or-not (length ys) (length w)) [
-    | inl l ↦ (l, cc (rw (lt-ltb _ _ l) at e))
-    | inr l ↦ (let z : _≡_ {A = ℕ} 0 1 = cc (rw (le-ltb _ _ l) at e) in absurd (omega arith))
+  said (Command c) = elim (less-or-not (length ys) (length w)) [
+    | inl l ↦ rw (lt-ltb _ _ l) (reads l refl)
+    | inr l ↦ rw (le-ltb _ _ l) (drives l c refl)
   ]
-  phase-read-by (Home n) e = let z : _≡_ {A = ℕ} 0 1 = cc in absurd (omega arith)
-  phase-read-by (Stranger q) e = let z : _≡_ {A = ℕ} 0 1 = cc in absurd (omega arith)
+  said (Home n) = ends refl
+  said (Stranger p) = strange refl
 
   -- reading: the word is not answered, and the position is the number of answers
   pub phase-read : {p : ℕ} → phaseOf M w ys ≡ Reading p → (length ys < length w) × (p ≡ length ys)
   unfolding phaseOf
-  phase-read e = phase-read-by (orderOf M w ys) e
-
-  phase-driven-by : (o : Order) {t : ℕ} → phaseFor M w ys o ≡ Driving t
-      → (length w ≤ length ys) × ((c : ℕ) × (o ≡ Command c))
-  unfolding phaseFor
-  phase-driven-by (Command c) e = elim (less-or-not (length ys) (length w)) [
-    | inl l ↦ (let z : _≡_ {A = ℕ} 0 1 = cc (rw (lt-ltb _ _ l) at e) in absurd (omega arith))
-    | inr l ↦ (l, (c, refl))
-  ]
-  phase-driven-by (Home n) e = let z : _≡_ {A = ℕ} 0 1 = cc in absurd (omega arith)
-  phase-driven-by (Stranger q) e = let z : _≡_ {A = ℕ} 0 1 = cc in absurd (omega arith)
+  phase-read e = elim (rw e at (said (orderOf M w ys))) [ reads l q ↦ (l, q) ]
 
   -- driving: the word is answered, and a command is ordered
   pub phase-driven : {t : ℕ} → phaseOf M w ys ≡ Driving t
       → (length w ≤ length ys) × ((c : ℕ) × (orderOf M w ys ≡ Command c))
   unfolding phaseOf
-  phase-driven e = phase-driven-by (orderOf M w ys) e
+  phase-driven e = elim (rw e at (said (orderOf M w ys))) [ drives l c q ↦ (l, (c, q)) ]
 
   -- an end: that is ordered
-  phase-end-by : (o : Order) {n : ℕ} → phaseFor M w ys o ≡ HomePhase n → o ≡ Home n
-  unfolding phaseFor
-  phase-end-by (Command c) e =
-      elim (true-or-false (ltb (length ys) (length w))) [ inl t ↦ cc (rw t at e) | inr t ↦ cc (rw t at e) ]
-  phase-end-by (Home m) e = cc
-  phase-end-by (Stranger q) e = cc
-
   pub phase-at-home : {n : ℕ} → phaseOf M w ys ≡ HomePhase n → orderOf M w ys ≡ Home n
   unfolding phaseOf
-  phase-at-home e = phase-end-by (orderOf M w ys) e
-
-  phase-strange-by : (o : Order) {p : ℕ} → phaseFor M w ys o ≡ StrangerPhase p → o ≡ Stranger p
-  unfolding phaseFor
-  phase-strange-by (Command c) e =
-      elim (true-or-false (ltb (length ys) (length w))) [ inl t ↦ cc (rw t at e) | inr t ↦ cc (rw t at e) ]
-  phase-strange-by (Home m) e = cc
-  phase-strange-by (Stranger q) e = cc
+  phase-at-home e = elim (rw e at (said (orderOf M w ys))) [ ends q ↦ q ]
 
   pub phase-at-stranger : {p : ℕ} → phaseOf M w ys ≡ StrangerPhase p → orderOf M w ys ≡ Stranger p
   unfolding phaseOf
-  phase-at-stranger e = phase-strange-by (orderOf M w ys) e
+  phase-at-stranger e = elim (rw e at (said (orderOf M w ys))) [ strange q ↦ q ]

@@ -1,14 +1,14 @@
 -- The laws of what the desk orders: the state in which a unit began, the order by it, and the order along the course
 -- of a unit whose answers are right so far.
 use Prim.Native.Nat.{ℕ, _+_, _-_, _≤_, _<_}
-use mathlib.Core.Path.{_≡_, refl, sym, ap, ap₂, _∙_}
+use mathlib.Core.Path.{_≡_, refl, sym, ap, _∙_}
 use mathlib.Core.Bool.{true}
 use mathlib.Core.Logic.{inl, inr}
 use mathlib.Core.List.{List, [], _∷_, _++_, append-assoc, append-nil}
 use mathlib.Core.Option.{Option, none, some, Option·getD, mem-unique}
 use native.Mathlib.Omega.{arith}
 use lib.ListN.{length, getD, take, length-append}
-use lib.Seq.{take-append-seam, take-append-le, take-at, getD-append-seam}
+use lib.Seq.{take-append-seam, take-append-le, getD-append-seam}
 use borrow.Author.Tests.{lt-ltb, le-ltb}
 use borrow.Author.Count.{below-more}
 use Rattle.facts.specs.Tests.{true-or-false, if-true, if-false}
@@ -61,7 +61,7 @@ module _ (M : Mealy) (w ys : List ℕ) where
       let l = first-some m (λ s. guard (same (answers M s w) ys) (some s)) e in
       let g = guard-some (same (answers M (l .m) w) ys) (some (l .m)) (l .found) in
       let here : s ≡ l .m = mem-unique (g .1) refl in
-      (omega (arith, l .low), ap (λ (x : ℕ). answers M x w) here ∙ same-equal (answers M (l .m) w) ys (g .0))
+      rw here (l .low, same-equal (answers M (l .m) w) ys (g .0))
 
   -- where none is found no state answers so
   pub first-none : (m : ℕ) → firstState M w ys m ≡ none → (s : ℕ) → s < m → answers M s w ≡ ys → ⊥
@@ -154,42 +154,31 @@ module _ (M : Mealy) (w : List ℕ) where
 
     word-first : take (length w) v ≡ w
     unfolding course
-    word-first =
-        sym (take-append-le (length w) v rest (h .long))
-        ∙ ap (take (length w)) (sym (h .splits))
-        ∙ take-append-seam w (Option·getD (transfer M (run M s w) (M .start)) [])
+    word-first = rw (← take-append-le (length w) v rest (h .long), ← h .splits, take-append-seam)
 
     pub along-began : Separates M w → (zs : List ℕ) → beganIn M w (ys ++ zs) ≡ some s
     along-began separates zs =
         began-more M w ys along-read zs
         ∙ began-is M w ys
-        ∙ first-one M w (take (length w) ys) separates s (h .state)
-        (sym (ap (take (length w)) (h .answered) ∙ answers-take M s (length w) v ∙ ap (answers M s) word-first))
+        ∙ first-one M w (take (length w) ys) separates s (h .state) (rw (h .answered, answers-take, word-first))
 
     along-order : Separates M w → (zs : List ℕ)
         → orderOf M w (ys ++ zs) ≡ orderAt (v ++ rest) (ys ++ zs) (agreed (answers M s (v ++ rest)) (ys ++ zs))
     along-order separates zs =
-        order-some M w (ys ++ zs) (omega (arith, along-read, length-append ys zs)) (along-began separates zs)
-        ∙ ap (λ (xs : List ℕ). orderAt xs (ys ++ zs) (agreed (answers M s xs) (ys ++ zs))) (h .splits)
+        rw (← h .splits)
+        (order-some M w (ys ++ zs) (omega (arith, along-read, length-append ys zs)) (along-began separates zs))
 
     -- all of ys agree
-    along-agreed : agreed (answers M s (v ++ rest)) ys ≡ length v
-    along-agreed =
-        ap₂ agreed (answers-append M s v rest) (h .answered)
-        ∙ agreed-front (answers M s v) (answers M (run M s v) rest)
-        ∙ answers-length M s v
-
     along-now : Separates M w → orderOf M w ys ≡ orderAt (v ++ rest) ys (length v)
     along-now separates =
-        ap (orderOf M w) (sym (append-nil ys))
-        ∙ along-order separates []
-        ∙ ap (λ (zs : List ℕ). orderAt (v ++ rest) zs (agreed (answers M s (v ++ rest)) zs)) (append-nil ys)
-        ∙ ap (orderAt (v ++ rest) ys) along-agreed
+        let all : agreed (answers M s (v ++ rest)) ys ≡ length v =
+        rw (h .answered, answers-append, agreed-front, answers-length) in
+        rw all at (rw append-nil at (along-order separates []))
 
     -- all is sent: home
     pub along-home : Separates M w → rest ≡ [] → orderOf M w ys ≡ Home (length v)
     along-home separates e =
-        let whole : length (v ++ rest) ≡ length v = ap length (ap (_++_ v) e ∙ append-nil v) in
+        let whole : length (v ++ rest) ≡ length v = rw (e, append-nil) in
         along-now separates ∙ at-home (v ++ rest) ys (omega arith) ∙ ap Home whole
 
     -- the next command of the rest
@@ -201,19 +190,14 @@ module _ (M : Mealy) (w : List ℕ) where
       along-command separates =
           along-now separates
           ∙ at-command (v ++ rest) ys more-left (omega (arith, along-length))
-          ∙ ap Command (ap (λ (x : List ℕ). getD (v ++ x) (length v) 0) re ∙ getD-append-seam v c u 0)
+          ∙ (rw (re, getD-append-seam))
 
       -- a wrong answer to it
       pub along-differs : Separates M w → (y : ℕ) → (M .answer (run M s v) c ≡ y → ⊥)
           → orderOf M w (ys ++ (y ∷ [])) ≡ Stranger (length ys)
       along-differs separates y d =
           let right : agreed (answers M s (v ++ rest)) (ys ++ (y ∷ [])) ≡ length ys =
-          ap₂ agreed
-          (ap (λ (x : List ℕ). answers M s (v ++ x)) re
-          ∙ answers-append M s v (c ∷ u)
-          ∙ ap₂ _++_ (sym (h .answered)) (answers-cons M (run M s v) c u))
-          refl
-          ∙ agreed-then ys (M .answer (run M s v) c) y (answers M (M .next (run M s v) c) u) [] d in
+          rw (re, answers-append, ← h .answered, answers-cons, agreed-then _ _ _ _ _ d) in
           along-order separates (y ∷ [])
           ∙ ap (orderAt (v ++ rest) (ys ++ (y ∷ []))) right
           ∙ at-stranger (v ++ rest) (ys ++ (y ∷ [])) (omega (arith, more-left, along-length))
@@ -221,8 +205,7 @@ module _ (M : Mealy) (w : List ℕ) where
 
       -- where it leads
       pub along-reached : run M s (v ++ (c ∷ [])) ≡ M .next (run M s v) c
-      along-reached =
-          run-append M s v (c ∷ []) ∙ run-cons M (run M s v) c [] ∙ run-none M (M .next (run M s v) c)
+      along-reached = rw (run-append, run-cons, run-none)
 
       -- the right answer to it
       pub along-next : (y : ℕ) → M .answer (run M s v) c ≡ y → Along M w s (v ++ (c ∷ [])) u (ys ++ (y ∷ []))
@@ -230,24 +213,13 @@ module _ (M : Mealy) (w : List ℕ) where
         state = h .state;
         splits = h .splits ∙ ap (_++_ v) re ∙ sym (append-assoc v (c ∷ []) u);
         long = omega (arith, h .long, length-append v (c ∷ []));
-        answered =
-            ap₂ (λ (a : List ℕ) (b : ℕ). a ++ (b ∷ [])) (h .answered) (sym e)
-            ∙ ap (λ (z : List ℕ). answers M s v ++ (M .answer (run M s v) c ∷ z))
-            (sym (answers-none M (M .next (run M s v) c)))
-            ∙ ap (_++_ (answers M s v)) (sym (answers-cons M (run M s v) c []))
-            ∙ sym (answers-append M s v (c ∷ []));
-        drives =
-            ap (λ (x : ℕ). transfer M x (M .start)) along-reached
-            ∙ transfer-rest M (run M s v) (M .start) c (h .drives ∙ ap some re) .1;
+        answered = rw (h .answered, answers-append, answers-cons, answers-none, e);
+        drives = rw along-reached (transfer-rest M (run M s v) (M .start) c (h .drives ∙ ap some re) .1);
       }
 
       -- the phase in which it waits
       pub along-phase : Separates M w → phaseOf M w ys ≡ Driving (run M s v)
       unfolding phaseOf phaseFor stateAfter
       along-phase separates =
-          ap (phaseFor M w ys) (along-command separates)
-          ∙ if-false _ _ (le-ltb _ _ along-read)
-          ∙ ap (λ (o : Option ℕ). Driving (stateAfter M w (length ys) o))
-          (ap (beganIn M w) (sym (append-nil ys)) ∙ along-began separates [])
-          ∙ ap (λ (x : List ℕ). Driving (run M s (take (length ys) x))) (h .splits)
-          ∙ ap (λ (x : List ℕ). Driving (run M s x)) (take-at v rest (length ys) (sym along-length))
+          let began : beganIn M w ys ≡ some s = rw append-nil at (along-began separates []) in
+          rw (along-command separates, le-ltb _ _ along-read, began, h .splits, along-length, take-append-seam)

@@ -2,8 +2,8 @@
 -- every order is the specified one; the desk ends after L + n - 1 answers at the latest, whatever they are; it repeats
 -- its end; its phase says whether it reads or drives; and stranger has one of two reasons (§13.2, §13.3).
 use Prim.Native.Nat.{ℕ, _+_, _≤_, _<_}
-use mathlib.Core.Path.{_≡_, refl, sym, ap, subst, _∙_}
-use mathlib.Core.Bool.{true, false, true≢false}
+use mathlib.Core.Path.{_≡_, refl, sym, ap, _∙_}
+use mathlib.Core.Bool.{true}
 use mathlib.Core.Option.{some}
 use mathlib.Core.List.{List, [], _∷_, _++_}
 use native.Mathlib.Omega.{arith}
@@ -24,7 +24,7 @@ use Rattle.desk.specs.declared.desk.Phase.the-variants.{Reading, Driving
 use Rattle.desk.specs.declared.starting.First.the-variants.{Command as FirstCommand, Refused as RefusedFirst}
 use Rattle.desk.specs.declared.starting.Started.{Started}
 use Rattle.desk.specs.declared.stepping.Stepped.{Stepped}
-use Rattle.desk.specs.Desk.{Course, Strange, Ordered, word-next, transfer-next, home, strange, course, isEnd}
+use Rattle.desk.specs.Desk.{Course, Strange, Ordered, strange, course, isEnd}
 use Rattle.desk.specs.Desk.Laws.{order-reading, along-length, along-phase}
 use Rattle.desk.specs.Desk.Agreement.{Suited, clear-suited, course-course, order-ordered, order-along}
 use Rattle.desk.specs.Desk.Ends.{order-ends, order-repeats, phase-reading, phase-home, phase-stranger}
@@ -78,8 +78,7 @@ module _ (s : List ℕ) where
     -- and as the specification says it
     pub dialogue-ordered : Ordered (machineIn s) (wordIn s) ys o
     dialogue-ordered =
-        rw (dialogue-order g)
-        (order-ordered (machineIn s) (wordIn s) suited ys)
+        rw (dialogue-order g) (order-ordered (machineIn s) (wordIn s) suited ys)
 
     -- after L + n - 1 answers, whatever they are, the desk has ended
     pub dialogue-ends : length (wordIn s) + machineIn s .n ≤ length ys + 1 → isEnd o ≡ true
@@ -92,7 +91,7 @@ module _ (s : List ℕ) where
     dialogue-ended t = go o (dialogue-order g) t
       where
         go : (x : Order) → x ≡ orderOn s ys → isEnd x ≡ true → endOf (d .phase) ≡ some x
-        go (Command c) e u = let z : false ≡ true = u in absurd (true≢false (sym z))
+        go (Command c) e u = cc
         go (Home n) e u =
             ap endOf (dialogue-reached g .phase ∙ phase-home (machineIn s) (wordIn s) ys (sym e))
         go (Stranger p) e u =
@@ -111,8 +110,7 @@ module _ (s : List ℕ) where
     dialogue-drives l {c} e =
         let M = machineIn s in
         let w = wordIn s in
-        let a =
-        order-along M w suited ys l (sym (dialogue-order g) ∙ e) in
+        let a = order-along M w suited ys l (sym (dialogue-order g) ∙ e) in
         let on = a .3 in
         let sent : take (length ys) (course M w (a .0)) ≡ a .1 =
         ap (take (length ys)) (on .splits) ∙ take-at (a .1) (c ∷ a .2) (length ys) (sym (along-length M w on)) in (
@@ -135,13 +133,4 @@ module _ (s : List ℕ) where
 -- ---- why stranger is told
 pub stranger-why : (s : List ℕ) {ys : List ℕ} {d : Desk} {p : ℕ} → Dialogue s ys d (Stranger p)
     → Strange (machineIn s) (wordIn s) ys p
-stranger-why s {ys} {d} {p} g = go (dialogue-ordered s g) refl
-  where
-    go : {o : Order} → Ordered (machineIn s) (wordIn s) ys o → o ≡ Stranger p
-        → Strange (machineIn s) (wordIn s) ys p
-    go (word-next k q) f = let z : _≡_ {A = ℕ} 0 1 = cc in absurd (omega arith)
-    go (transfer-next t xs h k yl r q) f = let z : _≡_ {A = ℕ} 0 1 = cc in absurd (omega arith)
-    go (home t xs h k r q) f = let z : _≡_ {A = ℕ} 0 1 = cc in absurd (omega arith)
-    go (strange {p = q} why) f =
-        let same-place : q ≡ p = cc in
-        subst (λ (x : ℕ). Strange (machineIn s) (wordIn s) ys x) same-place why
+stranger-why s g = elim (dialogue-ordered s g) [ strange why ↦ why ]

@@ -2,7 +2,7 @@
 -- dialogue has at most L + n - 1 commands and ends with home, never with stranger, and the unit is then in the state
 -- that is assigned to the start.
 use Prim.Native.Nat.{ℕ, zero, suc, _+_, _≤_, _<_}
-use mathlib.Core.Path.{_≡_, refl, sym, ap, ap₂, _∙_}
+use mathlib.Core.Path.{_≡_, refl, sym, ap, _∙_}
 use mathlib.Core.Logic.{inl, inr}
 use mathlib.Core.List.{List, [], _∷_, _++_, append-assoc, append-nil}
 use native.Mathlib.Omega.{arith}
@@ -59,9 +59,7 @@ module _ (M : Mealy) (w : List ℕ) (suited : Suited M w) (s : ℕ) (xs : List �
   pub course-asks : (i : ℕ) → i < length xs → orderOf M w (answers M s (take i xs)) ≡ Command (getD xs i 0)
   course-asks i l = elim (less-or-not i (length w)) [
     | inl low ↦ (let size = answered i (omega arith) in
-        order-reading M w (answers M s (take i xs)) (omega arith)
-        ∙ ap (λ (j : ℕ). Command (getD w j 0)) size
-        ∙ ap Command (sym (ap (λ (x : List ℕ). getD x i 0) (h .commands) ∙ List·getD-append w (h .homeward) 0 i low)))
+        rw (order-reading M w (answers M s (take i xs)) (omega arith), size, h .commands, List·getD-append))
     | inr k ↦ along-command M w (course-along M w suited s xs h i k) (getD xs i 0) (drop (suc i) xs)
         (drop-cons xs i 0 l) (suited .word .separates)
   ]
@@ -69,11 +67,8 @@ module _ (M : Mealy) (w : List ℕ) (suited : Suited M w) (s : ℕ) (xs : List �
   pub course-home : orderOf M w (answers M s xs) ≡ Home (length xs)
   course-home =
       let long : length w ≤ length xs = omega (arith, ap length (h .commands), length-append w (h .homeward)) in
-      let all = take-length xs in
-      ap (λ (x : List ℕ). orderOf M w (answers M s x)) (sym all)
-      ∙ along-home M w (course-along M w suited s xs h (length xs) long) (suited .word .separates)
-      (drop-length xs)
-      ∙ ap (λ (x : List ℕ). Home (length x)) all
+      let at-end = course-along M w suited s xs h (length xs) long in
+      rw take-length at (along-home M w at-end (suited .word .separates) (drop-length xs))
 
 -- ---- and of the dialogue
 module _ (s : List ℕ) (U : Unit (machineIn s .n) (machineIn s .k)) where
@@ -84,11 +79,7 @@ module _ (s : List ℕ) (U : Unit (machineIn s .n) (machineIn s .k)) where
   own = ownAnswers (machineIn s .n) (machineIn s .k) U
 
   own-more : (xs : List ℕ) (c : ℕ) → own (xs ++ (c ∷ [])) ≡ own xs ++ (U .answer (run unit (U .u) xs) c ∷ [])
-  own-more xs c =
-      answers-append unit (U .u) xs (c ∷ [])
-      ∙ ap (_++_ (own xs))
-      (answers-cons unit (run unit (U .u) xs) c []
-      ∙ ap (_∷_ (U .answer (run unit (U .u) xs) c)) (answers-none unit (U .next (run unit (U .u) xs) c)))
+  own-more xs c = rw (answers-append, answers-cons, answers-none)
 
   -- it is one with the unit's own answers
   pub unit-dialogue : {xs : List ℕ} {d : Desk} {o : Order} → UnitDialogue s U xs d o → Dialogue s (own xs) d o
@@ -132,29 +123,20 @@ module _ (s : List ℕ) (U : Unit (machineIn s .n) (machineIn s .k)) where
 
     -- to commands of the sheet it gives the answers of that state
     own-are : (xs : List ℕ) → Below (M .k) xs → own xs ≡ answers M (first .0) xs
-    own-are xs b =
-        ap (λ (x : ℕ). answers unit x xs) (sym (first .2))
-        ∙ assigned-alike M proper U iso xs (first .0) (first .1) b
-
-    own-front : (i : ℕ) → own (take i all) ≡ answers M (first .0) (take i all)
-    own-front i = own-are (take i all) (low-take (M .k) i all all-low)
+    own-are xs b = rw (first .2) at (assigned-alike M proper U iso xs (first .0) (first .1) b)
 
     asks : (i : ℕ) → i < length all → orderOn s (own (take i all)) ≡ Command (getD all i 0)
     asks i l =
-        ap (orderOn s) (own-front i) ∙ course-asks M w suited (first .0) all way i l
+        rw (own-are (take i all) (low-take (M .k) i all all-low)) (course-asks M w suited (first .0) all way i l)
 
     homes : orderOn s (own all) ≡ Home (length all)
-    homes = ap (orderOn s) (own-are all all-low) ∙ course-home M w suited (first .0) all way
+    homes = rw (own-are all all-low) (course-home M w suited (first .0) all way)
 
     -- there it is in the state assigned to the start
     stands : presentState (M .n) (M .k) U all ≡ iso .assigned (M .start)
     stands =
-        ap (λ (x : ℕ). run unit x all) (sym (first .2))
-        ∙ assigned-run M proper U iso all (first .0) (first .1) all-low
-        ∙ ap (iso .assigned)
-        (ap (run M (first .0)) (way .commands)
-        ∙ run-append M (first .0) w (way .homeward)
-        ∙ way .drives .is .has .ends)
+        let ends : run M (first .0) all ≡ M .start = rw (way .commands, run-append) (way .drives .is .has .ends) in
+        rw (first .2, ends) at (assigned-run M proper U iso all (first .0) (first .1) all-low)
 
     -- the commands sent are those of its course
     record OnWay (xs : List ℕ) : Type 0 where
@@ -169,16 +151,8 @@ module _ (s : List ℕ) (U : Unit (machineIn s .n) (machineIn s .k)) where
         elim (less-or-not (length xs) (length all)) [
           | inl l ↦ (let next : c ≡ getD all (length xs) 0 = cc (is ∙ asks (length xs) l) in
               let long : length (xs ++ (c ∷ [])) ≡ suc (length xs) = omega (arith, length-append xs (c ∷ [])) in
-              record {
-                few = omega arith;
-                front =
-                    ap₂ (λ (x : List ℕ) (y : ℕ). x ++ (y ∷ [])) (h .front) next
-                    ∙ sym (take-suc all (length xs) 0 l)
-                    ∙ ap (λ (n : ℕ). take n all) (sym long);
-              })
-          | inr l ↦ (let whole = ap (λ (x : List ℕ). orderOn s (own x)) (take-all (length xs) all l) in
-              let impossible : _≡_ {A = ℕ} 0 1 = cc (is ∙ whole ∙ homes) in
-              absurd (omega arith))
+              record { few = omega arith; front = rw (long, take-suc all (length xs) 0 l, ← h .front, next) })
+          | inr l ↦ (let impossible : _≡_ {A = ℕ} 0 1 = cc ((rw take-all at is) ∙ homes) in absurd (omega arith))
         ]
 
     on-way : {xs : List ℕ} {d : Desk} {o : Order} → UnitDialogue s U xs d o → OnWay xs
@@ -190,11 +164,8 @@ module _ (s : List ℕ) (U : Unit (machineIn s .n) (machineIn s .k)) where
         let is = dialogue-order s g ∙ ap (λ (x : List ℕ). orderOn s (own x)) (h .front) in
         elim (less-or-not (length xs) (length all)) [
           | inl l ↦ rw (is ∙ asks (length xs) l) (under-way (omega (arith, all-short)))
-          | inr l ↦ (let whole : take (length xs) all ≡ all = take-all (length xs) all l in
-              let these : xs ≡ all = h .front ∙ whole in
-              rw (is ∙ ap (λ (x : List ℕ). orderOn s (own x)) whole ∙ homes)
-              (at-home (sym (ap length these)) (omega (arith, all-short, h .few))
-              (ap (presentState (M .n) (M .k) U) these ∙ stands)))
+          | inr l ↦ (let these : xs ≡ all = h .front ∙ take-all (length xs) all l in
+              rw (dialogue-order s g, these, homes) (at-home refl all-short stands))
         ]
 
 -- the claim (§13.3)
@@ -234,18 +205,7 @@ module _ (s : List ℕ) (U : Unit (machineIn s .n) (machineIn s .k)) (r : Isomor
     stands = q;
   }
 
-  -- or comes there after a further command
-  ends-later : {xs : List ℕ} (c : ℕ) → EndsHome s U r (xs ++ (c ∷ [])) → EndsHome s U r xs
-  ends-later {xs} c e = record {
-    commands = e .commands;
-    further = c ∷ e .further;
-    extends = e .extends ∙ append-assoc xs (c ∷ []) (e .further);
-    desk = e .desk;
-    dialogue = e .dialogue;
-    few = e .few;
-    stands = e .stands;
-  }
-
+  -- or comes there after further commands
   ends-within : (left : ℕ) {xs : List ℕ} {d : Desk} {o : Order}
       → length (wordIn s) + machineIn s .n ≤ length xs + 1 + left → UnitDialogue s U xs d o → Brought s U r xs o
       → EndsHome s U r xs
@@ -254,7 +214,16 @@ module _ (s : List ℕ) (U : Unit (machineIn s .n) (machineIn s .k)) (r : Isomor
   ends-within (suc left) {xs} {d} l g (under-way {c} k) =
       let t = returns xs d c g in
       let h = sent (t .0) g (t .1) in
-      ends-later c (ends-within left (omega (arith, length-append xs (c ∷ []))) h (brought-home s U r h))
+      let e = ends-within left (omega (arith, length-append xs (c ∷ []))) h (brought-home s U r h) in
+      record {
+        commands = e .commands;
+        further = c ∷ e .further;
+        extends = e .extends ∙ append-assoc xs (c ∷ []) (e .further);
+        desk = e .desk;
+        dialogue = e .dialogue;
+        few = e .few;
+        stands = e .stands;
+      }
   ends-within (suc left) l g (at-home e k q) = ends-here g e k q
 
   pub ends-home : {xs : List ℕ} {d : Desk} {o : Order} → UnitDialogue s U xs d o → EndsHome s U r xs

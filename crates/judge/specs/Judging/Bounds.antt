@@ -19,16 +19,17 @@ use Rattle.machine.specs.Limits.{mostSequence}
 use Rattle.machine.specs.Machine.{Mealy, Proper, Commands, stateAt}
 use Rattle.machine.specs.Machine.Laws.{answer-at, state-stays, proper-entries}
 use Rattle.machine.specs.Causes.{machineIn}
+use Rattle.machine.specs.Causes.Laws.{cause10-is}
 use Rattle.machine.specs.Causes.Bounds.{load-short, answer-byte}
 use Rattle.certify.specs.Recognition.Laws.{open-small}
-use Rattle.certify.specs.Certification.{sequenceNeeds, sequenceCauses}
+use Rattle.certify.specs.Certification.{sequenceNeeds, markingCauses}
 use Rattle.certify.specs.Certification.Laws.{load-clear}
-use Rattle.certify.specs.Certification.Bounds.{sequence-small}
+use Rattle.certify.specs.Certification.Bounds.{marking-small}
 use Rattle.judge.specs.declared.answer.Answer.{Answer}
 use Rattle.judge.specs.declared.answer.Answer.the-variants.{Pass}
-use Rattle.judge.specs.Judging.{cause10, judgeCauses, judgement, valuesOf}
+use Rattle.judge.specs.Judging.{judgeCauses, judgement, valuesOf}
 use Rattle.judge.specs.Judging.Verdict.{Judged, passed, wrong, unheard, unfinished}
-use Rattle.judge.specs.Judging.Laws.{cause10-is, judge-causes-are, few-answers, judged-proper, judged-commands}
+use Rattle.judge.specs.Judging.Laws.{judge-causes-are, few-answers, judged-proper, judged-commands}
 use Rattle.judge.specs.Judging.Laws.{Result, refused, not-certified, judged, judgement-result}
 use Rattle.sheet.specs.Format.{standard}
 
@@ -37,9 +38,8 @@ use Rattle.sheet.specs.Format.{standard}
 pub judge-small : (room : ℕ) (s : List ℕ) → WhereRefused Small (firstCause (judgeCauses room s))
 judge-small room s =
     place-of Small (judge-causes-are room s)
-    (place-else Small (firstCause (sequenceCauses true room s)) (cause10 (answersRecord s) (sequenceIn s) (answersIn s))
-    (sequence-small true room s)
-    (λ q. place-of Small (sym (cause10-is (answersRecord s) (sequenceIn s) (answersIn s)))
+    (place-else Small (firstCause (markingCauses true room s)) _ (marking-small true room s)
+    (λ q. place-of Small (sym (cause10-is (answersRecord s .start) (sequenceIn s) (answersIn s)))
     (place-cause Small 10 (answersRecord s .start) _
     (λ t. record {
       number = omega arith;
@@ -115,9 +115,7 @@ judged-pass M xs ys (unfinished y l r) c = let z : ⊥ = omega arith in absurd z
 
 result-pass : (room : ℕ) (s : List ℕ) {a : Answer} → Result room s a → valuesOf a .class ≡ 100
     → (size : ℕ) × (a ≡ Pass size (valuesOf a .b))
-result-pass room s (refused {n = n} {p = p} e) c =
-    let z : ⊥ = omega (arith, judge-small room s n p e .number) in
-    absurd z
+result-pass room s (refused {n = n} {p = p} e) c = absurd (omega (arith, judge-small room s n p e .number))
 result-pass room s (not-certified e o) c = let z : ⊥ = omega arith in absurd z
 result-pass room s (judged e h j) c = judged-pass (machineIn s) (sequenceIn s) (answersIn s) j c
 

@@ -1,59 +1,49 @@
 -- The laws of judging a sheet: its causes, its answer and buffer by the first cause, what each answer says, both
 -- directions, and the identity claim.
 use Prim.Native.Nat.{ℕ, _≤_}
-use mathlib.Core.Path.{_≡_, refl, sym, ap, ap₂, subst, _∙_}
+use mathlib.Core.Path.{_≡_, refl, sym, _∙_}
 use mathlib.Core.Bool.{true}
-use mathlib.Core.List.{List, [], _∷_}
-use borrow.Author.Tests.{ltb-false}
-use lib.Dec.{ltb}
+use mathlib.Core.List.{List}
 use lib.ListN.{length, drop}
 use Rattle.facts.specs.Lists.{Below}
 use Rattle.sheet.specs.declared.check.Check.{Check}
 use Rattle.sheet.specs.declared.check.Check.the-variants.{Clear, Refused}
-use Rattle.sheet.specs.declared.record.Record.{Record}
-use Rattle.sheet.specs.Check.{refusal_with_if_, _else_, firstCause, refusedOr, unlessRefused}
-use Rattle.sheet.specs.Check.Laws.{clear-refused, clear-absent, both-clear, cause-one, cause-append}
+use Rattle.sheet.specs.Check.{_else_, firstCause, refusedOr}
+use Rattle.sheet.specs.Check.Laws.{clear-refused, both-clear, cause-one, cause-append}
 use Rattle.sheet.specs.Reader.{wordIn, sequenceIn, answersIn, answersRecord}
 use Rattle.machine.specs.Limits.{mostSequence}
 use Rattle.machine.specs.Machine.{answers, stateAt, Separates, Proper, Commands}
-use Rattle.machine.specs.Causes.{machineIn, loadCauses}
+use Rattle.machine.specs.Causes.{cause10, machineIn, loadCauses}
+use Rattle.machine.specs.Causes.Laws.{clear-few}
 use Rattle.machine.specs.Causes.Lists.{load-proper, word-distinguishes}
 use Rattle.machine.specs.Unit.{Unit, tableOf, begunIn, ownAnswers, presentState}
 use Rattle.certify.specs.declared.answer.Answer.{Answer as Certification}
 use Rattle.certify.specs.declared.answer.Answer.the-variants.{Certified as CertifiedAnswer, Open}
 use Rattle.certify.specs.declared.answer.Answer.the-variants.{Refused as RefusedCertification}
 use Rattle.certify.specs.Recognition.{Certified, OpenNumber, MarksOf, RecognisedNumber}
-use Rattle.certify.specs.Certification.{sequenceNeeds, markBytes, sequenceCauses, certifyCauses, certification}
+use Rattle.certify.specs.Certification.{sequenceNeeds, markBytes, markingCauses, certifyCauses, certification}
 use Rattle.certify.specs.Certification.{marksAfter, keptIn, Says}
-use Rattle.certify.specs.Certification.Laws.{load-clear, sequence-commands, certify-without-answers}
+use Rattle.certify.specs.Certification.Laws.{load-clear, marked-commands, certify-without-answers}
 use Rattle.certify.specs.Certification.Contract.{certification-says, certifies}
 use Rattle.judge.specs.declared.answer.Answer.{Answer}
 use Rattle.judge.specs.declared.answer.Answer.the-variants.{Pass, Refused as RefusedAnswer}
 use Rattle.judge.specs.Renaming.Identity.{identity}
 use Rattle.judge.specs.Renaming.Behaviour.{end-alike}
-use Rattle.judge.specs.Judging.{cause10, judgeCauses, cause11, verdict, judgement, judgedMarks, Identity}
+use Rattle.judge.specs.Judging.{judgeCauses, cause11, verdict, judgement, judgedMarks, Identity}
 use Rattle.judge.specs.Judging.Verdict.{Judged, passed, judged-verdict, verdict-judged}
 
 -- ---- the causes
-pub cause10-is : (r : Record) (xs ys : List ℕ)
-    → (refusal 10 with r .start if ltb (length xs) (length ys)) ≡ cause10 r xs ys
-unfolding cause10
-cause10-is r xs ys = refl
-
 pub judge-causes-are : (room : ℕ) (s : List ℕ) → firstCause (judgeCauses room s)
-    ≡ (firstCause (sequenceCauses true room s) else cause10 (answersRecord s) (sequenceIn s) (answersIn s))
+    ≡ (firstCause (markingCauses true room s) else cause10 (answersRecord s .start) (sequenceIn s) (answersIn s))
 unfolding judgeCauses
-judge-causes-are room s =
-    let ten = cause10 (answersRecord s) (sequenceIn s) (answersIn s) in
-    cause-append (sequenceCauses true room s) (ten ∷ [])
-    ∙ ap (λ (c : Check). firstCause (sequenceCauses true room s) else c) (cause-one ten)
+judge-causes-are room s = rw (cause-append, cause-one)
 
 module _ (room : ℕ) (s : List ℕ) (e : firstCause (judgeCauses room s) ≡ Clear) where
-  both-parts : (firstCause (sequenceCauses true room s) ≡ Clear)
-      × (cause10 (answersRecord s) (sequenceIn s) (answersIn s) ≡ Clear)
+  both-parts : (firstCause (markingCauses true room s) ≡ Clear)
+      × (cause10 (answersRecord s .start) (sequenceIn s) (answersIn s) ≡ Clear)
   both-parts = both-clear _ _ (sym (judge-causes-are room s) ∙ e)
 
-  pub marking-clear : firstCause (sequenceCauses true room s) ≡ Clear
+  pub marking-clear : firstCause (markingCauses true room s) ≡ Clear
   marking-clear = both-parts .0
 
   -- certifying refuses nothing that judging takes
@@ -61,8 +51,7 @@ module _ (room : ℕ) (s : List ℕ) (e : firstCause (judgeCauses room s) ≡ Cl
   certifying-clear = certify-without-answers room s marking-clear
 
   pub few-answers : length (answersIn s) ≤ length (sequenceIn s)
-  few-answers =
-      ltb-false _ _ (clear-absent 10 _ _ (cause10-is (answersRecord s) (sequenceIn s) (answersIn s) ∙ both-parts .1))
+  few-answers = clear-few (answersRecord s .start) (sequenceIn s) (answersIn s) (both-parts .1)
 
 -- ---- the answer and the buffer, by the first cause
 module _ (room : ℕ) (s : List ℕ) where
@@ -75,10 +64,7 @@ module _ (room : ℕ) (s : List ℕ) where
   pub judgement-by : firstCause (judgeCauses room s) ≡ Clear → {b : Certification} → certification room s ≡ b
       → judgement room s ≡ refusedOr RefusedAnswer (cause11 b) (verdict (machineIn s) (sequenceIn s) (answersIn s))
   unfolding judgement
-  judgement-by e f =
-      ap₂ (refusedOr RefusedAnswer) e
-      (ap (λ (b : Certification).
-      refusedOr RefusedAnswer (cause11 b) (verdict (machineIn s) (sequenceIn s) (answersIn s))) f)
+  judgement-by e f = rw (e, f)
 
   judgement-open : firstCause (judgeCauses room s) ≡ Clear → {n v : ℕ} → certification room s ≡ Open n v
       → judgement room s ≡ RefusedAnswer 11 v
@@ -93,12 +79,12 @@ module _ (room : ℕ) (s : List ℕ) where
 pub judged-refused : (s buffer : List ℕ) {n p : ℕ} → firstCause (judgeCauses (length buffer) s) ≡ Refused n p
     → judgedMarks s buffer ≡ buffer
 unfolding judgedMarks
-judged-refused s buffer e = ap (λ (c : Check). unlessRefused c (marksAfter s buffer) buffer) e
+judged-refused s buffer e = rw e
 
 pub judged-clear : (s buffer : List ℕ) → firstCause (judgeCauses (length buffer) s) ≡ Clear
     → judgedMarks s buffer ≡ marksAfter s buffer
 unfolding judgedMarks
-judged-clear s buffer e = ap (λ (c : Check). unlessRefused c (marksAfter s buffer) buffer) e
+judged-clear s buffer e = rw e
 
 -- so marks 0 to N are those of the recognised places, and later bytes stay as they were
 pub judged-marked : (s buffer : List ℕ) → firstCause (judgeCauses (length buffer) s) ≡ Clear
@@ -108,8 +94,7 @@ judged-marked s buffer e =
 
 pub judged-later : (s buffer : List ℕ) → firstCause (judgeCauses (length buffer) s) ≡ Clear
     → drop (markBytes (sequenceIn s)) (judgedMarks s buffer) ≡ drop (markBytes (sequenceIn s)) buffer
-judged-later s buffer e =
-    ap (drop (markBytes (sequenceIn s))) (judged-clear s buffer e) ∙ certifies s buffer refl refl .later
+judged-later s buffer e = rw (judged-clear s buffer e) (certifies s buffer refl refl .later)
 
 -- ---- what each answer says
 -- every result, where nothing is refused and the sequence is certified; a refusal with the number and place of the
@@ -160,7 +145,7 @@ module _ (room : ℕ) (s : List ℕ) where
 -- a refusal other than judging's 11 writes nothing
 pub refused-marks : (s buffer : List ℕ) {n p : ℕ} → judgement (length buffer) s ≡ RefusedAnswer n p → (n ≡ 11 → ⊥)
     → judgedMarks s buffer ≡ buffer
-refused-marks s buffer e = go (subst (Result (length buffer) s) e (judgement-result (length buffer) s))
+refused-marks s buffer e = go (rw e at (judgement-result (length buffer) s))
   where
     go : {n p : ℕ} → Result (length buffer) s (RefusedAnswer n p) → (n ≡ 11 → ⊥) → judgedMarks s buffer ≡ buffer
     go (refused f) other = judged-refused s buffer f
@@ -174,12 +159,10 @@ pub record Passes (room : ℕ) (s : List ℕ) (size end : ℕ) : Type 0 where
   pub long : size ≡ length (sequenceIn s)
   pub ends : end ≡ stateAt (machineIn s) (sequenceIn s) (length (sequenceIn s))
 
-result-passes : (room : ℕ) (s : List ℕ) {size end : ℕ} → Result room s (Pass size end) → Passes room s size end
-result-passes room s (judged e c (passed y n t)) =
-    record { clear = e; certified = c; complete = y; long = n; ends = t }
-
 pub pass-passes : (room : ℕ) (s : List ℕ) {size end : ℕ} → judgement room s ≡ Pass size end → Passes room s size end
-pass-passes room s e = result-passes room s (subst (Result room s) e (judgement-result room s))
+pass-passes room s e = elim (rw e at (judgement-result room s)) [
+  | judged f c (passed y n t) ↦ record { clear = f; certified = c; complete = y; long = n; ends = t }
+]
 
 pub passes-pass : (room : ℕ) (s : List ℕ) {size end : ℕ} → Passes room s size end → judgement room s ≡ Pass size end
 passes-pass room s h =
@@ -194,7 +177,7 @@ module _ (room : ℕ) (s : List ℕ) (e : firstCause (judgeCauses room s) ≡ Cl
   judged-proper = load-proper (sequenceNeeds true) s loaded
 
   pub judged-commands : Commands mostSequence (machineIn s .k) (sequenceIn s)
-  judged-commands = sequence-commands true room s (marking-clear room s e)
+  judged-commands = marked-commands true room s (marking-clear room s e)
 
   word-separates : Separates (machineIn s) (wordIn s)
   word-separates = word-distinguishes (sequenceNeeds true) s refl loaded .separates

@@ -2,7 +2,7 @@
 -- So answers with it among them never pass, wrong carries it neither as the specified answer nor as the given one, and
 -- unheard is the result exactly where it is the first of the answers that is not the specified one.
 use Prim.Native.Nat.{ℕ, _<_}
-use mathlib.Core.Path.{_≡_, sym, ap, subst, _∙_}
+use mathlib.Core.Path.{_≡_, sym, ap, _∙_}
 use mathlib.Core.Bool.{true}
 use mathlib.Core.List.{List}
 use native.Mathlib.Omega.{arith}
@@ -21,7 +21,7 @@ use Rattle.judge.specs.declared.answer.Answer.the-variants.{Pass, Wrong,
 use Rattle.judge.specs.Judging.{judgeCauses, judgement}
 use Rattle.judge.specs.Judging.Verdict.{Right, wrong, unheard}
 use Rattle.judge.specs.Judging.Laws.{marking-clear, few-answers, judged-proper, judged-commands, pass-passes}
-use Rattle.judge.specs.Judging.Laws.{Result, judged, judgement-result, result-judgement}
+use Rattle.judge.specs.Judging.Laws.{judged, judgement-result, result-judgement}
 
 -- ---- the specified answers
 module _ (room : ℕ) (s : List ℕ) (e : firstCause (judgeCauses room s) ≡ Clear) where
@@ -47,13 +47,12 @@ pass-heard room s p i l q =
 
 -- ---- wrong: it is neither of the two answers
 module _ (room : ℕ) (s : List ℕ) {place specified given : ℕ} where
-  result-heard : Result room s (Wrong place specified given) → (specified ≡ noAnswer → ⊥) × (given ≡ noAnswer → ⊥)
-  result-heard (judged e c (wrong l r d n x y)) =
-      (λ m. specified-always room s e place (omega (arith, few-answers room s e)) (sym x ∙ m), n)
-
   pub wrong-heard : judgement room s ≡ Wrong place specified given
       → (specified ≡ noAnswer → ⊥) × (given ≡ noAnswer → ⊥)
-  wrong-heard e = result-heard (subst (Result room s) e (judgement-result room s))
+  wrong-heard e = elim (rw e at (judgement-result room s)) [
+    | judged f c (wrong l r d n x y) ↦
+        (λ m. specified-always room s f place (omega (arith, few-answers room s f)) (sym x ∙ m), n)
+  ]
 
 -- ---- unheard
 -- what it shows: the answers before the place are right, and the byte stands there
@@ -65,12 +64,10 @@ pub record FirstUnheard (room : ℕ) (s : List ℕ) (place : ℕ) : Type 0 where
   pub here : getD (answersIn s) place 0 ≡ noAnswer
 
 module _ (room : ℕ) (s : List ℕ) (place : ℕ) where
-  result-unheard : Result room s (Unheard place) → FirstUnheard room s place
-  result-unheard (judged e c (unheard l r n y)) =
-      record { clear = e; certified = c; given = l; before = r; here = y }
-
   pub unheard-first : judgement room s ≡ Unheard place → FirstUnheard room s place
-  unheard-first e = result-unheard (subst (Result room s) e (judgement-result room s))
+  unheard-first e = elim (rw e at (judgement-result room s)) [
+    | judged f c (unheard l r n y) ↦ record { clear = f; certified = c; given = l; before = r; here = y }
+  ]
 
   pub first-unheard : FirstUnheard room s place → judgement room s ≡ Unheard place
   first-unheard h =

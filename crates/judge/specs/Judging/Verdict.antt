@@ -1,15 +1,12 @@
 -- The laws of the verdict: what each result says of the answers, both directions.
 use Prim.Native.Nat.{ℕ, _≤_, _<_}
 use mathlib.Core.Path.{_≡_, refl, sym, ap, ap₂, _∙_}
-use mathlib.Core.Bool.{cond}
 use mathlib.Core.Logic.{inl, inr}
 use mathlib.Core.List.{List}
 use native.Mathlib.Omega.{arith}
-use lib.Dec.{ltb}
 use lib.ListN.{length, getD}
 use lib.Seq.{ext-getD}
 use borrow.Author.Tests.{lt-ltb, le-ltb, eq-eqb, ne-eqb}
-use Rattle.facts.specs.Tests.{if-true, if-false}
 use Rattle.facts.specs.Numbers.{equal-or-not, less-or-not}
 use Rattle.facts.specs.CommonPrefix.{Agreed, agreed-holds, agreed-is}
 use Rattle.machine.specs.Machine.{Mealy, noAnswer, answers, stateAt}
@@ -43,11 +40,11 @@ pub data Judged (M : Mealy) (xs ys : List ℕ) : Answer → Type 0 where
 module _ (place specified given : ℕ) where
   pub difference-wrong : (given ≡ noAnswer → ⊥) → difference place specified given ≡ Wrong place specified given
   unfolding difference
-  difference-wrong h = if-false _ _ (ne-eqb given noAnswer h)
+  difference-wrong h = rw (ne-eqb given noAnswer h)
 
   pub difference-unheard : given ≡ noAnswer → difference place specified given ≡ Unheard place
   unfolding difference
-  difference-unheard e = if-true _ _ (eq-eqb given noAnswer e)
+  difference-unheard e = rw (eq-eqb given noAnswer e)
 
 module _ (M : Mealy) (xs ys : List ℕ) (few : length ys ≤ length xs) where
   abbrev specified : List ℕ
@@ -56,61 +53,45 @@ module _ (M : Mealy) (xs ys : List ℕ) (few : length ys ≤ length xs) where
   many : length specified ≡ length xs
   many = answers-length M (M .start) xs
 
-  verdict-at : {p : ℕ} → Agreed specified ys p → verdict M xs ys ≡ resultAt M xs ys p
+  -- by a place before which the answers are right, and at which they are not or end
+  verdict-at : (p : ℕ) → p ≤ length ys → Right M xs ys p
+      → (p < length ys → getD specified p 0 ≡ getD ys p 0 → ⊥) → verdict M xs ys ≡ resultAt M xs ys p
   unfolding verdict
-  verdict-at {p} h = ap (resultAt M xs ys) (sym (agreed-is specified ys p h))
+  verdict-at p l r d =
+      rw (agreed-is specified ys p
+      (record { in-first = omega (arith, many); in-second = l; before = r; here = λ _. d }))
 
   at-difference : {p : ℕ} → p < length ys → resultAt M xs ys p ≡ difference p (getD specified p 0) (getD ys p 0)
   unfolding resultAt
-  at-difference l = if-true _ _ (lt-ltb _ _ l)
-
-  at-last : {p : ℕ} → length ys ≤ p
-      → resultAt M xs ys p ≡ cond (ltb p (length xs)) (Unfinished p) (Pass (length xs) (stateAt M xs (length xs)))
-  unfolding resultAt
-  at-last l = if-false _ _ (le-ltb _ _ l)
+  at-difference l = rw (lt-ltb _ _ l)
 
   at-unfinished : {p : ℕ} → length ys ≤ p → p < length xs → resultAt M xs ys p ≡ Unfinished p
-  at-unfinished l k = at-last l ∙ if-true _ _ (lt-ltb _ _ k)
+  unfolding resultAt
+  at-unfinished l k = rw (le-ltb _ _ l, lt-ltb _ _ k)
 
   at-passed : {p : ℕ} → length ys ≤ p → length xs ≤ p → resultAt M xs ys p ≡ Pass (length xs) (stateAt M xs (length xs))
-  at-passed l k = at-last l ∙ if-false _ _ (le-ltb _ _ k)
+  unfolding resultAt
+  at-passed l k = rw (le-ltb _ _ l, le-ltb _ _ k)
 
   -- ---- from what holds to the verdict
   -- the answers before a place are right, and the one there is not
   pub differs-verdict : {place v g : ℕ} → place < length ys → Right M xs ys place → (v ≡ g → ⊥)
       → v ≡ getD specified place 0 → g ≡ getD ys place 0 → difference place v g ≡ verdict M xs ys
   differs-verdict {place} l r d se ge =
-      let h : Agreed specified ys place = record {
-        in-first = omega (arith, many);
-        in-second = omega arith;
-        before = r;
-        here = λ k m q. d (se ∙ q ∙ sym ge);
-      } in
-      ap₂ (difference place) se ge ∙ sym (verdict-at h ∙ at-difference l)
+      rw (verdict-at place (omega arith) r (λ k q. d (se ∙ q ∙ sym ge)), at-difference l, se, ge)
 
   pub judged-verdict : {a : Answer} → Judged M xs ys a → a ≡ verdict M xs ys
   judged-verdict (passed e se ee) =
       let long : length ys ≡ length xs = ap length e ∙ many in
-      let h : Agreed specified ys (length xs) = record {
-        in-first = omega (arith, many);
-        in-second = omega (arith, long);
-        before = λ i l. ap (λ (x : List ℕ). getD x i 0) (sym e);
-        here = λ k l q. omega (arith, many);
-      } in
-      ap₂ Pass se ee ∙ sym (verdict-at h ∙ at-passed (omega (arith, long)) (omega arith))
+      let is = verdict-at (length xs) (omega arith) (λ i l. rw e) (λ l q. omega arith) in
+      ap₂ Pass se ee ∙ sym (is ∙ at-passed (omega arith) (omega arith))
   judged-verdict (wrong {place} {specified = v} {given = g} l r d n se ge) =
       sym (difference-wrong place v g n) ∙ differs-verdict l r d se ge
   judged-verdict (unheard {place} l r n ge) =
       sym (difference-unheard place (getD specified place 0) (getD ys place 0) ge)
       ∙ differs-verdict l r (λ q. n (q ∙ ge)) refl refl
   judged-verdict (unfinished {number} e l r) =
-      let h : Agreed specified ys number = record {
-        in-first = omega (arith, many);
-        in-second = omega arith;
-        before = r;
-        here = λ k m q. omega arith;
-      } in
-      sym (verdict-at h ∙ at-unfinished (omega arith) l)
+      sym (verdict-at number (omega arith) r (λ m q. omega arith) ∙ at-unfinished (omega arith) l)
 
   -- ---- and from the verdict to what holds
   judged-difference : {p : ℕ} → Agreed specified ys p → p < length ys
@@ -134,4 +115,5 @@ module _ (M : Mealy) (xs ys : List ℕ) (few : length ys ≤ length xs) where
   ]
 
   pub verdict-judged : Judged M xs ys (verdict M xs ys)
-  verdict-judged = let h = agreed-holds specified ys in rw (verdict-at h) (judged-by h)
+  unfolding verdict
+  verdict-judged = judged-by (agreed-holds specified ys)

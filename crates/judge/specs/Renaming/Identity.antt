@@ -3,7 +3,7 @@
 -- induction over recognised places (`smallest`); of the word one fact, that two places where it stands have one state
 -- of the sheet if the unit is in one state there (`alike`).
 use Prim.Native.Nat.{ℕ, zero, suc, _+_, _≤_, _<_}
-use mathlib.Core.Path.{_≡_, refl, sym, ap, ap₂, _∙_}
+use mathlib.Core.Path.{_≡_, refl, sym, ap, _∙_}
 use mathlib.Core.List.{List}
 use native.Mathlib.Omega.{arith}
 use native.Mathlib.Numerals.{add-one}
@@ -13,7 +13,7 @@ use Rattle.machine.specs.Limits.{mostSequence}
 use Rattle.machine.specs.Machine.{Mealy, answers, stateAt, Separates, Proper, Commands}
 use Rattle.machine.specs.Machine.Laws.{answers-part, answer-at, state-start, state-next, state-end, states-agree}
 use Rattle.machine.specs.Machine.Laws.{state-closed, state-stays}
-use Rattle.machine.specs.Unit.{Unit, tableOf, ownAnswers, presentState}
+use Rattle.machine.specs.Unit.{Unit, tableOf, ownAnswers}
 use Rattle.machine.specs.Unit.Laws.{assigns-all}
 use Rattle.certify.specs.Recognition.{OccursAt, Recognised, Certified}
 use Rattle.certify.specs.Recognition.Laws.{smallest}
@@ -29,11 +29,8 @@ module _ (M : Mealy) (w xs : List ℕ) (proper : Proper M) (commands : Commands 
   -- ---- the word shows the state
   word-answers : (p : ℕ) → OccursAt w xs p → answers M (stateAt M xs p) w ≡ answers unit (stateAt unit xs p) w
   word-answers p h =
-      ap (answers M (stateAt M xs p)) (sym (h .commands))
-      ∙ sym (answers-part M xs p (length w))
-      ∙ ap (λ (l : List ℕ). take (length w) (drop p l)) same
-      ∙ answers-part unit xs p (length w)
-      ∙ ap (answers unit (stateAt unit xs p)) (h .commands)
+      let there = ap (λ (l : List ℕ). take (length w) (drop p l)) same in
+      rw (answers-part M xs p, answers-part unit xs p, h .commands) at there
 
   state-low : (p : ℕ) → stateAt M xs p < M .n
   state-low p = state-stays M proper xs (commands .low) p
@@ -42,7 +39,7 @@ module _ (M : Mealy) (w xs : List ℕ) (proper : Proper M) (commands : Commands 
       → stateAt M xs p ≡ stateAt M xs q
   alike p q hp hq e =
       separates (stateAt M xs p) (stateAt M xs q) (state-low p) (state-low q)
-      (word-answers p hp ∙ ap (λ (x : ℕ). answers unit x w) e ∙ sym (word-answers q hq))
+      (rw (word-answers p hp, word-answers q hq, e))
 
   -- the state of a recognised place has a place where the word stands
   recognised-word : (p : ℕ) → Recognised M w xs p → (i : ℕ) × (OccursAt w xs i) × (stateAt M xs i ≡ stateAt M xs p)
@@ -110,61 +107,40 @@ module _ (M : Mealy) (w xs : List ℕ) (proper : Proper M) (commands : Commands 
   unfolding Met
   assigned-answers s c sl cl =
       let v = certified .entries s c sl cl in
-      let at : stateAt unit xs (v .place) ≡ assigned s =
-      recognised-met (v .place) (v .before) ∙ ap assigned (v .state) in
-      ap₂ (unit .answer) (sym at) (sym (v .command))
-      ∙ sym (answer-at unit xs (v .place) (v .inside))
-      ∙ ap (λ (l : List ℕ). getD l (v .place) 0) (sym same)
-      ∙ answer-at M xs (v .place) (v .inside)
-      ∙ ap₂ (M .answer) (v .state) (v .command)
+      let at = recognised-met (v .place) (v .before) in
+      let there = ap (λ (l : List ℕ). getD l (v .place) 0) (sym same) in
+      rw (answer-at unit xs _ (v .inside), answer-at M xs _ (v .inside), at, v .state, v .command) at there
 
   assigned-next : (s c : ℕ) → s < M .n → c < M .k → unit .next (assigned s) c ≡ assigned (M .next s c)
   unfolding Met
   assigned-next s c sl cl =
       let v = certified .entries s c sl cl in
-      let at : stateAt unit xs (v .place) ≡ assigned s =
-      recognised-met (v .place) (v .before) ∙ ap assigned (v .state) in
-      ap₂ (unit .next) (sym at) (sym (v .command))
-      ∙ sym (state-next unit xs (v .place) (v .inside))
-      ∙ recognised-met (v .place + 1) (v .after)
-      ∙ ap assigned (state-next M xs (v .place) (v .inside) ∙ ap₂ (M .next) (v .state) (v .command))
+      let at = recognised-met (v .place) (v .before) in
+      let after = recognised-met (v .place + 1) (v .after) in
+      rw (state-next unit xs _ (v .inside), state-next M xs _ (v .inside), at, v .state, v .command) at after
 
   -- ---- every place of the run
   all-met : (p : ℕ) → p ≤ length xs → Met p
   unfolding Met
   all-met zero l = recognised-met 0 (certified .start)
   all-met (suc p) l =
-      let step : stateAt unit xs (p + 1) ≡ assigned (stateAt M xs (p + 1)) =
-      state-next unit xs p (omega arith)
-      ∙ ap (λ (x : ℕ). unit .next x (getD xs p 0)) (all-met p (omega arith))
-      ∙ assigned-next (stateAt M xs p) (getD xs p 0) (state-low p) (commands .low p (omega arith))
-      ∙ ap assigned (sym (state-next M xs p (omega arith))) in
-      rw (← add-one p) step
+      rw (← add-one p, state-next unit xs p (omega arith), state-next M xs p (omega arith), all-met p (omega arith))
+      (assigned-next (stateAt M xs p) (getD xs p 0) (state-low p) (commands .low p (omega arith)))
 
   -- ---- start, end and no state left out
-  from-start : assigned (M .start) ≡ U .u
-  unfolding Met
-  from-start = ap assigned (sym (state-start M xs)) ∙ sym (recognised-met 0 (certified .start)) ∙ state-start unit xs
-
-  at-end : assigned (stateAt M xs (length xs)) ≡ presentState (M .n) (M .k) U xs
-  unfolding Met
-  at-end = sym (all-met (length xs) (omega arith)) ∙ state-end unit xs
-
   -- the claim: the end state is that of place N
   pub identity : Renaming M U xs (stateAt M xs (length xs))
-  identity =
-      let start = from-start in
-      let end = at-end in
-      record {
-        isomorphism = record {
-          assigned = assigned;
-          into = assigned-low;
-          one-to-one = assigned-one;
-          onto = assigned-onto;
-          answers-alike = assigned-answers;
-          goes-alike = assigned-next;
-        };
-        end-is = refl;
-        start-assigned = cc;
-        end-assigned = cc;
-      }
+  unfolding Met
+  identity = record {
+    isomorphism = record {
+      assigned = assigned;
+      into = assigned-low;
+      one-to-one = assigned-one;
+      onto = assigned-onto;
+      answers-alike = assigned-answers;
+      goes-alike = assigned-next;
+    };
+    end-is = refl;
+    start-assigned = sym (rw (state-start unit xs, state-start M xs) at (recognised-met 0 (certified .start)));
+    end-assigned = sym (all-met (length xs) (omega arith)) ∙ state-end unit xs;
+  }

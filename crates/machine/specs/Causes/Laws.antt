@@ -14,23 +14,21 @@ use Rattle.facts.specs.Tests.{neither}
 use Rattle.facts.specs.Numbers.{less-or-not}
 use Rattle.sheet.specs.declared.check.Check.{Check}
 use Rattle.sheet.specs.declared.check.Check.the-variants.{Clear}
-use Rattle.sheet.specs.declared.record.Record.{Record}
 use Rattle.sheet.specs.Check.{refusal_with_if_, _else_, first, firstCause}
 use Rattle.sheet.specs.Check.Laws.{absent, clear-absent, else-clear, both-clear, first-clear, first-clear-at}
 use Rattle.sheet.specs.Check.Laws.{first-same, cause-cons, cause-two}
 use Rattle.sheet.specs.Format.{Format, header, offset}
-use Rattle.sheet.specs.Format.Laws.{offset-is}
 use Rattle.facts.specs.Bytes.{Bytes}
 use Rattle.machine.specs.Limits.{mostStates, mostCommands, mostEntries, entries-few}
 use Rattle.machine.specs.Machine.{noAnswer, pairAt, Commands}
-use Rattle.machine.specs.Causes.{outside, cause3, cause4, cause12, byteCause, commandsCause, tableCauses}
+use Rattle.machine.specs.Causes.{outside, cause3, cause4, cause12, byteCause, commandsCause, cause10, tableCauses}
 
 -- cause 3, of the bytes and tests as the code has them
-pub cause3-is : (F : Format) (r : Record) (p : List ℕ) {n k : ℕ} → n ≡ getD p 0 0 → k ≡ getD p 1 0 → {a b : Bool}
+pub cause3-is : (F : Format) (at : ℕ) (p : List ℕ) {n k : ℕ} → n ≡ getD p 0 0 → k ≡ getD p 1 0 → {a b : Bool}
     → a ≡ outside 1 mostStates n → b ≡ outside 1 mostCommands k
-    → (refusal 3 with r .start if (a || b || not (eqb (length p) (F .table + 2 * (n * k))))) ≡ cause3 F r p
+    → (refusal 3 with at if (a || b || not (eqb (length p) (F .table + 2 * (n * k))))) ≡ cause3 F at p
 unfolding cause3
-cause3-is F r p {n} {k} ne ke {a} {b} ae be = rw (ae, be, ne, ke)
+cause3-is F at p {n} {k} ne ke {a} {b} ae be = rw (ae, be, ne, ke)
 
 -- the check that a scan makes at a byte
 pub byte-check-is : (number base : ℕ) (p : List ℕ) (from stride bound i : ℕ) {b : ℕ} {c : Check}
@@ -41,13 +39,10 @@ byte-check-is number base p from stride bound i be ce =
     ce ∙ ap (λ (x : ℕ). refusal number with base + (from + stride * i) if leb bound x) be
 
 -- cause 4 looks at every second byte from the table on
-pub cause4-is : (F : Format) (r : Record) (p : List ℕ)
-    → first (getD p 0 0 * getD p 1 0) (byteCause 4 (r .start + header) p (F .table) 2 (getD p 0 0)) ≡ cause4 F r p
+pub cause4-is : (F : Format) (at : ℕ) (p : List ℕ)
+    → first (getD p 0 0 * getD p 1 0) (byteCause 4 (at + header) p (F .table) 2 (getD p 0 0)) ≡ cause4 F at p
 unfolding cause4 byteCause
-cause4-is F r p =
-    let n = getD p 0 0 in
-    ap (first (n * getD p 1 0))
-    (fun-ext (λ e. ap (λ (x : ℕ). refusal 4 with x if leb n (getD p (pairAt F e) 0)) (sym (offset-is r (pairAt F e)))))
+cause4-is F at p = refl
 
 -- a byte that is not below the highest one is that one
 highest-is : (b : ℕ) → b < 256 → leb noAnswer b ≡ eqb b noAnswer
@@ -57,24 +52,24 @@ highest-is b l = elim (less-or-not b noAnswer) [
 ]
 
 -- cause 12, of a payload of bytes, looks at every second byte from the first answer on
-pub cause12-is : (F : Format) (r : Record) (p : List ℕ) → Bytes p
-    → first (getD p 0 0 * getD p 1 0) (byteCause 12 (r .start + header) p (F .table + 1) 2 noAnswer) ≡ cause12 F r p
+pub cause12-is : (F : Format) (at : ℕ) (p : List ℕ) → Bytes p
+    → first (getD p 0 0 * getD p 1 0) (byteCause 12 (at + header) p (F .table + 1) 2 noAnswer) ≡ cause12 F at p
 unfolding cause12 byteCause
-cause12-is F r p bytes =
+cause12-is F at p bytes =
     first-same (getD p 0 0 * getD p 1 0) _ _
     (λ e l.
-    let at : F .table + 1 + 2 * e ≡ pairAt F e + 1 = omega arith in
-    rw (at, offset-is r (pairAt F e + 1), highest-is (getD p (pairAt F e + 1) 0) (bytes (pairAt F e + 1))) refl)
+    let here : F .table + 1 + 2 * e ≡ pairAt F e + 1 = omega arith in
+    rw (here, highest-is (getD p (pairAt F e + 1) 0) (bytes (pairAt F e + 1))) refl)
 
 -- causes 5 and 7 look at every byte
-pub commands-cause-is : (number most k : ℕ) (r : Record) (w : List ℕ)
-    → ((refusal number with r .start if outside 1 most (length w))
-    else first (length w) (byteCause number (r .start + header) w 0 1 k))
-    ≡ commandsCause number most k r w
+pub commands-cause-is : (number most k : ℕ) (at : ℕ) (w : List ℕ)
+    → ((refusal number with at if outside 1 most (length w))
+    else first (length w) (byteCause number (at + header) w 0 1 k))
+    ≡ commandsCause number most k at w
 unfolding commandsCause byteCause
-commands-cause-is number most k r w =
-    ap (λ (f : ℕ → Check). (refusal number with r .start if outside 1 most (length w)) else first (length w) f)
-    (fun-ext (λ i. simp (zero-add, one-mul, offset-is)))
+commands-cause-is number most k at w =
+    ap (λ (f : ℕ → Check). (refusal number with at if outside 1 most (length w)) else first (length w) f)
+    (fun-ext (λ i. simp (zero-add, one-mul)))
 
 -- ---- what a clear check shows
 not-outside : (least most x : ℕ) → outside least most x ≡ false → (least ≤ x) × (x ≤ most)
@@ -90,13 +85,13 @@ pub record Shape (F : Format) (p : List ℕ) : Type 0 where
   pub few-commands : getD p 1 0 ≤ mostCommands
   pub long : length p ≡ F .table + 2 * (getD p 0 0 * getD p 1 0)
 
-pub clear-shape : (F : Format) (r : Record) (p : List ℕ) → cause3 F r p ≡ Clear → Shape F p
+pub clear-shape : (F : Format) (at : ℕ) (p : List ℕ) → cause3 F at p ≡ Clear → Shape F p
 unfolding cause3
-clear-shape F r p e =
+clear-shape F at p e =
     let n = getD p 0 0 in
     let k = getD p 1 0 in
     let sized = not (eqb (length p) (F .table + 2 * (n * k))) in
-    let all = neither (outside 1 mostStates n || outside 1 mostCommands k) sized (clear-absent 3 (r .start) _ e) in
+    let all = neither (outside 1 mostStates n || outside 1 mostCommands k) sized (clear-absent 3 at _ e) in
     let two = neither (outside 1 mostStates n) (outside 1 mostCommands k) (all .0) in
     record {
       some-states = not-outside 1 mostStates n (two .0) .0;
@@ -119,12 +114,12 @@ entry-absent n k number place test e s c sl cl =
     (first-clear-at (n * k) (s * k + c) _ e (digits-lt {q = s} {m = n} {r = c} {c = k} sl cl))
 
 -- the causes of a table, written out
-pub table-causes-are : (F : Format) (r : Record) (p : List ℕ)
-    → firstCause (tableCauses F r p) ≡ (cause3 F r p else (cause4 F r p else cause12 F r p))
+pub table-causes-are : (F : Format) (at : ℕ) (p : List ℕ)
+    → firstCause (tableCauses F at p) ≡ (cause3 F at p else (cause4 F at p else cause12 F at p))
 unfolding tableCauses
-table-causes-are F r p =
-    cause-cons (cause3 F r p) (cause4 F r p ∷ cause12 F r p ∷ [])
-    ∙ ap (λ (c : Check). cause3 F r p else c) (cause-two (cause4 F r p) (cause12 F r p))
+table-causes-are F at p =
+    cause-cons (cause3 F at p) (cause4 F at p ∷ cause12 F at p ∷ [])
+    ∙ ap (λ (c : Check). cause3 F at p else c) (cause-two (cause4 F at p) (cause12 F at p))
 
 -- a row of causes that is clear is clear with any other places
 first-anywhere : (n number : ℕ) (place other : ℕ → ℕ) (test : ℕ → Bool)
@@ -134,57 +129,68 @@ first-anywhere n number place other test e =
     first-clear n _ (λ i l. absent number (other i) (clear-absent number (place i) (test i) (first-clear-at n i _ e l)))
 
 -- whether a table has a cause does not depend on where it stands
-pub table-anywhere : (F : Format) (r q : Record) (p : List ℕ) → firstCause (tableCauses F r p) ≡ Clear
-    → firstCause (tableCauses F q p) ≡ Clear
+pub table-anywhere : (F : Format) (at to : ℕ) (p : List ℕ) → firstCause (tableCauses F at p) ≡ Clear
+    → firstCause (tableCauses F to p) ≡ Clear
 unfolding cause3 cause4 cause12
-table-anywhere F r q p e =
+table-anywhere F at to p e =
     let entries = getD p 0 0 * getD p 1 0 in
-    let three = both-clear _ _ (sym (table-causes-are F r p) ∙ e) in
+    let three = both-clear _ _ (sym (table-causes-are F at p) ∙ e) in
     let four = both-clear _ _ (three .1) in
-    table-causes-are F q p
-    ∙ ap₂ _else_ (absent 3 (q .start) (clear-absent 3 (r .start) _ (three .0)))
+    table-causes-are F to p
+    ∙ ap₂ _else_ (absent 3 to (clear-absent 3 at _ (three .0)))
     (ap₂ _else_
-    (first-anywhere entries 4 (λ e. offset r (pairAt F e)) (λ e. offset q (pairAt F e)) _ (four .0))
-    (first-anywhere entries 12 (λ e. offset r (pairAt F e + 1)) (λ e. offset q (pairAt F e + 1)) _ (four .1))
+    (first-anywhere entries 4 (λ e. offset at (pairAt F e)) (λ e. offset to (pairAt F e)) _ (four .0))
+    (first-anywhere entries 12 (λ e. offset at (pairAt F e + 1)) (λ e. offset to (pairAt F e + 1)) _ (four .1))
     ∙ else-clear Clear)
     ∙ else-clear Clear
 
-pub clear-next : (F : Format) (r : Record) (p : List ℕ) → cause4 F r p ≡ Clear → (s c : ℕ) → s < getD p 0 0
+pub clear-next : (F : Format) (at : ℕ) (p : List ℕ) → cause4 F at p ≡ Clear → (s c : ℕ) → s < getD p 0 0
     → c < getD p 1 0
     → getD p (pairAt F (s * getD p 1 0 + c)) 0 < getD p 0 0
 unfolding cause4
-clear-next F r p e s c sl cl =
-    leb-false _ _ (entry-absent (getD p 0 0) (getD p 1 0) 4 (λ i. offset r (pairAt F i))
+clear-next F at p e s c sl cl =
+    leb-false _ _ (entry-absent (getD p 0 0) (getD p 1 0) 4 (λ i. offset at (pairAt F i))
     (λ i. leb (getD p 0 0) (getD p (pairAt F i) 0)) e s c sl cl)
 
 -- no answer of the table is the byte for no answer
-pub clear-answers : (F : Format) (r : Record) (p : List ℕ) → cause12 F r p ≡ Clear → (s c : ℕ) → s < getD p 0 0
+pub clear-answers : (F : Format) (at : ℕ) (p : List ℕ) → cause12 F at p ≡ Clear → (s c : ℕ) → s < getD p 0 0
     → c < getD p 1 0
     → getD p (pairAt F (s * getD p 1 0 + c) + 1) 0 ≡ noAnswer → ⊥
 unfolding cause12
-clear-answers F r p e s c sl cl =
-    eqb-false _ _ (entry-absent (getD p 0 0) (getD p 1 0) 12 (λ i. offset r (pairAt F i + 1))
+clear-answers F at p e s c sl cl =
+    eqb-false _ _ (entry-absent (getD p 0 0) (getD p 1 0) 12 (λ i. offset at (pairAt F i + 1))
     (λ i. eqb (getD p (pairAt F i + 1) 0) noAnswer) e s c sl cl)
 
 -- the commands of a word or a sequence
-pub clear-commands : (number most k : ℕ) (r : Record) (w : List ℕ) → commandsCause number most k r w ≡ Clear
+pub clear-commands : (number most k : ℕ) (at : ℕ) (w : List ℕ) → commandsCause number most k at w ≡ Clear
     → Commands most k w
 unfolding commandsCause
-clear-commands number most k r w e =
+clear-commands number most k at w e =
     let long = outside 1 most (length w) in
-    let both = both-clear (refusal number with r .start if long) _ e in
-    let l = not-outside 1 most (length w) (clear-absent number (r .start) long (both .0)) in
+    let both = both-clear (refusal number with at if long) _ e in
+    let l = not-outside 1 most (length w) (clear-absent number at long (both .0)) in
     record {
       some = l .0;
       few = l .1;
-      low = λ i h. leb-false _ _ (clear-absent number (offset r i) _ (first-clear-at (length w) i _ (both .1) h));
+      low = λ i h. leb-false _ _ (clear-absent number (offset at i) _ (first-clear-at (length w) i _ (both .1) h));
     }
 
 -- the other direction
-pub commands-clear : (number most k : ℕ) (r : Record) (w : List ℕ) → Commands most k w
-    → commandsCause number most k r w ≡ Clear
+pub commands-clear : (number most k : ℕ) (at : ℕ) (w : List ℕ) → Commands most k w
+    → commandsCause number most k at w ≡ Clear
 unfolding commandsCause
-commands-clear number most k r w h =
-    ap₂ _else_ (absent number (r .start) (ap₂ _||_ (le-ltb (length w) 1 (h .some)) (le-ltb most (length w) (h .few))))
-    (first-clear (length w) _ (λ i l. absent number (offset r i) (lt-leb k (getD w i 0) (h .low i l))))
+commands-clear number most k at w h =
+    ap₂ _else_ (absent number at (ap₂ _||_ (le-ltb (length w) 1 (h .some)) (le-ltb most (length w) (h .few))))
+    (first-clear (length w) _ (λ i l. absent number (offset at i) (lt-leb k (getD w i 0) (h .low i l))))
     ∙ else-clear Clear
+
+-- ---- cause 10
+pub cause10-is : (at : ℕ) (xs ys : List ℕ) → (refusal 10 with at if ltb (length xs) (length ys)) ≡ cause10 at xs ys
+unfolding cause10
+cause10-is at xs ys = refl
+
+pub clear-few : (at : ℕ) (xs ys : List ℕ) → cause10 at xs ys ≡ Clear → length ys ≤ length xs
+clear-few at xs ys e = ltb-false _ _ (clear-absent 10 at _ (cause10-is at xs ys ∙ e))
+
+pub few-clear : (at : ℕ) (xs ys : List ℕ) → length ys ≤ length xs → cause10 at xs ys ≡ Clear
+few-clear at xs ys l = sym (cause10-is at xs ys) ∙ absent 10 at (le-ltb _ _ l)

@@ -1,50 +1,120 @@
--- The laws of the causes of loading in order, and what a sheet shows where they are clear.
+-- The laws of the lists of causes: what a payload shows where its own are clear, in both directions for a word and a
+-- sequence; the causes of loading written out, and what a sheet shows where they are clear.
 use Prim.Native.Nat.{ℕ, _≤_}
-use mathlib.Core.Path.{_≡_, sym, ap, ap₂, _∙_}
+use mathlib.Core.Path.{_≡_, refl, sym, ap, ap₂, _∙_}
 use mathlib.Core.Bool.{Bool, true, false}
-use mathlib.Core.List.{List, List·Memᴰ}
+use mathlib.Core.List.{List, _++_, List·Memᴰ}
 use native.Mathlib.Omega.{arith}
 use lib.ListN.{length, take}
 use lib.Seq.{take-all}
+use Rattle.sheet.specs.declared.check.Check.{Check}
 use Rattle.sheet.specs.declared.check.Check.the-variants.{Clear}
 use Rattle.sheet.specs.declared.reader.Needs.{Needs}
 use Rattle.sheet.specs.Check.{_else_, firstCause}
-use Rattle.sheet.specs.Check.Laws.{else-clear, both-clear, cause-none, cause-two, cause-append}
-use Rattle.sheet.specs.Format.{standard}
-use Rattle.sheet.specs.Reader.{sheetCauses, needed, Reads, machinePayload, wordIn, machineRecord, wordRecord}
+use Rattle.sheet.specs.Check.Laws.{else-clear, both-clear, cause-none, cause-one, cause-two, cause-append}
+use Rattle.sheet.specs.Format.{Format, standard}
+use Rattle.sheet.specs.Reader.{sheetCauses, when, needed, Reads, machinePayload, wordIn, sequenceIn, machineRecord}
+use Rattle.sheet.specs.Reader.{wordRecord, sequenceRecord}
 use Rattle.sheet.specs.Reader.Laws.{needed-without-answers, needed-clear, clear-reads}
-use Rattle.machine.specs.Limits.{mostMachine, mostWord}
-use Rattle.machine.specs.Machine.{Mealy, machineOf, Proper, AlwaysAnswers, Distinguishes}
-use Rattle.machine.specs.Causes.{cause3, cause4, cause12, cause5, cause6, machineIn, held, tableCauses}
-use Rattle.machine.specs.Causes.{machineCauses, wordCauses, loadCauses}
+use Rattle.machine.specs.Limits.{mostMachine, mostWord, mostSequence}
+use Rattle.machine.specs.Machine.{Mealy, machineOf, Proper, AlwaysAnswers, Commands, Distinguishes}
+use Rattle.machine.specs.Causes.{cause3, cause4, cause12, cause5, cause7, cause6, machineIn, held, tableCauses}
+use Rattle.machine.specs.Causes.{wordCauses, sequenceCauses, tableCausesIn, wordCausesIn, sequenceCausesIn}
+use Rattle.machine.specs.Causes.{machineCauses, loadCauses}
 use Rattle.machine.specs.Causes.Laws.{Shape, clear-shape, shape-entries, clear-next, clear-answers}
 use Rattle.machine.specs.Causes.Laws.{clear-commands, table-causes-are, commands-clear}
 use Rattle.machine.specs.Causes.Separation.{clear-separates, separates-clear}
 
--- ---- the lists, written out
+-- ---- a machine's payload
+module _ (F : Format) (at : ℕ) (p : List ℕ) (e : firstCause (tableCauses F at p) ≡ Clear) where
+  table-clear : (cause3 F at p ≡ Clear) × ((cause4 F at p else cause12 F at p) ≡ Clear)
+  table-clear = both-clear _ _ (sym (table-causes-are F at p) ∙ e)
+
+  pub table-shape : Shape F p
+  table-shape = clear-shape F at p (table-clear .0)
+
+  -- it has at most the bytes of the largest machine, so that its machine is the one that is loaded
+  pub table-short : length p ≤ mostMachine F
+  table-short = omega (arith, table-shape .long, shape-entries F p table-shape)
+
+  pub table-loaded : machineOf F (take (mostMachine F) p) ≡ machineOf F p
+  table-loaded = ap (machineOf F) (take-all (mostMachine F) p table-short)
+
+  -- its machine is within the limits, and each of its entries specifies an answer
+  pub table-proper : Proper (machineOf F p)
+  unfolding machineOf
+  table-proper = record {
+    some-states = table-shape .some-states;
+    few-states = table-shape .few-states;
+    some-commands = table-shape .some-commands;
+    few-commands = table-shape .few-commands;
+    starts = table-shape .some-states;
+    stays = clear-next F at p (both-clear _ _ (table-clear .1) .0);
+  }
+
+  pub table-answers : AlwaysAnswers (machineOf F p)
+  unfolding machineOf
+  table-answers = clear-answers F at p (both-clear _ _ (table-clear .1) .1)
+
+-- ---- a word and a sequence
+module _ (M : Mealy) (at : ℕ) (w : List ℕ) where
+  pub word-causes-are : firstCause (wordCauses M at w) ≡ (cause5 (M .k) at w else cause6 M w)
+  unfolding wordCauses
+  word-causes-are = cause-two (cause5 (M .k) at w) (cause6 M w)
+
+  pub clear-distinguishes : firstCause (wordCauses M at w) ≡ Clear → Distinguishes M w
+  clear-distinguishes e =
+      let two = both-clear _ _ (sym word-causes-are ∙ e) in
+      record {
+        commands = clear-commands 5 mostWord (M .k) at w (two .0);
+        separates = clear-separates M w (two .1);
+      }
+
+  pub distinguishes-clear : Distinguishes M w → firstCause (wordCauses M at w) ≡ Clear
+  distinguishes-clear d =
+      word-causes-are
+      ∙ ap₂ _else_ (commands-clear 5 mostWord (M .k) at w (d .commands)) (separates-clear M w (d .separates))
+      ∙ else-clear Clear
+
+  pub sequence-causes-are : firstCause (sequenceCauses M at w) ≡ cause7 (M .k) at w
+  unfolding sequenceCauses
+  sequence-causes-are = cause-one (cause7 (M .k) at w)
+
+  pub clear-sequence : firstCause (sequenceCauses M at w) ≡ Clear → Commands mostSequence (M .k) w
+  clear-sequence e = clear-commands 7 mostSequence (M .k) at w (sym sequence-causes-are ∙ e)
+
+  pub sequence-clear : Commands mostSequence (M .k) w → firstCause (sequenceCauses M at w) ≡ Clear
+  sequence-clear h = sequence-causes-are ∙ commands-clear 7 mostSequence (M .k) at w h
+
+-- ---- the lists of a sheet, written out
 pub machine-causes-are : (n : Needs) (s : List ℕ) → firstCause (machineCauses n s)
-    ≡ (firstCause (sheetCauses standard (needed standard n) s)
-    else firstCause (tableCauses standard (machineRecord s) (machinePayload s)))
+    ≡ (firstCause (sheetCauses standard (needed standard n) s) else firstCause (tableCausesIn s))
 unfolding machineCauses
-machine-causes-are n s =
-    cause-append (sheetCauses standard (needed standard n) s)
-    (tableCauses standard (machineRecord s) (machinePayload s))
+machine-causes-are n s = cause-append (sheetCauses standard (needed standard n) s) (tableCausesIn s)
 
-pub word-causes-are : (s : List ℕ) → firstCause (wordCauses true s)
-    ≡ (cause5 (machineIn s .k) (wordRecord s) (wordIn s) else cause6 (machineIn s) (wordIn s))
-unfolding wordCauses
-word-causes-are s =
-    cause-two (cause5 (machineIn s .k) (wordRecord s) (wordIn s)) (cause6 (machineIn s) (wordIn s))
-
-pub word-causes-none : (s : List ℕ) → firstCause (wordCauses false s) ≡ Clear
-unfolding wordCauses
-word-causes-none s = cause-none
-
-pub load-causes-are : (n : Needs) (s : List ℕ)
-    → firstCause (loadCauses n s) ≡ (firstCause (machineCauses n s) else firstCause (wordCauses (n .word) s))
+pub load-causes-are : (n : Needs) (s : List ℕ) → firstCause (loadCauses n s)
+    ≡ (firstCause (machineCauses n s)
+    else (firstCause (when (n .word) (wordCausesIn s)) else firstCause (when (n .sequence) (sequenceCausesIn s))))
 unfolding loadCauses
-load-causes-are n s = cause-append (machineCauses n s) (wordCauses (n .word) s)
+load-causes-are n s =
+    cause-append (machineCauses n s) (when (n .word) (wordCausesIn s) ++ when (n .sequence) (sequenceCausesIn s))
+    ∙ ap (λ (c : Check). firstCause (machineCauses n s) else c)
+    (cause-append (when (n .word) (wordCausesIn s)) (when (n .sequence) (sequenceCausesIn s)))
 
+-- causes that are clear where they are needed
+when-clear : (b : Bool) (cs : List Check) → (b ≡ true → firstCause cs ≡ Clear) → firstCause (when b cs) ≡ Clear
+when-clear true cs h = h refl
+when-clear false cs h = cause-none
+
+pub loading-clear : (n : Needs) (s : List ℕ) → firstCause (machineCauses n s) ≡ Clear
+    → (n .word ≡ true → firstCause (wordCausesIn s) ≡ Clear)
+    → (n .sequence ≡ true → firstCause (sequenceCausesIn s) ≡ Clear) → firstCause (loadCauses n s) ≡ Clear
+loading-clear n s e w q =
+    load-causes-are n s
+    ∙ ap₂ _else_ e (ap₂ _else_ (when-clear (n .word) _ w) (when-clear (n .sequence) _ q) ∙ else-clear Clear)
+    ∙ else-clear Clear
+
+-- ---- machines
 -- the machine loaded from the payload that reading gives is the one that is held
 pub held-loaded : (s : List ℕ) {p : List ℕ} {M : Mealy} → p ≡ machinePayload s
     → M ≡ machineOf standard (take (mostMachine standard) p)
@@ -57,81 +127,64 @@ pub machine-same : (s t : List ℕ) → machinePayload t ≡ machinePayload s �
 unfolding machineIn
 machine-same s t e = ap (machineOf standard) e
 
--- ---- where they are clear
+-- ---- where the causes of the machine are clear
 module _ (n : Needs) (s : List ℕ) (e : firstCause (machineCauses n s) ≡ Clear) where
-  table-clear : (cause3 standard (machineRecord s) (machinePayload s) ≡ Clear)
-      × ((cause4 standard (machineRecord s) (machinePayload s)
-      else cause12 standard (machineRecord s) (machinePayload s)) ≡ Clear)
-  table-clear =
-      both-clear _ _
-      (sym (table-causes-are standard (machineRecord s) (machinePayload s))
-      ∙ both-clear _ _ (sym (machine-causes-are n s) ∙ e) .1)
+  pub clear-sheet : firstCause (sheetCauses standard (needed standard n) s) ≡ Clear
+  clear-sheet = both-clear _ _ (sym (machine-causes-are n s) ∙ e) .0
+
+  pub clear-table : firstCause (tableCausesIn s) ≡ Clear
+  clear-table = both-clear _ _ (sym (machine-causes-are n s) ∙ e) .1
 
   -- each needed role is read
   pub kind-reads : (ks : List ℕ) → List·Memᴰ ks (needed standard n) → Reads standard ks s
-  kind-reads ks m =
-      let sheet = both-clear _ _ (sym (machine-causes-are n s) ∙ e) .0 in
-      clear-reads standard ks s (needed-clear standard s (needed standard n) ks m sheet)
+  kind-reads ks m = clear-reads standard ks s (needed-clear standard s (needed standard n) ks m clear-sheet)
 
-  pub shape-of : Shape standard (machinePayload s)
-  shape-of = clear-shape standard (machineRecord s) (machinePayload s) (table-clear .0)
-
-  -- the machine's payload has at most the bytes of the largest machine
   pub payload-short : length (machinePayload s) ≤ mostMachine standard
-  payload-short = omega (arith, shape-of .long, shape-entries standard (machinePayload s) shape-of)
+  payload-short = table-short standard (machineRecord s .start) (machinePayload s) clear-table
 
   -- the machine that is held is the sheet's
   pub held-is : held s ≡ machineIn s
   unfolding held machineIn
-  held-is = ap (machineOf standard) (take-all (mostMachine standard) (machinePayload s) payload-short)
+  held-is = table-loaded standard (machineRecord s .start) (machinePayload s) clear-table
 
-pub machine-proper : (n : Needs) (s : List ℕ) → firstCause (machineCauses n s) ≡ Clear → Proper (machineIn s)
-unfolding machineIn machineOf
-machine-proper n s e =
-    let h = shape-of n s e in
-    record {
-      some-states = h .some-states;
-      few-states = h .few-states;
-      some-commands = h .some-commands;
-      few-commands = h .few-commands;
-      starts = h .some-states;
-      stays = clear-next standard (machineRecord s) (machinePayload s) (both-clear _ _ (table-clear n s e .1) .0);
-    }
+  pub machine-proper : Proper (machineIn s)
+  unfolding machineIn
+  machine-proper = table-proper standard (machineRecord s .start) (machinePayload s) clear-table
 
-pub machine-answers : (n : Needs) (s : List ℕ) → firstCause (machineCauses n s) ≡ Clear → AlwaysAnswers (machineIn s)
-unfolding machineIn machineOf
-machine-answers n s e = clear-answers standard (machineRecord s) (machinePayload s)
-    (both-clear _ _ (table-clear n s e .1) .1)
+-- ---- where the causes of loading are clear
+module _ (n : Needs) (s : List ℕ) (e : firstCause (loadCauses n s) ≡ Clear) where
+  parts-clear : (firstCause (machineCauses n s) ≡ Clear)
+      × ((firstCause (when (n .word) (wordCausesIn s)) else firstCause (when (n .sequence) (sequenceCausesIn s)))
+      ≡ Clear)
+  parts-clear = both-clear _ _ (sym (load-causes-are n s) ∙ e)
 
-pub clear-machine : (n : Needs) (s : List ℕ) → firstCause (loadCauses n s) ≡ Clear
-    → firstCause (machineCauses n s) ≡ Clear
-clear-machine n s e = both-clear _ _ (sym (load-causes-are n s) ∙ e) .0
+  pub clear-machine : firstCause (machineCauses n s) ≡ Clear
+  clear-machine = parts-clear .0
 
--- the machine of a loaded sheet is within the limits
-pub load-proper : (n : Needs) (s : List ℕ) → firstCause (loadCauses n s) ≡ Clear → Proper (machineIn s)
-load-proper n s e = machine-proper n s (clear-machine n s e)
+  pub clear-word : n .word ≡ true → firstCause (wordCausesIn s) ≡ Clear
+  clear-word t =
+      ap (λ (b : Bool). firstCause (when b (wordCausesIn s))) (sym t) ∙ both-clear _ _ (parts-clear .1) .0
 
--- and each of its entries specifies an answer
-pub load-answers : (n : Needs) (s : List ℕ) → firstCause (loadCauses n s) ≡ Clear → AlwaysAnswers (machineIn s)
-load-answers n s e = machine-answers n s (clear-machine n s e)
+  pub load-proper : Proper (machineIn s)
+  load-proper = machine-proper n s clear-machine
+
+  pub load-answers : AlwaysAnswers (machineIn s)
+  unfolding machineIn
+  load-answers = table-answers standard (machineRecord s .start) (machinePayload s) (clear-table n s clear-machine)
+
+  clear-needed : n .sequence ≡ true → firstCause (sequenceCausesIn s) ≡ Clear
+  clear-needed t =
+      ap (λ (b : Bool). firstCause (when b (sequenceCausesIn s))) (sym t) ∙ both-clear _ _ (parts-clear .1) .1
 
 pub word-distinguishes : (n : Needs) (s : List ℕ) → n .word ≡ true → firstCause (loadCauses n s) ≡ Clear
     → Distinguishes (machineIn s) (wordIn s)
 word-distinguishes n s t e =
-    let five : firstCause (wordCauses true s) ≡ Clear = rw (← t) (both-clear _ _ (sym (load-causes-are n s) ∙ e) .1) in
-    let two = both-clear _ _ (sym (word-causes-are s) ∙ five) in
-    record {
-      commands = clear-commands 5 mostWord (machineIn s .k) (wordRecord s) (wordIn s) (two .0);
-      separates = clear-separates (machineIn s) (wordIn s) (two .1);
-    }
+    clear-distinguishes (machineIn s) (wordRecord s .start) (wordIn s) (clear-word n s e t)
 
--- the other direction, of the causes of the word
-pub distinguishes-clear : (s : List ℕ) → Distinguishes (machineIn s) (wordIn s) → firstCause (wordCauses true s) ≡ Clear
-distinguishes-clear s d =
-    word-causes-are s
-    ∙ ap₂ _else_ (commands-clear 5 mostWord (machineIn s .k) (wordRecord s) (wordIn s) (d .commands))
-    (separates-clear (machineIn s) (wordIn s) (d .separates))
-    ∙ else-clear Clear
+pub sequence-commands : (n : Needs) (s : List ℕ) → n .sequence ≡ true → firstCause (loadCauses n s) ≡ Clear
+    → Commands mostSequence (machineIn s .k) (sequenceIn s)
+sequence-commands n s t e =
+    clear-sequence (machineIn s) (sequenceRecord s .start) (sequenceIn s) (clear-needed n s e t)
 
 -- a service that does not need the answers refuses no sheet that one that does takes
 pub load-without-answers : (w q : Bool) (s : List ℕ)
@@ -140,9 +193,9 @@ pub load-without-answers : (w q : Bool) (s : List ℕ)
 load-without-answers w q s e =
     let n : Needs = record { word = w; sequence = q; answers = true } in
     let m : Needs = record { word = w; sequence = q; answers = false } in
-    let load = both-clear _ _ (sym (load-causes-are n s) ∙ e) in
-    let table = both-clear _ _ (sym (machine-causes-are n s) ∙ load .0) in
+    let load = parts-clear n s e in
     let machine : firstCause (machineCauses m s) ≡ Clear =
-    machine-causes-are m s ∙ ap₂ _else_ (needed-without-answers standard w q s (table .0)) (table .1)
+    machine-causes-are m s
+    ∙ ap₂ _else_ (needed-without-answers standard w q s (clear-sheet n s (load .0))) (clear-table n s (load .0))
     ∙ else-clear Clear in
     load-causes-are m s ∙ ap₂ _else_ machine (load .1) ∙ else-clear Clear

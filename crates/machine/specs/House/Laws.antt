@@ -69,6 +69,5 @@ pub house-entry : (s c : ℕ) → s < house .n → c < house .k
     → record { next = house .next s c; answer = house .answer s c } ≡ houseEntry s c
 unfolding house machineOf housePayload
 house-entry s c p q =
-    right-table (λ e. getD housePayload (pairAt standard e) 0)
-    (λ e. getD housePayload (pairAt standard e + 1) 0) listed s c (omega arith)
-    (omega arith)
+    right-table (λ e. getD housePayload (pairAt standard e) 0) (λ e. getD housePayload (pairAt standard e + 1) 0) listed
+    s c (omega arith) (omega arith)

@@ -63,14 +63,12 @@ pub answers-same : (a b : Mealy) → ((s c : ℕ) → a .next s c ≡ b .next s 
     → (s : ℕ) (w : List ℕ) → answers a s w ≡ answers b s w
 unfolding answers
 answers-same a b f g s [] = refl
-answers-same a b f g s (c ∷ w) =
-    ap₂ _∷_ (g s c) (ap (λ (x : ℕ). answers a x w) (f s c) ∙ answers-same a b f g (b .next s c) w)
+answers-same a b f g s (c ∷ w) = rw (g s c, f s c, answers-same a b f g (b .next s c) w)
 
 pub answers-tabled : (n k start n′ start′ : ℕ) (next answer : List ℕ) (s : ℕ) (w : List ℕ)
     → answers (tabled n k start next answer) s w ≡ answers (tabled n′ k start′ next answer) s w
 unfolding tabled
-answers-tabled n k start n′ start′ next answer s w =
-    answers-same (tabled n k start next answer) (tabled n′ k start′ next answer) (λ x c. refl) (λ x c. refl) s w
+answers-tabled n k start n′ start′ next answer s w = answers-same _ _ (λ x c. refl) (λ x c. refl) s w
 
 -- one command more in front
 pub answers-cons : (M : Mealy) (s c : ℕ) (w : List ℕ) → answers M s (c ∷ w) ≡ M .answer s c ∷ answers M (M .next s c) w
@@ -141,8 +139,7 @@ answers-get M s (suc p) (c ∷ xs) l = answers-get M (M .next s c) p xs (omega a
 pub answers-part : (M : Mealy) (xs : List ℕ) (p m : ℕ)
     → take m (drop p (answers M (M .start) xs)) ≡ answers M (stateAt M xs p) (take m (drop p xs))
 unfolding stateAt
-answers-part M xs p m =
-    ap (take m) (answers-drop M (M .start) p xs) ∙ answers-take M (run M (M .start) (take p xs)) m (drop p xs)
+answers-part M xs p m = rw (answers-drop, answers-take)
 
 pub answer-at : (M : Mealy) (xs : List ℕ) (p : ℕ) → p < length xs
     → getD (answers M (M .start) xs) p 0 ≡ M .answer (stateAt M xs p) (getD xs p 0)
@@ -157,8 +154,7 @@ state-start M xs = refl
 pub state-next : (M : Mealy) (xs : List ℕ) (p : ℕ) → p < length xs
     → stateAt M xs (p + 1) ≡ M .next (stateAt M xs p) (getD xs p 0)
 unfolding stateAt run
-state-next M xs p l =
-    ap (run M (M .start)) (take-more xs p l) ∙ run-append M (M .start) (take p xs) (getD xs p 0 ∷ [])
+state-next M xs p l = rw (take-more xs p l, run-append)
 
 -- the state behind the first part of a sequence is where that part leads
 pub state-split : (M : Mealy) (u v : List ℕ) → stateAt M (u ++ v) (length u) ≡ run M (M .start) u
@@ -173,8 +169,7 @@ state-end M xs = ap (run M (M .start)) (take-all (length xs) xs (omega arith))
 -- the state m commands after p is where these lead from p's state
 state-along : (M : Mealy) (xs : List ℕ) (p m : ℕ) → stateAt M xs (p + m) ≡ run M (stateAt M xs p) (take m (drop p xs))
 unfolding stateAt
-state-along M xs p m =
-    ap (run M (M .start)) (take-add p m xs) ∙ run-append M (M .start) (take p xs) (take m (drop p xs))
+state-along M xs p m = rw (take-add, run-append)
 
 -- equal commands from equal states lead to equal states
 pub states-agree : (M : Mealy) (xs : List ℕ) (p q m : ℕ) → stateAt M xs p ≡ stateAt M xs q

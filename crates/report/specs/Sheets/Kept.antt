@@ -10,7 +10,7 @@ use Rattle.facts.specs.Bytes.{Bytes}
 use Rattle.sheet.specs.declared.check.Check.the-variants.{Clear}
 use Rattle.sheet.specs.declared.reader.Needs.{Needs}
 use Rattle.sheet.specs.Check.{_else_, firstCause}
-use Rattle.sheet.specs.Check.Laws.{both-clear, else-clear}
+use Rattle.sheet.specs.Check.Laws.{else-clear}
 use Rattle.sheet.specs.Format.{standard, longest, header}
 use Rattle.sheet.specs.Reader.{sheetCauses, needed, machinePayload, wordIn, sequenceIn, machineRecord}
 use Rattle.sheet.specs.Reader.Laws.{needed-machine}
@@ -21,7 +21,7 @@ use Rattle.sheet.specs.Joining.Front.{front-cut}
 use Rattle.machine.specs.Limits.{mostMachine}
 use Rattle.machine.specs.Causes.{machineIn, tableCauses, machineCauses}
 use Rattle.machine.specs.Causes.Laws.{table-anywhere}
-use Rattle.machine.specs.Causes.Lists.{machine-causes-are, kind-reads, payload-short, machine-same}
+use Rattle.machine.specs.Causes.Lists.{machine-causes-are, clear-table, kind-reads, payload-short, machine-same}
 
 -- the sheet t carries the machine of s, and besides it the word and the sequence of these records; its machine has no
 -- cause for a service that needs no role but those that have a record
@@ -55,7 +55,6 @@ keeps n s load rest order fits =
     let sorted : InOrder standard 0 rs = (omega (arith, one), omega arith, omega (arith, few), rw one order) in
     let short : length t ≤ longest = omega (arith, few, joined-long (fresh (standard .machine) p) rest) in
     let payload : machinePayload t ≡ p = content-joined standard rs sorted short (standard .machine) in
-    let table = both-clear _ _ (sym (machine-causes-are n s) ∙ load) .1 in
     subst (λ (r : ℕ × List ℕ). Keeps s rest (joined (r ∷ rest)))
     (sym (kept-fresh standard _ s (kind-reads n s load (standard .machine) (needed-machine standard n))))
     (record {
@@ -67,7 +66,7 @@ keeps n s load rest order fits =
       clear = λ m all.
           machine-causes-are m t
           ∙ ap₂ _else_ (causes-joined standard rs sorted short (needed standard m) all)
-          (ap (λ (q : List ℕ). firstCause (tableCauses standard (machineRecord t) q)) payload
-          ∙ table-anywhere standard (machineRecord s) (machineRecord t) p table)
+          (ap (λ (q : List ℕ). firstCause (tableCauses standard (machineRecord t .start) q)) payload
+          ∙ table-anywhere standard (machineRecord s .start) (machineRecord t .start) p (clear-table n s load))
           ∙ else-clear Clear;
     })

@@ -1,17 +1,14 @@
 -- The laws of the rig's number: each field can be read back from it, because it fits; and what judging's answer shows
 -- of a unit, its number shows.
 use Prim.Native.Nat.{ℕ}
-use mathlib.Core.Path.{_≡_, refl, sym, _∙_, subst}
+use mathlib.Core.Path.{_≡_, refl, sym, _∙_}
 use mathlib.Core.List.{List}
 use native.Mathlib.Omega.{arith}
 use Rattle.sheet.specs.Values.{Fits}
-use Rattle.sheet.specs.Reader.{sequenceIn}
 use Rattle.facts.specs.Bytes.{Bytes}
-use Rattle.machine.specs.Causes.{machineIn}
 use Rattle.sheet.specs.declared.check.Values.{Values}
 use Rattle.certify.specs.Certification.{certification, valuesOf as certifyingValues}
 use Rattle.certify.specs.Certification.Bounds.{certification-fits}
-use Rattle.judge.specs.Renaming.{Renaming}
 use Rattle.judge.specs.Judging.{judgement, valuesOf as judgingValues}
 use Rattle.judge.specs.Judging.Laws.{pass-identity}
 use Rattle.judge.specs.Judging.Bounds.{judgement-fits, class-pass}
@@ -42,5 +39,4 @@ pub number-identity : (room : ℕ) (s : List ℕ) → Bytes s → RigIdentity s 
 number-identity room s bytes U hundred own =
     let f = judging-fields room s bytes in
     let pass = class-pass room s (sym (f .class) ∙ hundred) in
-    subst (λ (end : ℕ). Renaming (machineIn s) U (sequenceIn s) end) (sym (f .b))
-    (pass-identity room s refl U (pass .0) _ (pass .1) own)
+    rw (f .b) (pass-identity room s refl U (pass .0) _ (pass .1) own)

@@ -38,6 +38,15 @@ pub else-refused : (n p : ℕ) (d : Check) → (Refused n p else d) ≡ Refused 
 unfolding _else_
 else-refused n p d = refl
 
+-- code that makes the first one as k, and stops where it refuses or goes on where it is clear
+pub stops-at : (c d : Check) {e k : Check} → e ≡ (c else d) → k ≡ c → {n p : ℕ} → k ≡ Refused n p → k ≡ e
+unfolding _else_
+stops-at c d ee ke h = rw (ee, ← ke, h) refl
+
+pub goes-on : (c d : Check) {e k : Check} → e ≡ (c else d) → k ≡ c → k ≡ Clear → d ≡ e
+unfolding _else_
+goes-on c d ee ke h = rw (ee, ← ke, h) refl
+
 pub else-end : (c : Check) → (c else Clear) ≡ c
 unfolding _else_
 else-end Clear = refl
@@ -79,8 +88,7 @@ cause-two c d = cause-cons c (d ∷ []) ∙ ap (λ (x : Check). c else x) (cause
 pub cause-append : (cs ds : List Check) → firstCause (cs ++ ds) ≡ (firstCause cs else firstCause ds)
 unfolding firstCause _else_
 cause-append [] ds = refl
-cause-append (a ∷ cs) ds =
-    ap (λ (c : Check). a else c) (cause-append cs ds) ∙ sym (else-assoc a (firstCause cs) (firstCause ds))
+cause-append (a ∷ cs) ds = rw (cause-append cs ds, else-assoc)
 
 -- ---- the first present of a row of causes
 pub first-none : (f : ℕ → Check) → first 0 f ≡ Clear

@@ -1,7 +1,7 @@
 -- The laws of the format: how the parsing goes on and ends, what holds of it by induction, where its records lie,
 -- and looking for a kind.
 use Prim.Native.Nat.{ℕ, zero, suc, _+_, _-_, _≤_, _<_}
-use mathlib.Core.Path.{_≡_, refl, sym, ap, ap₂, subst, _∙_}
+use mathlib.Core.Path.{_≡_, refl, sym, ap₂, _∙_}
 use mathlib.Core.Bool.{true, _||_}
 use mathlib.Core.Logic.{_⊎_, inl, inr}
 use mathlib.Core.List.{List, [], _∷_}
@@ -18,22 +18,17 @@ use Rattle.sheet.specs.declared.record.Record.{Record}
 use Rattle.sheet.specs.declared.record.Found.{Found}
 use Rattle.sheet.specs.declared.record.Found.the-variants.{At, Missing}
 use Rattle.sheet.specs.Check.{refusal_with_if_, _else_}
-use Rattle.sheet.specs.Check.Laws.{absent, clear-absent, else-clear, both-clear}
-use Rattle.sheet.specs.Format.{Format, header, recordAt, offset, end, kindOf, rank, rankAt, cause1, cause2}
-use Rattle.sheet.specs.Format.{causeAt}
+use Rattle.sheet.specs.Check.Laws.{clear-absent, both-clear}
+use Rattle.sheet.specs.Format.{Format, header, recordAt, end, kindOf, rank, rankAt, cause1, cause2, causeAt}
 use Rattle.sheet.specs.Format.{Parsed, ended, _before_, parseStep, parseFrom, parse, parsed, ofKind, _or_, find}
 
--- ---- the start, the offsets, the end and cause 1 of a record
+-- ---- the start, the end and cause 1 of a record
 pub start-at : (s : List ℕ) (at : ℕ) → recordAt s at .start ≡ at
 unfolding recordAt
 start-at s at = refl
 
-pub offset-is : (r : Record) (i : ℕ) → offset r i ≡ r .start + header + i
-unfolding offset
-offset-is r i = refl
-
 pub end-size : (r : Record) → end r ≡ r .start + header + r .size
-unfolding end offset
+unfolding end
 end-size r = refl
 
 pub end-is : (s : List ℕ) (at : ℕ) (r : Record) → r ≡ recordAt s at → end (recordAt s at) ≡ at + header + r .size
@@ -45,14 +40,8 @@ unfolding cause1
 cause1-is s at r e = rw (← end-is s at r e)
 
 pub end-after : (s : List ℕ) (at : ℕ) → at + header ≤ end (recordAt s at)
-unfolding end offset recordAt
+unfolding end recordAt
 end-after s at = omega arith
-
--- the parsing ends at the sheet's end
-step-at-end : (s : List ℕ) (at : ℕ) → length s ≤ at → (c : Check) (r : Record) (w : Parsed)
-    → parseStep (ltb at (length s)) c r w ≡ ended Clear
-unfolding parseStep
-step-at-end s at h c r w = rw (le-ltb at (length s) h)
 
 module _ (F : Format) where
   -- ---- what a clear record shows
@@ -71,55 +60,36 @@ module _ (F : Format) where
   -- and what makes a record clear
   clear-at : (s : List ℕ) (at last : ℕ) {r : Record} → recordAt s at ≡ r → at + header ≤ length s → end r ≤ length s
       → last < rank (kindOf F (r .kind)) → causeAt F s at last ≡ Clear
-  unfolding causeAt cause1 cause2
-  clear-at s at last {r} e a b c =
-      let over : end (recordAt s at) ≤ length s = subst (λ (x : Record). end x ≤ length s) (sym e) b in
-      let up : last < rankAt F s at = subst (λ (x : Record). last < rank (kindOf F (x .kind))) (sym e) c in
-      ap₂ _else_
-      (absent 1 at (ap₂ _||_ (le-ltb (length s) (at + header) a) (le-ltb (length s) (end (recordAt s at)) over)))
-      (absent 2 at (lt-leb (rankAt F s at) last up))
-      ∙ else-clear Clear
+  unfolding causeAt cause1 cause2 refusal_with_if_ _else_
+  clear-at s at last e a b c = rw (e, le-ltb _ _ a, le-ltb _ _ b, lt-leb _ _ c)
 
   -- ---- the bound on the steps plays no part
   enough : (f g : ℕ) (s : List ℕ) (at last : ℕ) → length s - at ≤ f → length s - at ≤ g
       → parseFrom f F s at last ≡ parseFrom g F s at last
-  unfolding parseFrom
+  unfolding parseFrom parseStep
   enough zero zero s at last p q = refl
-  enough zero (suc g) s at last p q =
-      sym (step-at-end s at (omega arith) (causeAt F s at last) (recordAt s at)
-      (parseFrom g F s (end (recordAt s at)) (rankAt F s at)))
-  enough (suc f) zero s at last p q =
-      step-at-end s at (omega arith) (causeAt F s at last) (recordAt s at)
-      (parseFrom f F s (end (recordAt s at)) (rankAt F s at))
+  enough zero (suc g) s at last p q = rw (le-ltb at (length s) (omega arith))
+  enough (suc f) zero s at last p q = rw (le-ltb at (length s) (omega arith))
   enough (suc f) (suc g) s at last p q =
-      ap (λ (w : Parsed). parseStep (ltb at (length s)) (causeAt F s at last) (recordAt s at) w)
-      (enough f g s (end (recordAt s at)) (rankAt F s at) (omega (arith, end-after s at))
-      (omega (arith, end-after s at)))
+      let more = end-after s at in
+      rw (enough f g s (end (recordAt s at)) (rankAt F s at) (omega arith) (omega arith))
 
   -- at the sheet's end the parsing ends
   pub parse-end : (s : List ℕ) (at last : ℕ) → length s ≤ at → parse F s at last ≡ ended Clear
-  unfolding parse
-  parse-end s at last h = enough (length s - at) 0 s at last (omega arith) (omega arith) ∙ none
-    where
-      none : parseFrom 0 F s at last ≡ ended Clear
-      none = unfold parseFrom in refl
+  unfolding parse parseFrom
+  parse-end s at last h = enough (length s - at) 0 s at last (omega arith) (omega arith)
 
   -- before it, a cause stops it, and else the record comes before what follows it
   pub parse-on : (s : List ℕ) (at last : ℕ) → at < length s
       → parse F s at last
       ≡ parseStep true (causeAt F s at last) (recordAt s at) (parse F s (end (recordAt s at)) (rankAt F s at))
-  unfolding parse
+  unfolding parse parseFrom
   parse-on s at last h =
-      enough (length s - at) (suc (length s - (at + 1))) s at last (omega arith) (omega arith)
-      ∙ one
-      ∙ ap (λ (w : Parsed). parseStep true (causeAt F s at last) (recordAt s at) w)
-      (enough (length s - (at + 1)) (length s - end (recordAt s at)) s (end (recordAt s at)) (rankAt F s at)
-      (omega (arith, end-after s at)) (omega arith))
-    where
-      one : parseFrom (suc (length s - (at + 1))) F s at last
-          ≡ parseStep true (causeAt F s at last) (recordAt s at)
-          (parseFrom (length s - (at + 1)) F s (end (recordAt s at)) (rankAt F s at))
-      one = unfold parseFrom in rw (lt-ltb at (length s) h)
+      let left = length s - (at + 1) in
+      let next = end (recordAt s at) in
+      let behind = end-after s at in
+      let rest = enough left (length s - next) s next (rankAt F s at) (omega arith) (omega arith) in
+      rw (lt-ltb at (length s) h, rest) at (enough (length s - at) (suc left) s at last (omega arith) (omega arith))
 
   -- the record that stops the parsing
   pub parse-stopped : (s : List ℕ) (at last n p : ℕ) → at < length s → causeAt F s at last ≡ Refused n p
@@ -135,9 +105,7 @@ module _ (F : Format) where
 
   pub parse-as : (s : List ℕ) (at last : ℕ) {r : Record} → recordAt s at ≡ r → at + header ≤ length s → end r ≤ length s
       → last < rank (kindOf F (r .kind)) → parse F s at last ≡ (r before parse F s (end r) (rank (kindOf F (r .kind))))
-  parse-as s at last {r} e a b c =
-      parse-record s at last (omega arith) (clear-at s at last e a b c)
-      ∙ ap (λ (x : Record). x before parse F s (end x) (rank (kindOf F (x .kind)))) e
+  parse-as s at last e a b c = rw e at (parse-record s at last (omega arith) (clear-at s at last e a b c))
 
   -- the whole sheet
   pub parsed-is : (s : List ℕ) → parsed F s ≡ parse F s 0 0
@@ -156,12 +124,12 @@ module _ (F : Format) where
         → P at last (parse F s at last)
     turn at last rest = elim (less-or-not at (length s)) [
       | inl h ↦ check h (causeAt F s at last) refl
-      | inr h ↦ subst (P at last) (sym (parse-end s at last h)) (ends at last h)
+      | inr h ↦ rw (parse-end s at last h) (ends at last h)
     ]
       where
         check : at < length s → (c : Check) → causeAt F s at last ≡ c → P at last (parse F s at last)
-        check h Clear e = subst (P at last) (sym (parse-record s at last h e)) (goes-on at last h e (rest h))
-        check h (Refused n p) e = subst (P at last) (sym (parse-stopped s at last n p h e)) (stops at last n p h e)
+        check h Clear e = rw (parse-record s at last h e) (goes-on at last h e (rest h))
+        check h (Refused n p) e = rw (parse-stopped s at last n p h e) (stops at last n p h e)
 
     turns : (f at last : ℕ) → length s - at ≤ f → P at last (parse F s at last)
     turns zero at last l = turn at last (λ h. let z : ⊥ = omega arith in absurd z)

@@ -17,7 +17,7 @@ use Rattle.sheet.specs.declared.record.Kind.the-variants.{Machine, Word,
 use Rattle.sheet.specs.declared.record.Found.the-variants.{At}
 use Rattle.sheet.specs.Check.{firstCause}
 use Rattle.sheet.specs.Check.Laws.{clear-absent, both-clear, cause-cons}
-use Rattle.sheet.specs.Format.{Format, standard, offset, end, kindOf, rank, parsed, ofKind, _or_, find}
+use Rattle.sheet.specs.Format.{Format, standard, end, kindOf, rank, parsed, ofKind, _or_, find}
 use Rattle.sheet.specs.Format.Laws.{none-found}
 use Rattle.sheet.specs.Reader.{missing, sheetCauses, recordOf, content}
 use Rattle.sheet.specs.Reader.Laws.{at-found, causes-clear, sheet-short}
@@ -62,7 +62,7 @@ module _ (F : Format) (s : List ℕ) where
       → Each (λ k. rank (kindOf F k) ≡ n) ks → Here at (c ∷ cs) ks
       → ((rank (kindOf F (c .0)) ≡ n) × (recordOf F ks s ≡ new at c) × (recordIn F s ks ≡ c))
       ⊎ Here (end (new at c)) cs ks
-  unfolding find ofKind _or_ end offset
+  unfolding find ofKind _or_ end
   first-or at c cs n ks u h = elim (true-or-false (among (c .0) ks)) [
     | inl e ↦ (let is : recordOf F ks s ≡ new at c = cc (rw e at (h .0)) in
         let same : recordIn F s ks ≡ c = ap₂ (λ (r : Record) (xs : List ℕ). (r .kind, xs)) is (sym (rw e at (h .1))) in
@@ -93,7 +93,7 @@ module _ (F : Format) (s : List ℕ) where
 
   split : (roles : List (List ℕ)) (cs : List (ℕ × List ℕ)) (at last : ℕ) → InOrder F last cs → Successive F last roles
       → AllHere at cs roles → Front F s at last roles cs
-  unfolding end offset
+  unfolding end
   split [] cs at last h u t =
       record { rest = cs; is = refl; order = rw add-zero h; ends = rw joined-none (sym (add-zero at)) }
   split (ks ∷ roles) [] at last h u t = none-found ks (t .0 .0)
@@ -137,8 +137,7 @@ module _ (F : Format) (s : List ℕ) (bytes : Bytes s) (roles : List (List ℕ))
 
   -- and so do its bytes
   pub front-bytes : s ≡ joined (map (recordIn F s) roles) ++ joined (front .rest)
-  front-bytes =
-      whole F s bytes stop ∙ ap joined (front .is) ∙ joined-append (map (recordIn F s) roles) (front .rest)
+  front-bytes = rw (← joined-append, ← front .is) (whole F s bytes stop)
 
   -- which end where the record of the last role does
   pub front-cut : take (lastEnd F s 0 roles) s ≡ joined (map (recordIn F s) roles)

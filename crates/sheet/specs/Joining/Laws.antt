@@ -16,14 +16,13 @@ use Rattle.sheet.specs.declared.record.Found.the-variants.{At, Missing}
 use Rattle.sheet.specs.declared.reader.Part.{Part}
 use Rattle.sheet.specs.Check.{refusal_with_if_, firstCause}
 use Rattle.sheet.specs.Check.Laws.{absent, else-clear, cause-none, cause-cons, cause-one}
-use Rattle.sheet.specs.Format.{Format, standard, header, recordAt, offset, end, kindOf, rank, Parsed, _before_}
-use Rattle.sheet.specs.Format.{parse}
+use Rattle.sheet.specs.Format.{Format, standard, header, recordAt, end, kindOf, rank, Parsed, _before_, parse}
 use Rattle.sheet.specs.Format.{parsed, ofKind, _or_, find}
 use Rattle.sheet.specs.Format.Laws.{parse-end, parse-as, parsed-is}
-use Rattle.sheet.specs.Reader.{isMissing, missing, sheetCauses, refusalOf, recordOr, recordOf}
-use Rattle.sheet.specs.Reader.{payloadPart, partWhen, part, partBytes, content, Reads}
-use Rattle.sheet.specs.Writing.{headerOf}
-use Rattle.sheet.specs.Writing.Laws.{header-size, record-size, header-reads}
+use Rattle.sheet.specs.Reader.{isMissing, missing, sheetCauses, refusalOf, recordOr, recordOf, payloadPart}
+use Rattle.sheet.specs.Reader.{partWhen, part, partBytes, content, Reads}
+use Rattle.sheet.specs.Writing.{headerOf, Puts}
+use Rattle.sheet.specs.Writing.Laws.{header-size, record-size, header-reads, puts-same, puts-append}
 use Rattle.sheet.specs.Joining.{bytesOf, joined, placed, InOrder, payloadOf, has, hasAll, recordIn, rolesOf}
 use Rattle.sheet.specs.Joining.{Successive, fresh}
 
@@ -33,12 +32,7 @@ pub joined-none : joined [] ≡ []
 unfolding joined
 joined-none = refl
 
--- the first record's bytes come first
-pub joined-cons : (r : ℕ × List ℕ) (rs : List (ℕ × List ℕ)) → joined (r ∷ rs) ≡ bytesOf r ++ joined rs
-unfolding joined
-joined-cons r rs = refl
-
--- those of one alone
+-- one alone has its own
 pub joined-one : (r : ℕ × List ℕ) → joined (r ∷ []) ≡ bytesOf r
 unfolding joined
 joined-one r = append-nil (bytesOf r)
@@ -54,6 +48,20 @@ pub joined-append : (rs qs : List (ℕ × List ℕ)) → joined (rs ++ qs) ≡ j
 unfolding joined
 joined-append [] qs = refl
 joined-append (r ∷ rs) qs = rw (joined-append rs qs, append-assoc (bytesOf r) (joined rs) (joined qs))
+
+-- ---- records put into a buffer, one behind the other; and where one ends
+pub puts-more : {d middle after : List ℕ} {at e f : ℕ} (r : ℕ × List ℕ) (rs : List (ℕ × List ℕ))
+    → Puts d at (bytesOf r) middle e → Puts middle e (joined rs) after f → Puts d at (joined (r ∷ rs)) after f
+unfolding joined
+puts-more r rs h k = puts-append (bytesOf r) (joined rs) h k
+
+pub puts-last : {d after : List ℕ} {at e : ℕ} (r : ℕ × List ℕ) → Puts d at (bytesOf r) after e
+    → Puts d at (joined (r ∷ [])) after e
+puts-last r h = puts-same (sym (joined-one r)) h
+
+pub record-ends : (r : ℕ × List ℕ) {d after : List ℕ} {at e : ℕ} → Puts d at (bytesOf r) after e
+    → e ≡ at + header + length (r .1)
+record-ends r h = omega (arith, h .ends, record-size (r .0) (r .1))
 
 -- ---- one record, the bytes before it and those after it
 module _ (pre : List ℕ) (r : ℕ × List ℕ) (more : List ℕ) (at : ℕ) (e : length pre ≡ at) where
@@ -100,7 +108,7 @@ module _ (F : Format) where
   -- ---- the parsing, behind any bytes
   parse-joined : (rs : List (ℕ × List ℕ)) (pre : List ℕ) (at last : ℕ) → length pre ≡ at → InOrder F last rs
       → parse F (pre ++ joined rs) at last ≡ record { records = placed at rs; stop = Clear }
-  unfolding joined end offset
+  unfolding joined end
   parse-joined [] pre at last e h = parse-end F (pre ++ []) at last (omega (arith, length-append pre []))
   parse-joined (r ∷ rs) pre at last e h =
       let s = pre ++ (bytesOf r ++ joined rs) in

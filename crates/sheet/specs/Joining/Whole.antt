@@ -11,7 +11,7 @@ use Rattle.sheet.specs.declared.check.Check.the-variants.{Clear}
 use Rattle.sheet.specs.declared.record.Record.{Record}
 use Rattle.sheet.specs.declared.record.Found.the-variants.{At}
 use Rattle.sheet.specs.Check.Laws.{clear-refused}
-use Rattle.sheet.specs.Format.{Format, header, recordAt, offset, end, kindOf, rank, parse, parsed}
+use Rattle.sheet.specs.Format.{Format, header, recordAt, end, kindOf, rank, parse, parsed}
 use Rattle.sheet.specs.Format.Laws.{end-after, clear-inside, clear-rank, parse-induction}
 use Rattle.sheet.specs.Reader.{payloadPart, partBytes}
 use Rattle.sheet.specs.Writing.{headerOf}
@@ -61,7 +61,7 @@ module _ (s : List ℕ) (bytes : Bytes s) where
 one-more : (F : Format) (s : List ℕ) (last : ℕ) (r : Record) (qs : List Record) → Headed s r → end r ≤ length s
     → last < rank (kindOf F (r .kind)) → Holds F s (end r) (rank (kindOf F (r .kind))) qs
     → Holds F s (r .start) last (r ∷ qs)
-unfolding joined partBytes end offset
+unfolding joined partBytes end
 one-more F s last r qs head inside above h =
     let body = r .start + header in
     let long : length (take (r .size) (drop body s)) ≡ r .size =

@@ -65,15 +65,15 @@ read-short ks s e = omega (arith, record-inside standard ks s, sheet-short stand
 
 -- ---- offsets in what reading gives
 offset-of : (s : List ℕ) (c : Check) (f : Found) → payloadPart f .from + payloadPart f .size ≤ length s → (i : ℕ)
-    → i < length (partBytes (partWhen c f) s) → offset (recordOr f) i < length s
-unfolding partBytes offset
+    → i < length (partBytes (partWhen c f) s) → offset (recordOr f .start) i < length s
+unfolding partBytes
 offset-of s Clear (At r) h i l = let k = simp length-take at l in omega arith
 offset-of s Clear Missing h i l = let z : ⊥ = omega arith in absurd z
 offset-of s (Refused n p) f h i l = let z : ⊥ = omega arith in absurd z
 
 -- they lie inside the sheet
 pub offset-inside : (F : Format) (ks s : List ℕ) (i : ℕ) → i < length (content F ks s)
-    → offset (recordOf F ks s) i < length s
+    → offset (recordOf F ks s .start) i < length s
 unfolding recordOf content part
 offset-inside F ks s i l =
     offset-of s (refusalOf F ks s) (find ks (parsed F s .records))

@@ -1,6 +1,6 @@
 -- The laws of checks 1 and 2 of a whole sheet and of the reader.
 use Prim.Native.Nat.{ℕ, _+_, _≤_, _<_}
-use mathlib.Core.Path.{_≡_, refl, sym, ap, ap₂, _∙_, subst}
+use mathlib.Core.Path.{_≡_, refl, sym, ap, _∙_}
 use mathlib.Core.Bool.{Bool, true, false, true≢false, _&&_}
 use mathlib.Core.Logic.{inl, inr}
 use mathlib.Core.List.{List, [], _∷_, _++_, map, map-append, List·Memᴰ, List·Memᴰ·head, List·Memᴰ·tail}
@@ -20,9 +20,8 @@ use Rattle.sheet.specs.declared.reader.Needs.{Needs}
 use Rattle.sheet.specs.Check.{refusal_with_if_, _else_, firstCause}
 use Rattle.sheet.specs.Check.Laws.{absent, present, clear-absent, else-clear, both-clear, cause-none, cause-cons}
 use Rattle.sheet.specs.Check.Laws.{cause-one, cause-two, cause-append}
-use Rattle.sheet.specs.Format.{Format, recordAt, offset, end, kindOf, rank, causeAt, Parsed, parsed, find}
-use Rattle.sheet.specs.Format.Laws.{clear-inside, clear-rank, parsed-is, parse-induction, none-found}
-use Rattle.sheet.specs.Format.Laws.{found-cons}
+use Rattle.sheet.specs.Format.{Format, recordAt, end, kindOf, rank, causeAt, Parsed, parsed, find}
+use Rattle.sheet.specs.Format.Laws.{clear-inside, clear-rank, parsed-is, parse-induction, none-found, found-cons}
 use Rattle.sheet.specs.Reader.{tooLong, isMissing, missing, sheetCauses, when, whenMissing, needed, refusalOf}
 use Rattle.sheet.specs.Reader.{recordOr, recordOf, payloadPart, partWhen, part, partBytes, content, seen, handed}
 use Rattle.sheet.specs.Reader.{Reads}
@@ -37,9 +36,7 @@ module _ (F : Format) where
   -- ---- the causes, written out
   pub refusal-is : (ks s : List ℕ) → refusalOf F ks s ≡ (tooLong F s else (parsed F s .stop else missing F s ks))
   unfolding refusalOf sheetCauses
-  refusal-is ks s =
-      cause-cons (tooLong F s) (parsed F s .stop ∷ missing F s ks ∷ [])
-      ∙ ap (λ (c : Check). tooLong F s else c) (cause-two (parsed F s .stop) (missing F s ks))
+  refusal-is ks s = rw (cause-cons, cause-two)
 
   pub when-missing : (s ks : List ℕ) (b : Bool)
       → (refusal 2 with length s if (b && isMissing (find ks (parsed F s .records)))) ≡ whenMissing F s ks b
@@ -52,27 +49,23 @@ module _ (F : Format) where
       ≡ (firstCause (sheetCauses F roles s) else firstCause (map (missing F s) more))
   unfolding sheetCauses
   causes-more roles more s =
-      ap (λ (cs : List Check). firstCause (tooLong F s ∷ parsed F s .stop ∷ cs)) (map-append (missing F s) roles more)
-      ∙ cause-append (tooLong F s ∷ parsed F s .stop ∷ map (missing F s) roles) (map (missing F s) more)
+      rw (map-append, ← cause-append (tooLong F s ∷ parsed F s .stop ∷ map (missing F s) roles) (map _ more))
 
   pub checks-are : (n : Needs) (s : List ℕ) → firstCause (sheetCauses F (needed F n) s)
       ≡ (refusalOf F (F .machine) s else (whenMissing F s (F .word) (n .word)
       else (whenMissing F s (F .sequence) (n .sequence) else whenMissing F s (F .answers) (n .answers))))
   unfolding refusalOf whenMissing
   checks-are n s =
-      let word = when (n .word) (F .word) in
-      let sequence = when (n .sequence) (F .sequence) in
-      let answers = when (n .answers) (F .answers) in
-      causes-more (F .machine ∷ []) (word ++ (sequence ++ answers)) s
-      ∙ ap (λ (c : Check). firstCause (sheetCauses F (F .machine ∷ []) s) else c)
-      (both word (sequence ++ answers)
-      ∙ ap (λ (c : Check). firstCause (map (missing F s) word) else c) (both sequence answers))
-    where
-      both : (roles more : List (List ℕ)) → firstCause (map (missing F s) (roles ++ more))
-          ≡ (firstCause (map (missing F s) roles) else firstCause (map (missing F s) more))
-      both roles more =
-          ap firstCause (map-append (missing F s) roles more)
-          ∙ cause-append (map (missing F s) roles) (map (missing F s) more)
+      let word = when (n .word) (F .word ∷ []) in
+      let sequence = when (n .sequence) (F .sequence ∷ []) in
+      let answers = when (n .answers) (F .answers ∷ []) in
+      rw (
+        causes-more (F .machine ∷ []) (word ++ (sequence ++ answers)) s,
+        map-append (missing F s) word (sequence ++ answers),
+        cause-append (map (missing F s) word),
+        map-append (missing F s) sequence answers,
+        cause-append (map (missing F s) sequence),
+      )
 
   -- a service that does not need the answers refuses no sheet that one that does takes
   pub needed-without-answers : (w q : Bool) (s : List ℕ)
@@ -82,12 +75,9 @@ module _ (F : Format) where
       let one = both-clear _ _ (sym (checks-are (record { word = w; sequence = q; answers = true }) s) ∙ e) in
       let two = both-clear _ _ (one .1) in
       let three = both-clear _ _ (two .1) in
-      let not-needed : whenMissing F s (F .answers) false ≡ Clear =
-      sym (when-missing s (F .answers) false) ∙ absent 2 (length s) refl in
-      checks-are (record { word = w; sequence = q; answers = false }) s
-      ∙ ap₂ _else_ (one .0)
-      (ap₂ _else_ (two .0) (ap₂ _else_ (three .0) not-needed ∙ else-clear Clear) ∙ else-clear Clear)
-      ∙ else-clear Clear
+      let not-needed : whenMissing F s (F .answers) false ≡ Clear = rw (← when-missing s (F .answers) false, absent) in
+      rw (checks-are (record { word = w; sequence = q; answers = false }) s, one .0, two .0, three .0, not-needed)
+      (simp else-clear)
 
   -- ---- what holds of a record that is found
   -- what holds of every record that has no cause 1 or 2 holds of the one that is found, and that one is of the kinds
@@ -99,7 +89,7 @@ module _ (F : Format) where
         (λ at last l q. none-found ks q)
         (λ at last n p l c q. none-found ks q)
         (λ at last l c h q. elim (found-cons ks (recordAt s at) _ q) [
-          | inl x ↦ (subst P (x .1) (all at last c), rw (← x .1) (x .0))
+          | inl x ↦ (rw (x .1) at (all at last c), rw (x .1) at (x .0))
           | inr x ↦ h x
         ])
         0 0 (ap (λ (w : Parsed). find ks (w .records)) (sym (parsed-is F s)) ∙ e)
@@ -125,19 +115,17 @@ module _ (F : Format) where
     | inl e ↦ present 2 (length s) e
     | inr e ↦ (let q = at-found _ e in
         let same = eqb-true _ k (sym (among-one _ k) ∙ found-kind s (k ∷ []) _ q) in
-        let known = subst (λ (x : ℕ). 0 < rank (kindOf F x)) same (found-known s (k ∷ []) _ q) in
-        absurd (omega (arith, known)))
+        absurd (omega (arith, rw same at (found-known s (k ∷ []) _ q))))
   ]
 
   pub unknown-refused : (s : List ℕ) (k : ℕ) → rank (kindOf F k) ≡ 0
       → refusalOf F (k ∷ []) s ≡ (tooLong F s else (parsed F s .stop else Refused 2 (length s)))
-  unknown-refused s k h =
-      refusal-is (k ∷ []) s ∙ ap (λ (c : Check). tooLong F s else (parsed F s .stop else c)) (unknown-missing s k h)
+  unknown-refused s k h = rw (refusal-is, unknown-missing s k h)
 
   -- ---- the part that reading gives
   pub payload-inside : (s ks : List ℕ) (f : Found) → f ≡ find ks (parsed F s .records)
       → payloadPart f .from + payloadPart f .size ≤ length s
-  unfolding end offset
+  unfolding end
   payload-inside s ks (At r) e = omega (arith, found-inside s ks r (sym e))
   payload-inside s ks Missing e = omega arith
 
@@ -202,11 +190,10 @@ module _ (F : Format) where
   -- reading what is needed is not refused
   pub needed-clear : (s : List ℕ) (roles : List (List ℕ)) (ks : List ℕ) → List·Memᴰ ks roles
       → firstCause (sheetCauses F roles s) ≡ Clear → refusalOf F ks s ≡ Clear
+  unfolding _else_
   needed-clear s roles ks m e =
       let c = causes-clear roles s e in
-      refusal-is ks s
-      ∙ ap₂ _else_ (c .0) (ap₂ _else_ (c .1) (clear-missing s roles ks m (c .2)) ∙ else-clear Clear)
-      ∙ else-clear Clear
+      rw (refusal-is, c .0, c .1) (clear-missing s roles ks m (c .2))
 
   -- and reading it is as `Reads` says
   pub clear-reads : (ks s : List ℕ) → refusalOf F ks s ≡ Clear → Reads F ks s
@@ -223,7 +210,7 @@ module _ (F : Format) where
       }
 
   -- ---- machine and word among the needed roles, for a service to cite of each that it reads
-  on-needed : {b : Bool} (ks : List ℕ) → b ≡ true → List·Memᴰ ks (when b ks)
+  on-needed : {b : Bool} (ks : List ℕ) → b ≡ true → List·Memᴰ ks (when b (ks ∷ []))
   on-needed ks e = rw e (List·Memᴰ·head refl)
 
   pub needed-machine : (n : Needs) → List·Memᴰ (F .machine) (needed F n)

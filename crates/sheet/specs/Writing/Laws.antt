@@ -1,16 +1,17 @@
--- The laws of putting bytes into a buffer, where all of them fit and where they do not, and of a
--- record's header: it reads back.
+-- The laws of putting bytes into a buffer, where all of them fit and where they do not, and one part after the other;
+-- and of a record's header: it reads back.
 use Prim.Native.Nat.{ℕ, _+_, _%_, _^_, _≤_, _<_}
-use mathlib.Core.Path.{_≡_, refl, sym, ap, ap₂, _∙_}
-use mathlib.Core.List.{List, _++_}
+use mathlib.Core.Path.{_≡_, refl, sym, ap, ap₂, subst, _∙_}
+use mathlib.Core.List.{List, [], _++_}
 use native.Mathlib.Omega.{arith}
-use native.Mathlib.Nat.{add-zero}
+use native.Mathlib.Nat.{add-zero, zero-add}
 use borrow.Author.Tests.{le-leb, lt-leb}
-use lib.ListN.{length, getD, length-append, List·getD-append}
-use lib.Seq.{paste, getD-append-add}
+use lib.ListN.{length, getD, drop, length-append, List·getD-append}
+use lib.Seq.{paste, paste-zero, length-paste, take-length, getD-append-add}
 use Rattle.facts.specs.Bytes.{two-bytes, four-bytes}
+use Rattle.facts.specs.Pasting.{paste-both}
 use Rattle.sheet.specs.Format.{header, recordAt}
-use Rattle.sheet.specs.Writing.{headerOf, recordBytes, putAt, putEnd}
+use Rattle.sheet.specs.Writing.{headerOf, recordBytes, putAt, putEnd, Puts, written}
 
 -- ---- putting
 module _ (before : List ℕ) (at : ℕ) (xs : List ℕ) where
@@ -29,6 +30,45 @@ module _ (before : List ℕ) (at : ℕ) (xs : List ℕ) where
   pub end-not : length before < at + length xs → putEnd before at xs ≡ at
   unfolding putEnd
   end-not l = rw (lt-leb (at + length xs) (length before) l)
+
+  -- what `put` does where they fit
+  pub put-puts : at + length xs ≤ length before → {after : List ℕ} {end : ℕ} → after ≡ putAt before at xs
+      → end ≡ putEnd before at xs → Puts before at xs after end
+  put-puts l e f = record { ends = f ∙ end-fits l; inside = omega (arith, f, end-fits l); written = e ∙ put-fits l }
+
+-- ---- parts, one after the other
+pub puts-none : (before : List ℕ) (at : ℕ) → at ≤ length before → Puts before at [] before at
+puts-none before at l = record { ends = omega arith; inside = l; written = paste-zero before at [] }
+
+pub puts-long : {before : List ℕ} {at : ℕ} (xs : List ℕ) {after : List ℕ} {end : ℕ} → Puts before at xs after end
+    → length after ≡ length before
+puts-long {before} {at} xs h =
+    ap length (h .written) ∙ length-paste before at xs (length xs) (omega (arith, h .ends, h .inside)) (omega arith)
+
+-- the same bytes
+pub puts-same : {before after xs ys : List ℕ} {at end : ℕ} → xs ≡ ys → Puts before at xs after end
+    → Puts before at ys after end
+puts-same {before} {after} {xs} {ys} {at} {end} e h = subst (λ (l : List ℕ). Puts before at l after end) e h
+
+-- two parts
+pub puts-append : {before middle after : List ℕ} {at e f : ℕ} (xs ys : List ℕ) → Puts before at xs middle e
+    → Puts middle e ys after f → Puts before at (xs ++ ys) after f
+puts-append {before} {middle} {after} {at} {e} {f} xs ys a b = record {
+  ends = omega (arith, a .ends, b .ends, length-append xs ys);
+  inside = omega (arith, b .inside, puts-long xs a);
+  written =
+      b .written
+      ∙ ap₂ (λ (d : List ℕ) (n : ℕ). paste d n ys (length ys)) (a .written) (a .ends)
+      ∙ paste-both before at xs ys (omega (arith, a .ends, a .inside));
+}
+
+-- at the start
+pub paste-start : (xs before : List ℕ) → paste before 0 xs (length xs) ≡ written xs before
+paste-start xs before = ap₂ _++_ (take-length xs) (ap (λ (n : ℕ). drop n before) (zero-add (length xs)))
+
+pub puts-written : {before after : List ℕ} {end : ℕ} (xs : List ℕ) → Puts before 0 xs after end
+    → after ≡ written xs before
+puts-written {before} xs h = h .written ∙ paste-start xs before
 
 -- ---- the header
 pub header-size : (kind size : ℕ) → length (headerOf kind size) ≡ header

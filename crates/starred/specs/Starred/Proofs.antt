@@ -4,34 +4,34 @@
 use Prim.Native.Nat.{ℕ, _≤_}
 use mathlib.Core.Path.{_≡_, refl, ap, _∙_}
 use mathlib.Core.List.{List, [], _∷_}
-use borrow.Author.Tests.{le-ltb}
 use Rattle.facts.specs.CommonPrefix.{agreed}
 use Rattle.sheet.specs.declared.check.Check.{Check}
 use Rattle.sheet.specs.declared.check.Check.the-variants.{Clear, Refused}
 use Rattle.sheet.specs.Check.{refusal_with_if_, _else_, firstCause, first}
-use Rattle.sheet.specs.Check.Laws.{absent, else-clear}
-use Rattle.sheet.specs.Format.{recordAt, offset, end, kindOf, cause1, cause2, causeAt, parseStep, parseFrom, parse}
+use Rattle.sheet.specs.Check.Laws.{else-clear, else-end}
+use Rattle.sheet.specs.Format.{recordAt, end, kindOf, cause1, cause2, causeAt, parseStep, parseFrom, parse}
 use Rattle.sheet.specs.Format.{parsed, ofKind, _or_, find}
 use Rattle.sheet.specs.Reader.{sheetCauses, refusalOf, recordOf, part, partBytes, content, wordIn}
 use Rattle.sheet.specs.Reader.{sequenceIn, answersIn}
 use Rattle.sheet.specs.Writing.{headerOf}
+use Rattle.sheet.specs.Promise.{cause9}
+use Rattle.sheet.specs.Promise.Laws.{room-clear, by-cause, outcome-writing}
 use Rattle.sheet.specs.Joining.{joined}
 use Rattle.machine.specs.Machine.{Mealy, noAnswer, machineOf, run, answers, stateAt}
 use Rattle.machine.specs.Causes.{cause3, cause4, cause12, commandsCause, cause6, machineIn, tableCauses}
-use Rattle.machine.specs.Causes.{machineCauses, wordCauses, loadCauses}
+use Rattle.machine.specs.Causes.{cause10, wordCauses, sequenceCauses, machineCauses, loadCauses}
 use Rattle.certify.specs.declared.answer.Answer.{Answer}
 use Rattle.certify.specs.declared.answer.Answer.the-variants.{Certified}
 use Rattle.certify.specs.Marks.Twin.{twinTable, singleTable, twin as twinMachine, single as singleMachine}
-use Rattle.certify.specs.Certification.{cause9, sequenceCauses, certifyCauses, outcome, certification}
+use Rattle.certify.specs.Certification.{markingCauses, certifyCauses, outcome, certification}
 use Rattle.certify.specs.Certification.Laws.{certification-clear, certification-refused}
 use Rattle.certify.specs.Certification.Twin as outcomes
-use Rattle.build.specs.Building.{connectedCauses, buildCauses}
-use Rattle.build.specs.Building.Service.{building-refused}
+use Rattle.build.specs.Building.{connectedCauses}
 use Rattle.build.specs.Building.Twin.{unitSheet}
 use Rattle.build.specs.Building.Twin as buildings
 use Rattle.judge.specs.declared.answer.Answer.{Answer as Judgement}
 use Rattle.judge.specs.declared.answer.Answer.the-variants.{Pass, Wrong, Unfinished}
-use Rattle.judge.specs.Judging.{cause10, judgeCauses, difference, resultAt, verdict, judgement}
+use Rattle.judge.specs.Judging.{judgeCauses, difference, resultAt, verdict, judgement}
 use Rattle.judge.specs.Judging.Laws.{certifying-clear, judgement-refused, judgement-verdict}
 use Rattle.report.specs.Lines.{judgeLine}
 use Rattle.report.specs.Lines.Examples as lines
@@ -68,6 +68,10 @@ judged-as : {room : ℕ} {s ys : List ℕ} → firstCause (judgeCauses room s) �
     → wordIn s ≡ 0 ∷ [] → sequenceIn s ≡ builtTwin → answersIn s ≡ ys → Judged room s ys
 judged-as c m w xs ys = record { clear = c; machine = m; word = w; sequence = xs; answers = ys }
 
+-- the cause 9 that is left where nothing else is present is absent in a room that is large enough
+nine-clear : (room size : ℕ) → size ≤ room → (cause9 room size else Clear) ≡ Clear
+nine-clear room size l = else-end _ ∙ room-clear room size l
+
 -- ---- what computes from the bytes of the sheets, all of it at once
 abbrev Reads : ℕ → List ℕ → Type 0
 Reads size xs = (room : ℕ) → size ≤ room → Sheet room (twinWith xs) twinMachine (0 ∷ []) xs
@@ -93,43 +97,43 @@ record Computed : Type 0 where
   too-many : (room : ℕ) → 13 ≤ room → (a b c d e f g h i j k l m : ℕ)
       → firstCause (judgeCauses room (twinAnswered (a ∷ b ∷ c ∷ d ∷ e ∷ f ∷ g ∷ h ∷ i ∷ j ∷ k ∷ l ∷ m ∷ [])))
       ≡ Refused 10 41
-  six-built : (room : ℕ) → firstCause (buildCauses room (unitSheet twinTable (1 ∷ []))) ≡ Refused 6 1
+  six-built : firstCause (connectedCauses (unitSheet twinTable (1 ∷ []))) ≡ Refused 6 1
   six-certified : (room : ℕ)
       → firstCause (certifyCauses room (sequenceSheet twinTable (1 ∷ []) builtTwin)) ≡ Refused 6 1
   six-judged : (room : ℕ)
       → firstCause (judgeCauses room (answersSheet twinTable (1 ∷ []) builtTwin (0 ∷ []))) ≡ Refused 6 1
-  four-built : (room command : ℕ) → firstCause (buildCauses room (unitSheet noStateTable (command ∷ []))) ≡ Refused 4 8
+  four-built : (command : ℕ) → firstCause (connectedCauses (unitSheet noStateTable (command ∷ []))) ≡ Refused 4 8
   four-certified : (room command : ℕ)
       → firstCause (certifyCauses room (sequenceSheet noStateTable (command ∷ []) builtTwin)) ≡ Refused 4 8
   four-judged : (room command answer : ℕ)
       → firstCause (judgeCauses room (answersSheet noStateTable (command ∷ []) builtTwin (answer ∷ []))) ≡ Refused 4 8
 
 computed : Computed
-unfolding twinMachine singleMachine joined headerOf refusal_with_if_ _else_ firstCause first recordAt offset end kindOf
+unfolding twinMachine singleMachine joined headerOf refusal_with_if_ _else_ firstCause first recordAt end kindOf
     cause1 cause2 causeAt parseStep parseFrom parse parsed ofKind _or_ find sheetCauses refusalOf recordOf part
     partBytes content machineOf run answers cause3 cause4 cause12 commandsCause cause6 machineIn tableCauses
-    machineCauses wordCauses loadCauses connectedCauses buildCauses cause9 sequenceCauses cause10 judgeCauses verdict
+    machineCauses wordCauses sequenceCauses loadCauses connectedCauses markingCauses cause10 judgeCauses verdict
     difference resultAt agreed stateAt
 computed = record {
-  built = λ room l. reads-as (buildings.nine-clear room 13 l) refl refl refl;
-  each-other = λ room l. reads-as (buildings.nine-clear room 7 l) refl refl refl;
-  longer = λ room l. reads-as (buildings.nine-clear room 8 l) refl refl refl;
-  one = λ room l. reads-as (buildings.nine-clear room 2 l) refl refl refl;
-  late = λ room l. reads-as (buildings.nine-clear room 4 l) refl refl refl;
-  three = λ room l. reads-as (buildings.nine-clear room 4 l) refl refl refl;
+  built = λ room l. reads-as (nine-clear room 13 l) refl refl refl;
+  each-other = λ room l. reads-as (nine-clear room 7 l) refl refl refl;
+  longer = λ room l. reads-as (nine-clear room 8 l) refl refl refl;
+  one = λ room l. reads-as (nine-clear room 2 l) refl refl refl;
+  late = λ room l. reads-as (nine-clear room 4 l) refl refl refl;
+  three = λ room l. reads-as (nine-clear room 4 l) refl refl refl;
   pair = λ answer room some l.
-      reads-as (buildings.twelve-clear answer 9 some (buildings.nine-clear room 3 l)) refl refl refl;
+      reads-as (buildings.twelve-clear answer 9 some (nine-clear room 3 l)) refl refl refl;
   short = λ answer room some l.
-      reads-as (buildings.twelve-clear answer 9 some (buildings.nine-clear room 2 l)) refl refl refl;
-  passes = (λ room l. judged-as (buildings.nine-clear room 13 l) refl refl refl refl, refl);
-  wrong-at = (λ room l. judged-as (buildings.nine-clear room 13 l) refl refl refl refl, refl);
-  unfinished-run = (λ room l. judged-as (buildings.nine-clear room 13 l) refl refl refl refl, refl);
+      reads-as (buildings.twelve-clear answer 9 some (nine-clear room 2 l)) refl refl refl;
+  passes = (λ room l. judged-as (nine-clear room 13 l) refl refl refl refl, refl);
+  wrong-at = (λ room l. judged-as (nine-clear room 13 l) refl refl refl refl, refl);
+  unfinished-run = (λ room l. judged-as (nine-clear room 13 l) refl refl refl refl, refl);
   too-many = λ room r a b c d e f g h i j k l m.
-      ap (λ (x : Check). x else Refused 10 41) (absent 9 13 (le-ltb room 13 r)) ∙ else-clear (Refused 10 41);
-  six-built = λ room. refl;
+      ap (λ (x : Check). x else Refused 10 41) (room-clear room 13 r) ∙ else-clear (Refused 10 41);
+  six-built = refl;
   six-certified = λ room. refl;
   six-judged = λ room. refl;
-  four-built = λ room command. refl;
+  four-built = λ command. refl;
   four-certified = λ room command. refl;
   four-judged = λ room command answer. refl;
 }
@@ -164,10 +168,10 @@ starred = record {
   unfinished-run = line-judged (computed .unfinished-run) lines.unfinished;
   too-many = λ room r a b c d e f g h i j k l m.
       judgement-refused room _ (computed .too-many room r a b c d e f g h i j k l m);
-  no-separation-built = λ room. building-refused room _ (computed .six-built room);
+  no-separation-built = λ room. outcome-writing (by-cause (computed .six-built));
   no-separation-certified = λ room. certification-refused room _ (computed .six-certified room);
   no-separation-judged = λ room. judgement-refused room _ (computed .six-judged room);
-  no-state-built = λ room command. building-refused room _ (computed .four-built room command);
+  no-state-built = λ room command. outcome-writing (by-cause (computed .four-built command));
   no-state-certified = λ room command. certification-refused room _ (computed .four-certified room command);
   no-state-judged = λ room command answer. judgement-refused room _ (computed .four-judged room command answer);
   not-connected = buildings.disconnected-building;

@@ -1,12 +1,12 @@
 -- The laws of the search: what `search` computes is the word of §14.1, and it is there wherever a word of 1 to 6
 -- commands separates.
-use Prim.Native.Nat.{ℕ, zero, suc, _≤_, _<_}
+use Prim.Native.Nat.{ℕ, zero, suc, _-_, _≤_, _<_}
 use mathlib.Core.Path.{_≡_, ap, _∙_}
 use mathlib.Core.List.{List, [], _∷_}
 use mathlib.Core.Option.{none, some}
 use native.Mathlib.Omega.{arith}
 use lib.ListN.{length, getD}
-use Rattle.facts.specs.ByteOrder.{Before, first-one}
+use Rattle.facts.specs.ByteOrder.{first-one}
 use Rattle.facts.specs.FirstOf.{Some, some-none, nothing, value, seen, first-some, some-first}
 use Rattle.facts.specs.FirstString.{Accepted, string-length, string-accepted, accepted-some, string-first}
 use Rattle.machine.specs.Machine.{Mealy, Proper}
@@ -31,52 +31,37 @@ module _ (M : Mealy) (p : Proper M) where
       apart-accepted M p w (allPairs (M .n)) (all-states M p) (h .commands .low) (separates-apart M p w (h .separates))
 
   -- ---- words of one length
-  module _ (m : ℕ) {t : List ℕ} (e : wordFrom (M .k) (M .next) (M .answer) m (allPairs (M .n)) ≡ some t) where
-    word-length : length t ≡ m
-    unfolding wordFrom
-    word-length = string-length (M .k) unmet (after (M .next) (M .answer)) isEmpty m (allPairs (M .n)) e
-
-    word-accepted : Accepts t
-    unfolding wordFrom
-    word-accepted = string-accepted (M .k) unmet (after (M .next) (M .answer)) isEmpty m (allPairs (M .n)) e
-
-    word-first : (u : List ℕ) → Accepts u → length u ≡ m → Before u t → ⊥
-    unfolding wordFrom
-    word-first = string-first (M .k) unmet (after (M .next) (M .answer)) isEmpty m (allPairs (M .n)) e
-
-  some-word : (u : List ℕ) → Accepts u → Some (wordFrom (M .k) (M .next) (M .answer) (length u) (allPairs (M .n)))
+  -- an eligible word has one of its length
+  some-word : (u : List ℕ) → Eligible M u
+      → Some (wordFrom (M .k) (M .next) (M .answer) (suc (length u - 1)) (allPairs (M .n)))
   unfolding wordFrom
-  some-word u a = accepted-some (M .k) unmet (after (M .next) (M .answer)) isEmpty u (allPairs (M .n)) a
+  some-word u h =
+      let long : suc (length u - 1) ≡ length u = omega (arith, h .commands .some) in
+      rw long (accepted-some _ _ _ _ u _ (eligible-accepted u h))
 
   -- ---- the search
   -- where a word is eligible one is found
   pub eligible-some : (u : List ℕ) → Eligible M u → Some (search M)
   unfolding search
-  eligible-some [] h = let z : ⊥ = omega (arith, h .commands .some) in absurd z
-  eligible-some (c ∷ u) h =
-      some-first mostSought (λ m. wordFrom (M .k) (M .next) (M .answer) (suc m) (allPairs (M .n))) (length u)
-      (omega (arith, h .commands .few)) (some-word (c ∷ u) (eligible-accepted (c ∷ u) h) .1)
+  eligible-some u h =
+      some-first mostSought (λ m. wordFrom (M .k) (M .next) (M .answer) (suc m) (allPairs (M .n))) (length u - 1)
+      (omega (arith, h .commands .some, h .commands .few)) (some-word u h .1)
 
   -- what is found is the word that is sought
   pub search-is : {w : List ℕ} → search M ≡ some w → IsSought M w
-  unfolding search
+  unfolding search wordFrom
   search-is {w} e =
       let l = first-some mostSought (λ m. wordFrom (M .k) (M .next) (M .answer) (suc m) (allPairs (M .n))) e in
-      let long : length w ≡ suc (l .m) = word-length (suc (l .m)) (l .found) in
+      let long : length w ≡ suc (l .m) = string-length _ _ _ _ (suc (l .m)) _ (l .found) in
       record {
-        has = accepted-eligible w (omega arith) (omega (arith, l .low)) (word-accepted (suc (l .m)) (l .found));
-        shortest = λ u h. go u (l .m) long (l .passed) h;
-        first = λ u h k. word-first (suc (l .m)) (l .found) u (eligible-accepted u h) (k ∙ long);
+        has =
+            accepted-eligible w (omega arith) (omega (arith, l .low))
+            (string-accepted _ _ _ _ (suc (l .m)) _ (l .found));
+        shortest = λ u h.
+            let not-less : length u - 1 < l .m → ⊥ = λ k. some-none (some-word u h .1) (l .passed (length u - 1) k) in
+            omega (arith, h .commands .some);
+        first = λ u h k. string-first _ _ _ _ (suc (l .m)) _ (l .found) u (eligible-accepted u h) (k ∙ long);
       }
-    where
-      go : (u : List ℕ) (n : ℕ) → length w ≡ suc n
-          → ((i : ℕ) → i < n → wordFrom (M .k) (M .next) (M .answer) (suc i) (allPairs (M .n)) ≡ none) → Eligible M u
-          → length w ≤ length u
-      go [] n long passed h = let z : ⊥ = omega (arith, h .commands .some) in absurd z
-      go (c ∷ u) n long passed h =
-          let not-less : length u < n → ⊥ =
-          λ k. some-none (some-word (c ∷ u) (eligible-accepted (c ∷ u) h) .1) (passed (length u) k) in
-          omega arith
 
   -- and the word that is sought is the one that is found
   pub is-search : {w : List ℕ} → IsSought M w → search M ≡ some w

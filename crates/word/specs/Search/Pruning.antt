@@ -1,6 +1,6 @@
 -- The law by which the search leaves a beginning (§14.1), in the words of the specification and as the search tests it.
 use Prim.Native.Nat.{ℕ, _<_}
-use mathlib.Core.Path.{_≡_, sym, ap, ap₂, _∙_}
+use mathlib.Core.Path.{_≡_, sym, _∙_}
 use mathlib.Core.Bool.{true, false, true≢false}
 use mathlib.Core.List.{List, [], _∷_, _++_}
 use Rattle.facts.specs.Lists.{Below, below-head, below-tail, Each}
@@ -14,11 +14,7 @@ use Rattle.word.specs.Search.Pairs.{all-states, separates-apart}
 pub met-never : (M : Mealy) (u v : List ℕ) (i j : ℕ) → i < M .n → j < M .n → (i ≡ j → ⊥) → answers M i u ≡ answers M j u
     → run M i u ≡ run M j u → Separates M (u ++ v) → ⊥
 met-never M u v i j il jl different alike met h =
-    different
-    (h i j il jl
-    (answers-append M i u v
-    ∙ ap₂ _++_ alike (ap (λ (s : ℕ). answers M s v) met)
-    ∙ sym (answers-append M j u v)))
+    different (h i j il jl (rw (answers-append M i, answers-append M j, alike, met)))
 
 -- the pairs that a beginning leaves alike, each where the beginning leads it
 unfoldable pub left : Mealy → List ℕ → List ℕ → List ℕ

@@ -1,7 +1,6 @@
 -- The laws of the search as a service: what each answer says, and that the word gives no cause 5 and no cause 6.
 use Prim.Native.Nat.{ℕ}
 use mathlib.Core.Path.{_≡_, refl, ap, _∙_}
-use mathlib.Core.Bool.{true}
 use mathlib.Core.List.{List, [], _∷_}
 use mathlib.Core.Option.{Option, none, some, mem-unique}
 use native.Mathlib.Omega.{arith}
@@ -10,47 +9,37 @@ use lib.Seq.{take-at}
 use Rattle.facts.specs.FirstOf.{some-none, Seen, nothing, value, seen}
 use Rattle.sheet.specs.declared.check.Check.{Check}
 use Rattle.sheet.specs.declared.check.Check.the-variants.{Clear, Refused}
-use Rattle.sheet.specs.Check.{_else_, firstCause, refusedOr}
-use Rattle.sheet.specs.Check.Laws.{else-end}
-use Rattle.sheet.specs.Reader.{machinePayload, wordIn}
+use Rattle.sheet.specs.Check.{firstCause}
+use Rattle.sheet.specs.Reader.{machinePayload, wordIn, wordRecord}
 use Rattle.machine.specs.Machine.{Mealy, Proper, Distinguishes}
-use Rattle.machine.specs.Causes.{machineIn, wordCauses, loadCauses}
-use Rattle.machine.specs.Causes.Lists.{load-causes-are, word-causes-none, machine-proper, machine-same}
-use Rattle.machine.specs.Causes.Lists.{distinguishes-clear}
+use Rattle.machine.specs.Causes.{machineIn, wordCausesIn}
+use Rattle.machine.specs.Causes.Lists.{distinguishes-clear, machine-same, load-proper}
 use Rattle.word.specs.declared.answer.Answer.{Answer}
 use Rattle.word.specs.declared.answer.Answer.the-variants.{Found, Nothing, Refused as RefusedAnswer}
 use Rattle.word.specs.Search.{Eligible, IsSought, search}
 use Rattle.word.specs.Search.Laws.{search-is, is-search, none-eligible, eligible-none, single-word}
 use Rattle.word.specs.Service.{searchNeeds, searchCauses, answerOf, searching, wordFound, padded, wordBeside}
 
--- ---- causes
--- where the word is not needed the causes of loading are those of the machine
-pub search-causes-are : (s : List ℕ) → firstCause (loadCauses searchNeeds s) ≡ firstCause (searchCauses s)
-search-causes-are s =
-    load-causes-are searchNeeds s
-    ∙ ap (λ (c : Check). firstCause (searchCauses s) else c) (word-causes-none s)
-    ∙ else-end (firstCause (searchCauses s))
-
 -- ---- the answer and the array, by the first cause
 module _ (s : List ℕ) where
   pub searching-refused : {a b : ℕ} → firstCause (searchCauses s) ≡ Refused a b → searching s ≡ RefusedAnswer a b
   unfolding searching
-  searching-refused e = ap (λ (c : Check). refusedOr RefusedAnswer c (answerOf (search (machineIn s)))) e
+  searching-refused e = rw e
 
   pub searching-clear : firstCause (searchCauses s) ≡ Clear → searching s ≡ answerOf (search (machineIn s))
   unfolding searching
-  searching-clear e = ap (λ (c : Check). refusedOr RefusedAnswer c (answerOf (search (machineIn s)))) e
+  searching-clear e = rw e
 
   pub found-refused : {a b : ℕ} → firstCause (searchCauses s) ≡ Refused a b → wordFound s ≡ none
   unfolding wordFound
-  found-refused e = ap (λ (c : Check). refusedOr (λ number place. none) c (search (machineIn s))) e
+  found-refused e = rw e
 
   pub found-clear : firstCause (searchCauses s) ≡ Clear → wordFound s ≡ search (machineIn s)
   unfolding wordFound
-  found-clear e = ap (λ (c : Check). refusedOr (λ number place. none) c (search (machineIn s))) e
+  found-clear e = rw e
 
   pub searched-proper : firstCause (searchCauses s) ≡ Clear → Proper (machineIn s)
-  searched-proper e = machine-proper searchNeeds s e
+  searched-proper e = load-proper searchNeeds s e
 
 -- ---- what each answer says
 -- what an answer to a sheet says: a cause of the machine is the first; or none is present, and the word is the one
@@ -71,11 +60,10 @@ searching-outcome s = go (firstCause (searchCauses s)) refl (seen (search (machi
     go : (c : Check) → firstCause (searchCauses s) ≡ c → Seen (search (machineIn s)) → Outcome s (searching s)
     go (Refused number place) c o = refused number place c (searching-refused s c) (found-refused s c)
     go Clear c (nothing e) =
-        missing c (none-eligible (machineIn s) (searched-proper s c) e) (searching-clear s c ∙ ap answerOf e)
+        missing c (none-eligible (machineIn s) (searched-proper s c) e) (rw (searching-clear s c, e))
         (found-clear s c ∙ e)
     go Clear c (value w e) =
-        found w c (search-is (machineIn s) (searched-proper s c) e) (searching-clear s c ∙ ap answerOf e)
-        (found-clear s c ∙ e)
+        found w c (search-is (machineIn s) (searched-proper s c) e) (rw (searching-clear s c, e)) (found-clear s c ∙ e)
 
 -- where no cause of the machine is present, the word that is sought is found, and nothing where no word is eligible
 module _ (s : List ℕ) (c : firstCause (searchCauses s) ≡ Clear) where
@@ -126,11 +114,10 @@ eligible-distinguishes M h = record {
 
 -- a sheet with the same payload of the machine, and with the word that was found, has no cause 5 and no cause 6
 pub found-passes : (s t : List ℕ) {w : List ℕ} → wordFound s ≡ some w → machinePayload t ≡ machinePayload s
-    → wordIn t ≡ w
-    → firstCause (wordCauses true t) ≡ Clear
+    → wordIn t ≡ w → firstCause (wordCausesIn t) ≡ Clear
 found-passes s t e one two = elim (searching-outcome s) [
   | refused number place c a o ↦ absurd (some-none e o)
   | missing c h a o ↦ absurd (some-none e o)
-  | found v c h a o ↦ distinguishes-clear t (rw (machine-same s t one, two, ← mem-unique o e)
-      (eligible-distinguishes (machineIn s) (h .has)))
+  | found v c h a o ↦ distinguishes-clear (machineIn t) (wordRecord t .start) (wordIn t)
+      (rw (machine-same s t one, two, ← mem-unique o e) (eligible-distinguishes (machineIn s) (h .has)))
 ]

@@ -2,7 +2,9 @@
 use denote.Ref.{now}
 use Rattle.sheet.specs.Check.Laws.{clear-refused}
 use Rattle.sheet.specs.Reader.Laws.{handed-content}
-use Rattle.build.proofs.TableLoading.{early-connected, proper, eight-connected}
+use Rattle.machine.specs.Loading.Laws.{loaded-proper}
+use Rattle.build.specs.Building.{buildNeeds}
+use Rattle.build.proofs.TableLoading.{early-connected, eight-connected}
 use borrow.Author.Needs.{needs}
 use Rattle.build.proofs.loading.load_table.Statement.{statement}
 use Rattle.build.proofs.loading.load_table.Tie as tie
@@ -18,8 +20,7 @@ returns : tie.Need-returns
 returns c =
     let load = c .before .before .before in
     let start = load .before .before .before in (
-      early-connected (now (start .args .sheet)) (load .load-sheet .result) (load .load-sheet .ensures)
-          (c .enum-told .given .1),
+      early-connected (now (start .args .sheet)) (load .load-sheet .ensures) (c .enum-told .given .1),
       λ e. clear-refused e (c .enum-told .given .1),
     )
 
@@ -34,8 +35,7 @@ connect-requires c κs =
     let early = c .before .before in
     let load = early .before .before .before in
     let start = load .before .before .before in (
-      proper (now (start .args .sheet)) (load .load-sheet .result) (load .load-sheet .ensures)
-          (early .enum-told2 .given .1),
+      loaded-proper buildNeeds (now (start .args .sheet)) (load .load-sheet .ensures) (early .enum-told2 .given .1),
       start .pre,
     )
 
@@ -50,8 +50,8 @@ returns-2 c =
     let load = early .before .before .before in
     let start = load .before .before .before in
     let same = handed-content standard _ (start .args .sheet) (word .read .result) (word .read .ensures) in (
-      eight-connected (now (start .args .sheet)) (load .load-sheet .result) (load .load-sheet .ensures)
-          (early .enum-told2 .given .1) same (table .connect .ensures .0),
+      eight-connected (now (start .args .sheet)) (load .load-sheet .ensures) (early .enum-told2 .given .1) same
+          (table .connect .ensures .0),
       λ e. rw (← same) (table .connect .ensures .1 e),
     )
 

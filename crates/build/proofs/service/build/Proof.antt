@@ -50,8 +50,8 @@ write-sequence-requires c κs =
     (handed-content standard _ (start .args .sheet) (word .read .result) (word .read .ensures)) _
     (load .load-table .ensures .1 (early .enum-told .given .1))
 
-refuse-requires : tie.Need-refuse-requires
-refuse-requires c κs = search needs
+room-check-requires : tie.Need-room-check-requires
+room-check-requires c κs = search needs
 
 enum-known-nine : tie.Need-enum-known-nine
 enum-known-nine c = search needs
@@ -74,7 +74,7 @@ returns-2 c =
     (counted .write-sequence .ensures .ends)
     (front-none (counted .write-sequence .last .1 .1 .1 .0) (now (start .args .buffer))
     (counted .write-sequence .kept .1 .1 .1 .0))
-    (check .refuse .ensures) (refused .nine .given .1)
+    (check .room-check .ensures) (refused .nine .given .1)
 
 enum-told-2 : tie.Need-enum-told-2
 enum-told-2 c = search needs
@@ -113,7 +113,7 @@ returns-3 c =
     (counted .write-sequence .ensures .ends)
     (front-none (counted .write-sequence .last .1 .1 .1 .0) (now (start .args .buffer))
     (counted .write-sequence .kept .1 .1 .1 .0))
-    (check .refuse .ensures) (nine .enum-told2 .given .1) (written .write-sequence2 .ensures)
+    (check .room-check .ensures) (nine .enum-told2 .given .1) (written .write-sequence2 .ensures)
 
 pub build-spec : {M : Type 1} → statement M
 build-spec =
@@ -129,7 +129,7 @@ build-spec =
     slice-relend-prefix-write-sequence
     slice-aggregate-write-sequence-2
     write-sequence-requires
-    refuse-requires
+    room-check-requires
     enum-known-nine
     same-length
     returns-2

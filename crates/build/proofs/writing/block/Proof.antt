@@ -2,8 +2,8 @@
 -- Assumes nothing.
 use mathlib.Core.Path.{refl}
 use denote.Ref.{now}
-use Rattle.build.proofs.Writes.{writes-append}
-use Rattle.build.proofs.Rows.{writes-row}
+use Rattle.build.proofs.Adds.{adds-append}
+use Rattle.build.proofs.Rows.{adds-row}
 use borrow.Author.Needs.{needs}
 use Rattle.build.proofs.writing.block.Statement.{statement}
 use Rattle.build.proofs.writing.block.Tie as tie
@@ -45,9 +45,9 @@ returns : tie.Need-returns
 returns c =
     let start =
     c .before .before .before .before .before .before .before .before .before .before .before .before .before in
-    writes-append (now (start .args .w)) _
+    adds-append (now (start .args .w)) _
     (c .before .before .before .before .before .before .before .before .put .ensures)
-    (writes-row (now (start .args .rows)) (start .args .s) refl (c .before .before .put2 .ensures))
+    (adds-row (now (start .args .rows)) (start .args .s) refl (c .before .before .put2 .ensures))
 
 pub block-spec : {M : Type 1} → statement M
 block-spec =

@@ -1,9 +1,9 @@
 -- `build::writing::put` meets its contract: where the commands fit, `sheet::put` has put them.
 -- Assumes nothing.
-use mathlib.Core.Path.{refl, _∙_}
+use mathlib.Core.Path.{refl, sym}
 use denote.Ref.{now}
 use borrow.Author.Needs.{needs}
-use Rattle.sheet.specs.Writing.Laws.{put-fits}
+use Rattle.sheet.specs.Writing.Laws.{end-fits, put-puts}
 use Rattle.build.proofs.writing.put.Statement.{statement}
 use Rattle.build.proofs.writing.put.Tie as tie
 
@@ -21,7 +21,9 @@ returns c =
     let args = c .before .before .before .before .before .before .args in
     record {
       ends = refl;
-      written = λ l. c .before .before .put .ensures .0 ∙ put-fits (now (args .buffer)) (args .at) (now (args .xs)) l;
+      puts = λ l.
+          put-puts (now (args .buffer)) (args .at) (now (args .xs)) l (c .before .before .put .ensures .0)
+          (sym (end-fits (now (args .buffer)) (args .at) (now (args .xs)) l));
     }
 
 pub put-spec : {M : Type 1} → statement M

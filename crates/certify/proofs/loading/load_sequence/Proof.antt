@@ -1,9 +1,18 @@
--- `certify::loading::load_sequence` meets its contract: causes 7 and 9 behind the earlier ones, and what loading shows.
+-- `certify::loading::load_sequence` meets its contract: cause 9 behind the earlier ones, and what loading shows.
 -- Assumes nothing.
 use borrow.Author.Needs.{needs}
+use Prim.Native.Nat.{ℕ}
+use mathlib.Core.Path.{ap, _∙_}
+use mathlib.Core.List.{List}
+use Rattle.sheet.specs.declared.check.Check.{Check}
 use denote.Ref.{now}
 use Rattle.sheet.specs.Reader.Laws.{handed-content}
-use Rattle.certify.proofs.SequenceLoading.{sequence-loaded}
+use Rattle.sheet.specs.Check.{_else_}
+use Rattle.sheet.specs.Reader.{sequenceIn}
+use Rattle.sheet.specs.Promise.{cause9}
+use Rattle.machine.specs.Loading.Laws.{loaded-more}
+use Rattle.certify.specs.Certification.{markBytes}
+use Rattle.certify.specs.Certification.Laws.{marking-causes-are}
 use Rattle.certify.proofs.loading.load_sequence.Statement.{statement}
 use Rattle.certify.proofs.loading.load_sequence.Tie as tie
 use Rattle.sheet.specs.Format.{standard}
@@ -14,40 +23,31 @@ load-sheet-requires c κs = search needs
 read-requires : tie.Need-read-requires
 read-requires c κs = search needs
 
-commands-requires : tie.Need-commands-requires
-commands-requires c κs = search needs
-
 add-bytes : tie.Need-add-bytes
 add-bytes c = search needs
 
-refuse-requires : tie.Need-refuse-requires
-refuse-requires c κs = search needs
+room-check-requires : tie.Need-room-check-requires
+room-check-requires c κs = search needs
 
 first-of-requires : tie.Need-first-of-requires
 first-of-requires c κs = search needs
 
-first-of-requires-2 : tie.Need-first-of-requires-2
-first-of-requires-2 c κs = search needs
-
 returns : tie.Need-returns
 returns c =
-    let start = c .before .before .before .before .before .before .before .before in
-    sequence-loaded (start .args .answers) (start .args .room) (now (start .args .sheet))
-    (c .before .before .before .before .before .before .load-sheet .ensures)
-    (handed-content standard _ (start .args .sheet) (c .before .before .before .before .read .result)
-    (c .before .before .before .before .read .ensures))
-    (c .before .before .before .commands .ensures) (c .before .before .refuse .ensures) (c .before .first-of .ensures)
-    (c .first-of2 .ensures)
+    let start = c .before .before .before .before .before .before in
+    let room = start .args .room in
+    let s = now (start .args .sheet) in
+    let loaded = c .before .before .before .before .load-sheet in
+    loaded-more _ _ s (loaded .ensures) (cause9 room (markBytes (sequenceIn s)))
+    (marking-causes-are (start .args .answers) room s)
+    (c .first-of .ensures
+    ∙ ap (λ (x : Check). loaded .result .check else x)
+    (c .before .room-check .ensures
+    ∙ ap (λ (xs : List ℕ). cause9 room (markBytes xs))
+    (handed-content standard _ (start .args .sheet) (c .before .before .read .result)
+    (c .before .before .read .ensures))))
 
 pub load-sequence-spec : {M : Type 1} → statement M
 load-sequence-spec =
     tie.close
-    (tie.spec
-    load-sheet-requires
-    read-requires
-    commands-requires
-    add-bytes
-    refuse-requires
-    first-of-requires
-    first-of-requires-2
-    returns)
+    (tie.spec load-sheet-requires read-requires add-bytes room-check-requires first-of-requires returns)

@@ -4,12 +4,14 @@ use borrow.Author.Needs.{needs}
 use denote.Ref.{now}
 use Prim.Native.Nat.{ℕ}
 use mathlib.Core.Path.{_≡_, sym, _∙_}
+use mathlib.Core.Bool.{true}
 use mathlib.Core.List.{List}
 use lib.ListN.{length}
 use Rattle.sheet.specs.declared.check.Check.the-variants.{Clear}
 use Rattle.sheet.specs.Check.{firstCause}
 use Rattle.sheet.specs.Reader.{sequenceIn, answersIn}
 use Rattle.sheet.specs.Reader.Laws.{handed-content}
+use Rattle.certify.specs.Certification.Laws.{marking-proper, marking-commands}
 use Rattle.judge.specs.Judging.{judgeCauses}
 use Rattle.judge.specs.Judging.Laws.{marking-clear}
 use Rattle.judge.proofs.Answering.{checks-are, few-here, promised, judges-refused, judges-certified, judges-open}
@@ -89,8 +91,8 @@ compare-requires c κs =
     let loaded = d .before .before .before .before .before .load-sequence .ensures in
     let loading-clear = loaded-clear d clear in
     record {
-      proper = loaded .proper loading-clear;
-      commands = rw (sequence-is d) (loaded .commands loading-clear);
+      proper = marking-proper true _ _ loaded loading-clear;
+      commands = rw (sequence-is d) (marking-commands true _ _ loaded loading-clear);
       few =
           few-here (length (buffer d)) (sheet d) (d .before .before .before .before .record-of .ensures) (sequence-is d)
           (answers-are d) (check-is d) clear;

@@ -26,19 +26,19 @@ add-scan c = search needs
 mul-scan : tie.Need-mul-scan
 mul-scan c = omega (
   arith,
-  bytes-product (c .before .before .byte .result) (c .before .byte2 .result) (search needs) (search needs),
+  bytes-product (c .before .byte .result) (c .byte2 .result) (search needs) (search needs),
 )
 
 scan-requires : tie.Need-scan-requires
 scan-requires c κs = omega (
   arith,
-  bytes-product (c .before .before .byte .result) (c .before .byte2 .result) (search needs) (search needs),
+  bytes-product (c .before .byte .result) (c .byte2 .result) (search needs) (search needs),
 )
 
 returns : tie.Need-returns
 returns c =
-    pairs-are (now (c .before .before .before .before .before .args .p)) _ (c .before .before .before .byte .ensures)
-    (c .before .before .byte2 .ensures) (c .scan .ensures)
+    pairs-are (now (c .before .before .before .before .args .p)) _ (c .before .before .byte .ensures)
+    (c .before .byte2 .ensures) (c .scan .ensures)
 
 pub scan-pairs-spec : {M : Type 1} → statement M
 scan-pairs-spec =

@@ -4,7 +4,7 @@ use borrow.Author.Needs.{needs}
 use denote.Ref.{now}
 use Rattle.sheet.specs.Reader.Laws.{handed-content}
 use Rattle.machine.specs.Causes.Lists.{held-loaded}
-use Rattle.machine.proofs.LoadChecks.{loaded-from}
+use Rattle.machine.proofs.LoadChecks.{loaded-by}
 use Rattle.machine.proofs.loading.load_sheet.Statement.{statement}
 use Rattle.machine.proofs.loading.load_sheet.Tie as tie
 use Rattle.sheet.specs.Format.{standard}
@@ -25,7 +25,7 @@ all-checks-requires c κs =
 returns : tie.Need-returns
 returns c =
     let start = c .before .before .before .before in
-    loaded-from (start .args .needs) (now (start .args .sheet)) _ (c .all-checks .ensures)
+    loaded-by (start .args .needs) (now (start .args .sheet)) _ (c .all-checks .ensures)
     (held-loaded (now (start .args .sheet))
     (handed-content standard _ (start .args .sheet) (c .before .before .read .result)
     (c .before .before .read .ensures))

@@ -2,7 +2,6 @@
 -- Assumes nothing.
 use mathlib.Core.Path.{refl}
 use Rattle.report.specs.Dialogue.{inputEnded}
-use Rattle.report.proofs.Putting.{prints-line}
 use Rattle.report.proofs.Making.{writes-error}
 use borrow.Author.Needs.{needs}
 use Rattle.report.proofs.dialogue.input_ended.Statement.{statement}
@@ -16,7 +15,7 @@ put-stop-requires c κs = search needs
 
 returns : tie.Need-returns
 unfolding inputEnded
-returns c = writes-error _ refl (prints-line _ (c .put-stop .ensures))
+returns c = writes-error _ refl (c .put-stop .ensures)
 
 pub input-ended-spec : {M : Type 1} → statement M
 input-ended-spec = tie.close (tie.spec slice-aggregate-put-stop put-stop-requires returns)

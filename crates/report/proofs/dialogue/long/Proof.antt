@@ -1,6 +1,5 @@
 -- `report::dialogue::long` meets its contract. Assumes nothing.
 use mathlib.Core.Path.{refl}
-use Rattle.report.proofs.Putting.{prints-line}
 use Rattle.report.proofs.Making.{writes-error}
 use borrow.Author.Needs.{needs}
 use Rattle.report.proofs.dialogue.long.Statement.{statement}
@@ -17,7 +16,7 @@ returns c = record {
   desk = refl;
   left-after = refl;
   over-after = refl;
-  written = writes-error _ refl (prints-line _ (c .put-stop .ensures));
+  written = writes-error _ refl (c .put-stop .ensures);
 }
 
 pub long-spec : {M : Type 1} → statement M

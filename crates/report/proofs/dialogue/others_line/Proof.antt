@@ -1,7 +1,7 @@
 -- `report::dialogue::others_line` meets its contract: the line, and behind it where it is the last that the dialogue
 -- stops. Assumes nothing.
 use Rattle.report.specs.Dialogue.{otherLine}
-use Rattle.report.proofs.Putting.{puts-append, puts-same, prints-line}
+use Rattle.sheet.specs.Writing.Laws.{puts-append, puts-same}
 use Rattle.report.proofs.Conversing.{others-more, others-last}
 use borrow.Author.Needs.{needs}
 use Rattle.report.proofs.dialogue.others_line.Statement.{statement}
@@ -17,7 +17,7 @@ returns : tie.Need-returns
 unfolding otherLine
 returns c =
     let left = c .before .before .before .before .args .left in
-    prints-line _ (puts-same (others-more left (c .if1 .taken)) (c .before .put .ensures))
+    puts-same (others-more left (c .if1 .taken)) (c .before .put .ensures)
 
 slice-aggregate-put-stop : tie.Need-slice-aggregate-put-stop
 slice-aggregate-put-stop c = search needs
@@ -29,9 +29,8 @@ returns-2 : tie.Need-returns-2
 unfolding otherLine
 returns-2 c =
     let left = c .before .before .before .before .before .before .before .args .left in
-    prints-line _
-    (puts-same (others-last left (c .before .before .before .if1 .left))
-    (puts-append _ _ (c .before .before .before .before .put .ensures) (c .put-stop .ensures)))
+    puts-same (others-last left (c .before .before .before .if1 .left))
+    (puts-append _ _ (c .before .before .before .before .put .ensures) (c .put-stop .ensures))
 
 pub others-line-spec : {M : Type 1} → statement M
 others-line-spec =

@@ -1,6 +1,6 @@
 -- `report::lines::numbered` meets its contract: the pieces make the line.
 -- Assumes nothing.
-use Rattle.report.proofs.Putting.{puts-append, prints-line}
+use Rattle.sheet.specs.Writing.Laws.{puts-append}
 use borrow.Author.Needs.{needs}
 use Rattle.report.proofs.lines.numbered.Statement.{statement}
 use Rattle.report.proofs.lines.numbered.Tie as tie
@@ -15,7 +15,7 @@ put-requires : tie.Need-put-requires
 put-requires c κs = search needs
 
 returns : tie.Need-returns
-returns c = prints-line _ (puts-append _ _ (c .before .before .before .put-labelled .ensures .0) (c .put .ensures))
+returns c = puts-append _ _ (c .before .before .before .put-labelled .ensures .0) (c .put .ensures)
 
 pub numbered-spec : {M : Type 1} → statement M
 numbered-spec = tie.close (tie.spec put-labelled-requires slice-aggregate-put put-requires returns)

@@ -2,7 +2,7 @@
 -- Assumes nothing.
 use borrow.Author.Needs.{needs}
 use Rattle.report.specs.Lines.{passLine}
-use Rattle.report.proofs.Putting.{puts-append, prints-line}
+use Rattle.sheet.specs.Writing.Laws.{puts-append}
 use Rattle.report.proofs.lines.passed.Statement.{statement}
 use Rattle.report.proofs.lines.passed.Tie as tie
 
@@ -27,11 +27,9 @@ put-requires c κs = search needs
 returns : tie.Need-returns
 unfolding passLine
 returns c =
-    let args = c .before .before .before .before .before .before .before .before .before .args in
-    prints-line (passLine (args .size) (args .end))
-    (puts-append _ _ (puts-append _ _ (c .before .before .before .before .before .before .put-labelled .ensures .0)
+    puts-append _ _ (puts-append _ _ (c .before .before .before .before .before .before .put-labelled .ensures .0)
     (c .before .before .before .put-labelled2 .ensures .0))
-    (c .put .ensures))
+    (c .put .ensures)
 
 pub passed-spec : {M : Type 1} → statement M
 passed-spec =

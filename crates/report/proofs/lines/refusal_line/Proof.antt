@@ -2,7 +2,7 @@
 -- Assumes nothing.
 use borrow.Author.Needs.{needs}
 use Rattle.report.specs.Lines.{refusalLine}
-use Rattle.report.proofs.Putting.{puts-append, prints-line}
+use Rattle.sheet.specs.Writing.Laws.{puts-append}
 use Rattle.report.proofs.lines.refusal_line.Statement.{statement}
 use Rattle.report.proofs.lines.refusal_line.Tie as tie
 
@@ -30,13 +30,11 @@ put-requires c κs = search needs
 returns : tie.Need-returns
 unfolding refusalLine
 returns c =
-    let args = c .before .before .before .before .before .before .before .before .before .before .before .args in
-    prints-line (refusalLine (args .number) (args .place))
-    (puts-append _ _ (puts-append _ _
+    puts-append _ _ (puts-append _ _
     (puts-append _ _ (c .before .before .before .before .before .before .before .before .put-labelled .ensures .0)
     (c .before .before .before .before .before .put-labelled2 .ensures .0))
     (c .before .before .before .put-phrase .ensures .0))
-    (c .put .ensures))
+    (c .put .ensures)
 
 pub refusal-line-spec : {M : Type 1} → statement M
 refusal-line-spec =

@@ -2,7 +2,7 @@
 -- Assumes nothing.
 use borrow.Author.Needs.{needs}
 use Rattle.report.specs.Lines.{openLine}
-use Rattle.report.proofs.Putting.{puts-append, prints-line}
+use Rattle.sheet.specs.Writing.Laws.{puts-append}
 use Rattle.report.proofs.lines.still_open.Statement.{statement}
 use Rattle.report.proofs.lines.still_open.Tie as tie
 
@@ -27,11 +27,9 @@ put-requires c κs = search needs
 returns : tie.Need-returns
 unfolding openLine
 returns c =
-    let args = c .before .before .before .before .before .before .before .before .before .args in
-    prints-line (openLine (args .recognised) (args .number))
-    (puts-append _ _ (puts-append _ _ (c .before .before .before .before .before .before .put-labelled .ensures .0)
+    puts-append _ _ (puts-append _ _ (c .before .before .before .before .before .before .put-labelled .ensures .0)
     (c .before .before .before .put-labelled2 .ensures .0))
-    (c .put .ensures))
+    (c .put .ensures)
 
 pub still-open-spec : {M : Type 1} → statement M
 still-open-spec =

@@ -2,7 +2,7 @@
 -- Assumes nothing.
 use borrow.Author.Needs.{needs}
 use Rattle.report.specs.Lines.{wrongLine}
-use Rattle.report.proofs.Putting.{puts-append, prints-line}
+use Rattle.sheet.specs.Writing.Laws.{puts-append}
 use Rattle.report.proofs.lines.wrong.Statement.{statement}
 use Rattle.report.proofs.lines.wrong.Tie as tie
 
@@ -33,15 +33,12 @@ put-requires c κs = search needs
 returns : tie.Need-returns
 unfolding wrongLine
 returns c =
-    let args =
-    c .before .before .before .before .before .before .before .before .before .before .before .before .args in
-    prints-line (wrongLine (args .place) (args .specified) (args .given))
-    (puts-append _ _ (puts-append _ _
+    puts-append _ _ (puts-append _ _
     (puts-append _ _
     (c .before .before .before .before .before .before .before .before .before .put-labelled .ensures .0)
     (c .before .before .before .before .before .before .put-labelled2 .ensures .0))
     (c .before .before .before .put-labelled3 .ensures .0))
-    (c .put .ensures))
+    (c .put .ensures)
 
 pub wrong-spec : {M : Type 1} → statement M
 wrong-spec =

@@ -1,5 +1,5 @@
 -- `report::pieces::put_between` meets its contract: three pieces in a row. Assumes nothing.
-use Rattle.report.proofs.Putting.{puts-append}
+use Rattle.sheet.specs.Writing.Laws.{puts-append}
 use borrow.Author.Needs.{needs}
 use Rattle.report.proofs.pieces.put_between.Statement.{statement}
 use Rattle.report.proofs.pieces.put_between.Tie as tie

@@ -4,7 +4,7 @@ use borrow.Author.Needs.{needs}
 use native.Mathlib.Omega.{arith}
 use mathlib.Core.Path.{_∙_}
 use Rattle.report.specs.Digits.{digits-decimal, few-digits}
-use Rattle.report.proofs.Putting.{puts-same}
+use Rattle.sheet.specs.Writing.Laws.{puts-same}
 use Rattle.report.proofs.pieces.put_decimal.Statement.{statement}
 use Rattle.report.proofs.pieces.put_decimal.Tie as tie
 

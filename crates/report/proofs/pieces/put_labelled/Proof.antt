@@ -2,7 +2,7 @@
 -- Assumes nothing.
 use borrow.Author.Needs.{needs}
 use native.Mathlib.Omega.{arith}
-use Rattle.report.proofs.Putting.{puts-append}
+use Rattle.sheet.specs.Writing.Laws.{puts-append}
 use Rattle.report.proofs.pieces.put_labelled.Statement.{statement}
 use Rattle.report.proofs.pieces.put_labelled.Tie as tie
 

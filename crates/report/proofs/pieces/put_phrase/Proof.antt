@@ -4,7 +4,8 @@ use borrow.Author.Needs.{needs}
 use native.Mathlib.Omega.{arith}
 use denote.Ref.{now}
 use mathlib.Core.Path.{refl}
-use Rattle.report.proofs.Putting.{puts-none, puts-same, puts-append, no-phrase, some-phrase}
+use Rattle.sheet.specs.Writing.Laws.{puts-none, puts-same, puts-append}
+use Rattle.report.proofs.Putting.{no-phrase, some-phrase}
 use Rattle.report.proofs.pieces.put_phrase.Statement.{statement}
 use Rattle.report.proofs.pieces.put_phrase.Tie as tie
 

@@ -5,7 +5,7 @@ use Prim.Native.Nat.{ℕ}
 use mathlib.Core.Path.{ap}
 use mathlib.Core.List.{List, _++_}
 use denote.Ref.{now}
-use Rattle.report.proofs.Putting.{puts-append, puts-same}
+use Rattle.sheet.specs.Writing.Laws.{puts-append, puts-same}
 use Rattle.report.proofs.pieces.put_record.Statement.{statement}
 use Rattle.report.proofs.pieces.put_record.Tie as tie
 

@@ -3,7 +3,6 @@
 use borrow.Author.Needs.{needs}
 use mathlib.Core.Path.{refl, sym, ap}
 use Rattle.report.specs.Lines.{certifyLine}
-use Rattle.report.specs.Services.{certified}
 use Rattle.report.proofs.Putting.{prints-same}
 use Rattle.report.proofs.Making.{writes-output}
 use Rattle.report.proofs.services.certify_sheet.Statement.{statement}
@@ -19,7 +18,6 @@ certify-line-requires : tie.Need-certify-line-requires
 certify-line-requires c κs = search needs
 
 returns : tie.Need-returns
-unfolding certified
 returns c =
     writes-output _ refl
     (prints-same (ap certifyLine (sym (c .before .before .before .certify .ensures .answer .is)))

@@ -3,7 +3,6 @@
 use borrow.Author.Needs.{needs}
 use mathlib.Core.Path.{refl, sym, ap}
 use Rattle.report.specs.Lines.{judgeLine}
-use Rattle.report.specs.Services.{judged}
 use Rattle.report.proofs.Putting.{prints-same}
 use Rattle.report.proofs.Making.{writes-output}
 use Rattle.report.proofs.services.judge_sheet.Statement.{statement}
@@ -19,7 +18,6 @@ judge-line-requires : tie.Need-judge-line-requires
 judge-line-requires c κs = search needs
 
 returns : tie.Need-returns
-unfolding judged
 returns c =
     writes-output _ refl
     (prints-same (ap judgeLine (sym (c .before .before .before .judge .ensures .0 .answer .is)))

@@ -8,9 +8,8 @@ use denote.Ref.{now}
 use lib.ListN.{length}
 use Rattle.sheet.specs.Reader.Laws.{handed-content}
 use Rattle.sheet.specs.Reader.Bounds.{read-short}
-use Rattle.report.specs.Output.Laws.{writes-same}
-use Rattle.report.specs.Services.Laws.{read-clear, read-refused}
-use Rattle.report.proofs.Putting.{puts-same, prints-line}
+use Rattle.report.specs.Output.Laws.{unless-clear, unless-refused, writes-same}
+use Rattle.sheet.specs.Writing.Laws.{puts-same}
 use Rattle.report.proofs.Making.{writes-output}
 use Rattle.report.proofs.services.read_record.Statement.{statement}
 use Rattle.report.proofs.services.read_record.Tie as tie
@@ -49,16 +48,14 @@ returns c =
     let handed =
     handed-content standard _ (start .args .sheet) (c .before .before .read .result)
     (c .before .before .read .ensures) in
-    writes-output _ (read-clear (now (start .args .sheet)) (start .args .kind) clear)
-    (prints-line _ (puts-same handed (c .put .ensures)))
+    writes-output _ (unless-clear _ clear) (puts-same handed (c .put .ensures))
 
 returns-2 : tie.Need-returns-2
 returns-2 c =
-    let start = c .before .before .before .before .before .before .before in
     let refusal =
     sym (c .before .before .before .before .before .refusal .ensures .is)
     ∙ c .before .before .before .check .given .1 in
-    writes-same (c .refused .ensures) (read-refused (now (start .args .sheet)) (start .args .kind) refusal)
+    writes-same (c .refused .ensures) (unless-refused _ refusal)
 
 pub read-record-spec : {M : Type 1} → statement M
 read-record-spec =

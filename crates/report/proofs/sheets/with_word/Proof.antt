@@ -1,40 +1,52 @@
--- `report::sheets::with_word` meets its contract: the two records, and behind them the line in its pieces.
--- Assumes nothing.
+-- `report::sheets::with_word` meets its contract: the sheet's two records, then the line. Assumes nothing.
 use borrow.Author.Needs.{needs}
 use native.Mathlib.Omega.{arith}
-use Prim.Native.Nat.{_+_, _≤_}
-use mathlib.Core.List.{[], _∷_}
+use Prim.Native.Nat.{ℕ, _+_, _≤_}
+use mathlib.Core.Path.{_≡_, ap, ap₂}
+use mathlib.Core.List.{List, [], _∷_}
+use lib.ListN.{length}
 use denote.Ref.{now}
-use Rattle.sheet.specs.Joining.{recordIn, fresh}
+use Rattle.sheet.specs.declared.record.Record.{Record}
 use Rattle.sheet.specs.Format.{standard, header}
+use Rattle.sheet.specs.Reader.{machinePayload}
+use Rattle.sheet.specs.Reader.Laws.{handed-content}
+use Rattle.sheet.specs.Joining.{joined, fresh}
+use Rattle.sheet.specs.Writing.Laws.{puts-same}
 use Rattle.machine.specs.Limits.{mostMachine}
 use Rattle.word.specs.Search.{mostSought}
 use Rattle.report.specs.Sheets.{wordSheet}
 use Rattle.report.proofs.Listing.{word-written, word-line}
-use Rattle.report.proofs.Making.{puts-more, puts-last, record-ends}
 use Rattle.report.proofs.sheets.with_word.Statement.{statement}
 use Rattle.report.proofs.sheets.with_word.Tie as tie
 
-put-kept-requires : tie.Need-put-kept-requires
-put-kept-requires c κs = omega (arith, c .before .before .before .pre .machine)
+record-of-requires : tie.Need-record-of-requires
+record-of-requires c κs = search needs
 
-put-record-requires : tie.Need-put-record-requires
-put-record-requires c κs =
-    let start = c .before .before .before .before .before in
-    let first = recordIn standard (now (start .args .sheet)) (standard .machine) in
-    omega (arith, record-ends first (c .before .put-kept .ensures), start .pre .machine, start .pre .few)
+read-requires : tie.Need-read-requires
+read-requires c κs = search needs
+
+-- what is known once the machine's record is read
+abbrev start-at : tie.After-read → tie.Start
+start-at d = d .before .before .before .before
+
+payload-is : (d : tie.After-read) → now (d .read .result) ≡ machinePayload (now (start-at d .args .sheet))
+payload-is d = handed-content standard _ (start-at d .args .sheet) (d .read .result) (d .read .ensures)
+
+put-two-requires : tie.Need-put-two-requires
+put-two-requires c κs =
+    let start = start-at (c .before) in
+    omega (arith, ap length (payload-is (c .before)), start .pre .machine, start .pre .few)
 
 -- the records leave room for the line
-sized : (p : tie.After-put-record) → p .put-record .result ≤ header + mostMachine standard + (header + mostSought)
-sized p =
-    let kept = p .before .before in
-    let start = kept .before .before .before .before in
+sized : (u : tie.After-put-two) → u .put-two .result ≤ header + mostMachine standard + (header + mostSought)
+sized u =
+    let d = u .before .before in
     omega (
       arith,
-      record-ends (recordIn standard (now (start .args .sheet)) (standard .machine)) (kept .put-kept .ensures),
-      record-ends (fresh (standard .word) (now (start .args .w))) (p .put-record .ensures),
-      start .pre .machine,
-      start .pre .few,
+      u .put-two .ensures .1,
+      ap length (payload-is d),
+      start-at d .pre .machine,
+      start-at d .pre .few,
     )
 
 slice-aggregate-put : tie.Need-slice-aggregate-put
@@ -46,13 +58,13 @@ put-requires c κs = omega (arith, sized (c .before .before))
 put-list-requires : tie.Need-put-list-requires
 put-list-requires c κs =
     let word = c .before in
-    let records = word .before .before .before in
+    let unit = word .before .before .before in
     omega (
       arith,
       word .put .ensures .ends,
       word .put .kept .1 .1 .0,
-      sized records,
-      records .before .before .before .before .before .before .pre .few,
+      sized unit,
+      start-at (unit .before .before) .pre .few,
     )
 
 slice-aggregate-put-2 : tie.Need-slice-aggregate-put-2
@@ -62,15 +74,15 @@ put-requires-2 : tie.Need-put-requires-2
 put-requires-2 c κs =
     let list = c .before .before in
     let word = list .before .before in
-    let records = word .before .before .before in
+    let unit = word .before .before .before in
     omega (
       arith,
       list .put-list .ensures .1,
       list .put-list .kept .1 .1 .0,
       word .put .ensures .ends,
       word .put .kept .1 .1 .0,
-      sized records,
-      records .before .before .before .before .before .before .pre .few,
+      sized unit,
+      start-at (unit .before .before) .pre .few,
     )
 
 returns : tie.Need-returns
@@ -78,23 +90,23 @@ unfolding wordSheet
 returns c =
     let list = c .before .before .before in
     let word = list .before .before in
-    let records = word .before .before .before in
-    let kept = records .before .before in
-    let start = kept .before .before .before .before in
-    let s = now (start .args .sheet) in
+    let unit = word .before .before .before in
+    let d = unit .before .before in
+    let start = start-at d in
     let w = now (start .args .w) in
-    let last = fresh (standard .word) w in
-    word-written s w (now (start .args .out))
-    (puts-more (recordIn standard s (standard .machine)) (last ∷ []) (kept .put-kept .ensures)
-    (puts-last last (records .put-record .ensures)))
+    word-written (now (start .args .sheet)) w (now (start .args .out))
+    (puts-same
+    (ap₂ (λ (kind : ℕ) (p : List ℕ). joined ((kind, p) ∷ fresh (standard .word) w ∷ []))
+    (ap (λ (r : Record). r .kind) (d .before .record-of .ensures)) (payload-is d)) (unit .put-two .ensures .0))
     (word-line w (word .put .ensures) (list .put-list .ensures .0) (c .put2 .ensures))
 
 pub with-word-spec : {M : Type 1} → statement M
 with-word-spec =
     tie.close
     (tie.spec
-    put-kept-requires
-    put-record-requires
+    record-of-requires
+    read-requires
+    put-two-requires
     slice-aggregate-put
     put-requires
     put-list-requires

@@ -2,7 +2,6 @@
 -- Assumes nothing.
 use borrow.Author.Needs.{needs}
 use mathlib.Core.Path.{refl}
-use Rattle.report.specs.Services.{helped}
 use Rattle.report.proofs.Making.{writes-output}
 use Rattle.report.proofs.words.help.Statement.{statement}
 use Rattle.report.proofs.words.help.Tie as tie
@@ -11,7 +10,6 @@ help-text-requires : tie.Need-help-text-requires
 help-text-requires c κs = search needs
 
 returns : tie.Need-returns
-unfolding helped
 returns c = writes-output _ refl (c .help-text .ensures)
 
 pub help-spec : {M : Type 1} → statement M

@@ -1,7 +1,7 @@
 -- `report::words::help_text` meets its contract: the pieces make the list.
 -- Assumes nothing.
 use Rattle.report.specs.Words.{helpText}
-use Rattle.report.proofs.Putting.{puts-append, prints-line}
+use Rattle.sheet.specs.Writing.Laws.{puts-append}
 use borrow.Author.Needs.{needs}
 use native.Mathlib.Omega.{arith}
 use Rattle.report.proofs.words.help_text.Statement.{statement}
@@ -81,8 +81,7 @@ returns c =
     let p4 = p5 .before .before .before in
     let p3 = p4 .before .before .before in
     let p2 = p3 .before .before .before in
-    prints-line helpText
-    (puts-append _ _
+    puts-append _ _
     (puts-append _ _
     (puts-append _ _
     (puts-append _ _
@@ -94,7 +93,7 @@ returns c =
     (p5 .put5 .ensures))
     (p6 .put6 .ensures))
     (p7 .put7 .ensures))
-    (c .put8 .ensures))
+    (c .put8 .ensures)
 
 pub help-text-spec : {M : Type 1} → statement M
 help-text-spec =

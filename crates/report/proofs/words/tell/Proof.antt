@@ -2,7 +2,6 @@
 -- Assumes nothing.
 use borrow.Author.Needs.{needs}
 use mathlib.Core.Path.{refl}
-use Rattle.report.specs.Services.{mistaken}
 use Rattle.report.proofs.Making.{writes-error}
 use Rattle.report.proofs.words.tell.Statement.{statement}
 use Rattle.report.proofs.words.tell.Tie as tie
@@ -11,7 +10,6 @@ mistake-line-requires : tie.Need-mistake-line-requires
 mistake-line-requires c κs = search needs
 
 returns : tie.Need-returns
-unfolding mistaken
 returns c = writes-error _ refl (c .mistake-line .ensures)
 
 pub tell-spec : {M : Type 1} → statement M

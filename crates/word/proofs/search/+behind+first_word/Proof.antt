@@ -1,7 +1,7 @@
 -- The proof of the cycle of calls {behind, first_word}. The measure is twice the length of the lent word, and one more
 -- for first_word, which lends it on whole. Assumes nothing.
 use denote.Ref.{now}
-use Prim.Native.Nat.{_+_, _-_, _*_}
+use Prim.Native.Nat.{_+_, _-_, _*_, ℕ, _<_}
 use mathlib.Core.Path.{refl, sym, _∙_}
 use native.Mathlib.Omega.{arith}
 use lib.ListN.{length, set, length-set}
@@ -10,7 +10,6 @@ use borrow.Rule.Slice.PartMut.{same-len-mid}
 use Rattle.word.proofs.Descent.{behind-last, behind-met, behind-falls, moves-met, moves-on, first-required}
 use Rattle.word.proofs.Descent.{behind-on, first-falls, Trying, trying-none, trying-on, trying-found, trying-end}
 use borrow.Author.Needs.{needs}
-use Prim.Native.Nat.{ℕ, _<_}
 use borrow.Fn.Kinds.{In}
 use borrow.Fn.PlainCycle.{Measures, is, falls, and}
 use Rattle.word.proofs.search.behind.Reads as behind

@@ -1,7 +1,9 @@
 -- `word::service::find_word` meets its contract: each refusal, and what was found where nothing is refused. Assumes
 -- nothing.
 use denote.Ref.{now}
-use Rattle.word.proofs.Answering.{early-refused, loaded-proper, searched}
+use Rattle.machine.specs.Loading.Laws.{loaded-proper}
+use Rattle.word.specs.Service.{searchNeeds}
+use Rattle.word.proofs.Answering.{early-refused, searched}
 use borrow.Author.Needs.{needs}
 use Rattle.word.proofs.service.find_word.Statement.{statement}
 use Rattle.word.proofs.service.find_word.Tie as tie
@@ -24,7 +26,7 @@ enum-told c = search needs
 shortest-word-requires : tie.Need-shortest-word-requires
 shortest-word-requires c κs =
     let load = c .before .before .before in
-    loaded-proper (now (load .before .before .args .sheet)) (load .load-sheet .result) (load .load-sheet .ensures)
+    loaded-proper searchNeeds (now (load .before .before .args .sheet)) (load .load-sheet .ensures)
     (c .before .enum-told .given .1)
 
 returns-2 : tie.Need-returns-2

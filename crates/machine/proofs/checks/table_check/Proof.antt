@@ -1,11 +1,11 @@
--- `machine::checks::table` meets its contract: cause 3, then 4, then 12, since the payload is of bytes.
+-- `machine::checks::table_check` meets its contract: cause 3, then 4, then 12, since the payload is of bytes.
 -- Assumes nothing.
 use native.Mathlib.Omega.{arith}
 use borrow.Author.Needs.{needs}
 use denote.Ref.{now}
 use Rattle.machine.proofs.LoadChecks.{table-are}
-use Rattle.machine.proofs.checks.table.Statement.{statement}
-use Rattle.machine.proofs.checks.table.Tie as tie
+use Rattle.machine.proofs.checks.table_check.Statement.{statement}
+use Rattle.machine.proofs.checks.table_check.Tie as tie
 
 shape-requires : tie.Need-shape-requires
 shape-requires c κs = search needs
@@ -31,14 +31,14 @@ first-of-requires-2 c κs = search needs
 returns : tie.Need-returns
 returns c =
     let entry = c .before .before .before .before .before .before in
-    table-are (entry .before .args .r) (now (entry .before .args .p))
+    table-are (entry .before .args .at) (now (entry .before .args .p))
     (λ i. omega (arith, entry .shared-slice-known .given i))
     (c .before .before .before .before .before .shape .ensures) (c .before .before .before .before .byte .ensures)
     (c .before .before .before .scan-pairs .ensures) (c .before .before .scan-pairs2 .ensures)
     (c .before .first-of .ensures) (c .first-of2 .ensures)
 
-pub table-spec : {M : Type 1} → statement M
-table-spec =
+pub table-check-spec : {M : Type 1} → statement M
+table-check-spec =
     tie.close
     (tie.spec
     shape-requires
