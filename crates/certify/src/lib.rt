@@ -1,4 +1,4 @@
-// Recognition and certification of a sequence: refusals 7 and 9, the marks, and what is certified.
+// Recognition and certification of a sequence: its room, the marks, and what is certified.
 mod answer;
 mod chains;
 mod closure;

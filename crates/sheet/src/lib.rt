@@ -1,5 +1,5 @@
-// The byte format of a sheet: records, kinds, checks 1 and 2, the reader, a record's header, bytes put
-// into a buffer, and what a service answers that writes into one.
+// The byte format of a sheet: records, kinds, checks 1, 2 and 9, the reader, a record's header, bytes
+// put into a buffer, and what a service answers that writes its result into one.
 mod check;
 mod parse;
 mod reader;

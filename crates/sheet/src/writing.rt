@@ -8,8 +8,8 @@ use crate::check::Check;
 use crate::check::refuse;
 use crate::record::HEADER;
 
-// What a service answers that writes into a lent buffer: the bytes written, or refused with number and
-// place.
+// What a service answers that writes its result into a lent buffer: the number of bytes, or refused
+// with number and place.
 pub enum Answer {
     Written { length: usize },
     Refused { number: u8, place: usize },

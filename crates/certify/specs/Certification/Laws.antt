@@ -243,7 +243,7 @@ module _ (answers : Bool) (room : ℕ) (s : List ℕ) (e : firstCause (markingCa
   pub room-enough : markBytes (sequenceIn s) ≤ room
   room-enough = clear-room _ _ (both-clear _ _ (sym (marking-causes-are answers room s) ∙ e) .1)
 
--- so does what was loaded
+-- the same of what was loaded: the machine is within its limits, the sequence of its commands, and the marks fit
 module _ (answers : Bool) (room : ℕ) (s : List ℕ) {l : Loaded} (h : LoadedBy (markingCauses answers room s) s l)
     (e : l .check ≡ Clear) where
   pub marking-proper : Proper (meaning (l .machine))

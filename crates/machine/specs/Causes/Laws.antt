@@ -1,4 +1,4 @@
--- The laws of causes 3, 4, 12, 5 and 7: each as the code looks for it, and what it shows where it is clear.
+-- The laws of causes 3, 4, 12, 5, 7 and 10: each as the code looks for it, and what it shows where it is clear.
 use Prim.Native.Nat.{ℕ, _+_, _*_, _<_, _≤_}
 use mathlib.Core.Path.{_≡_, refl, sym, ap, ap₂, _∙_, fun-ext}
 use mathlib.Core.Bool.{Bool, false, not, _||_}
@@ -191,6 +191,3 @@ cause10-is at xs ys = refl
 
 pub clear-few : (at : ℕ) (xs ys : List ℕ) → cause10 at xs ys ≡ Clear → length ys ≤ length xs
 clear-few at xs ys e = ltb-false _ _ (clear-absent 10 at _ (cause10-is at xs ys ∙ e))
-
-pub few-clear : (at : ℕ) (xs ys : List ℕ) → length ys ≤ length xs → cause10 at xs ys ≡ Clear
-few-clear at xs ys l = sym (cause10-is at xs ys) ∙ absent 10 at (le-ltb _ _ l)
