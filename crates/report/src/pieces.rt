@@ -10,7 +10,6 @@ ghost use Rattle.report.specs.Phrases.{longestPhrase, phrase};
 ghost use Rattle.report.specs.Lines.{labelled, spaced, listed};
 ghost use Rattle.report.specs.Pieces.{listRoom};
 use crate::phrases::phrase_of;
-use sheet::header_of;
 
 // The most digits of a 64-bit number.
 const DIGITS: usize = 20;
@@ -100,7 +99,5 @@ pub fn put_record(kind: u16, payload: &[u8], at: usize, out: &mut [u8]) -> usize
     requires { ⌜ at + header + length (now payload) ≤ length (now out) ⌝ }
     ensures { λ r. ⌜ Puts (now (out .entry)) at (recordBytes kind (now (payload .entry))) (now (out .exit)) r ⌝ }
 {
-    let header = header_of(kind, payload.len());
-    let next = put(&header, at, out);
-    put(payload, next, out)
+    sheet::put_record(kind, payload, at, out)
 }

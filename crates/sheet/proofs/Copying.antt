@@ -1,12 +1,14 @@
--- The loop of `put`, which copies bytes into a buffer one by one.
+-- The loop of `put`, which copies bytes into a buffer one by one, and a record put as its header and its payload.
 -- Assumes nothing.
 use Prim.Native.Nat.{ℕ, _+_, _≤_, _<_}
 use mathlib.Core.Path.{_≡_, refl, sym, ap, ap₂, _∙_}
-use mathlib.Core.List.{List}
+use mathlib.Core.List.{List, _++_}
 use native.Mathlib.Omega.{arith}
 use native.Mathlib.Numerals.{add-one}
-use lib.ListN.{length, getD, set}
+use lib.ListN.{length, getD, set, length-append}
 use lib.Seq.{paste, paste-zero, paste-suc, length-paste}
+use Rattle.sheet.specs.Writing.{headerOf, recordBytes, putAt, putEnd}
+use Rattle.sheet.specs.Writing.Laws.{put-puts, puts-put, puts-long, puts-same, puts-append}
 
 -- i bytes are in their places
 pub record Copying (before : List ℕ) (at : ℕ) (xs now : List ℕ) (i : ℕ) : Type 0 where
@@ -38,3 +40,17 @@ pub copying-done : {before : List ℕ} {at : ℕ} {xs now : List ℕ} {i : ℕ} 
 copying-done {before} {at} {xs} {now} {i} h l =
     let z : i ≡ length xs = omega (arith, h .inside) in
     h .copied ∙ ap (paste before at xs) z
+
+-- ---- a header and then the payload, where both fit
+pub record-put : (before : List ℕ) (at kind : ℕ) (payload : List ℕ) {middle after h : List ℕ} {next end : ℕ}
+    → h ≡ headerOf kind (length payload) → at + length (recordBytes kind payload) ≤ length before
+    → (middle ≡ putAt before at h) × (next ≡ putEnd before at h)
+    → (after ≡ putAt middle next payload) × (end ≡ putEnd middle next payload)
+    → (after ≡ putAt before at (recordBytes kind payload)) × (end ≡ putEnd before at (recordBytes kind payload))
+record-put before at kind payload {middle} {after} {h} {next} {end} e l first second =
+    let long = length-append h payload in
+    let same : h ++ payload ≡ recordBytes kind payload = ap (λ (x : List ℕ). x ++ payload) e in
+    let one = put-puts before at h (omega (arith, ap length same)) (first .0) (first .1) in
+    let fits : next + length payload ≤ length middle = omega (arith, one .ends, puts-long h one, ap length same) in
+    let two = put-puts middle next payload fits (second .0) (second .1) in
+    puts-put (recordBytes kind payload) (puts-same same (puts-append h payload one two))

@@ -10,8 +10,8 @@ use lib.ListN.{length, getD}
 use Rattle.facts.specs.Lists.{among, Each}
 use Rattle.sheet.specs.declared.record.Record.{Record}
 use Rattle.sheet.specs.declared.record.Found.the-variants.{At}
-use Rattle.sheet.specs.Format.{Format, header, end, kindOf, rank, parsed}
-use Rattle.sheet.specs.Reader.{payloadPart, partBytes, recordOf, content}
+use Rattle.sheet.specs.Format.{Format, header, end, kindOf, rank, parsed, find}
+use Rattle.sheet.specs.Reader.{isMissing, payloadPart, partBytes, recordOf, content}
 use Rattle.sheet.specs.Writing.{recordBytes}
 pub mod Laws
 pub mod Whole
@@ -70,6 +70,11 @@ rolesOf F = F .machine ∷ F .word ∷ F .sequence ∷ F .answers ∷ []
 abbrev pub Successive : Format → ℕ → List (List ℕ) → Type 0
 Successive F last [] = Unit {0}
 Successive F last (ks ∷ roles) = Each (λ k. rank (kindOf F k) ≡ last + 1) ks × Successive F (last + 1) roles
+
+-- a sheet that has no record of any of these roles
+abbrev pub Lacks : Format → List ℕ → List (List ℕ) → Type 0
+Lacks F s [] = Unit {0}
+Lacks F s (ks ∷ roles) = (isMissing (find ks (parsed F s .records)) ≡ true) × Lacks F s roles
 
 -- where the record of the last of these roles ends; at the given offset where there is no role
 abbrev pub lastEnd : Format → List ℕ → ℕ → List (List ℕ) → ℕ

@@ -30,4 +30,5 @@ pub use record::byte;
 pub use writing::Answer;
 pub use writing::header_of;
 pub use writing::put;
+pub use writing::put_record;
 pub use writing::room_check;

@@ -3,7 +3,7 @@
 ghost use mathlib.Core.Path.{_≡_};
 ghost use Prim.Native.Nat.{_%_};
 ghost use Rattle.sheet.specs.Promise.{cause9};
-ghost use Rattle.sheet.specs.Writing.{headerOf, putAt, putEnd};
+ghost use Rattle.sheet.specs.Writing.{headerOf, recordBytes, putAt, putEnd};
 use crate::check::Check;
 use crate::check::refuse;
 use crate::record::HEADER;
@@ -58,4 +58,17 @@ pub fn put(bytes: &[u8], at: usize, buffer: &mut [u8]) -> usize
         i += 1;
     }
     at + i
+}
+
+// The same for a record: its header, then its payload.
+pub fn put_record(kind: u16, payload: &[u8], at: usize, buffer: &mut [u8]) -> usize
+    ensures { λ r. ⌜ now (buffer .exit) ≡ putAt (now (buffer .entry)) at (recordBytes kind (now (payload .entry))) ⌝ }
+    ensures { λ r. ⌜ r ≡ putEnd (now (buffer .entry)) at (recordBytes kind (now (payload .entry))) ⌝ }
+{
+    if buffer.len() < at || buffer.len() - at < HEADER + payload.len() {
+        return at;
+    }
+    let header = header_of(kind, payload.len());
+    let next = put(&header, at, buffer);
+    put(payload, next, buffer)
 }

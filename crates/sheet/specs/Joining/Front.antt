@@ -1,11 +1,12 @@
 -- Sheets without causes 1 and 2 that have the first roles of their format: the records of these come first.
-use Prim.Native.Nat.{ℕ, _+_, _≤_, _<_}
+use Prim.Native.Nat.{ℕ, zero, suc, _+_, _-_, _≤_, _<_}
 use mathlib.Core.Path.{_≡_, refl, sym, ap, ap₂, subst, _∙_}
+use mathlib.Core.Bool.{true, false, true≢false, not, or-true}
 use mathlib.Core.Logic.{_⊎_, inl, inr}
 use mathlib.Core.List.{List, [], _∷_, _++_, map, append-nil}
 use native.Mathlib.Omega.{arith}
 use native.Mathlib.Nat.{add-zero}
-use lib.ListN.{length, take}
+use lib.ListN.{length, getD, take, drop}
 use lib.Seq.{take-at}
 use Rattle.facts.specs.Tests.{true-or-false}
 use Rattle.facts.specs.Lists.{among, Each, each-among}
@@ -19,11 +20,12 @@ use Rattle.sheet.specs.Check.{firstCause}
 use Rattle.sheet.specs.Check.Laws.{clear-absent, both-clear, cause-cons}
 use Rattle.sheet.specs.Format.{Format, standard, end, kindOf, rank, parsed, ofKind, _or_, find}
 use Rattle.sheet.specs.Format.Laws.{none-found}
-use Rattle.sheet.specs.Reader.{missing, sheetCauses, recordOf, content}
+use Rattle.sheet.specs.Reader.{isMissing, missing, sheetCauses, recordOf, content}
 use Rattle.sheet.specs.Reader.Laws.{at-found, causes-clear, sheet-short}
 use Rattle.sheet.specs.Joining.{joined, placed, InOrder, payloadOf, contents, recordIn, rolesOf, Successive}
-use Rattle.sheet.specs.Joining.{lastEnd}
-use Rattle.sheet.specs.Joining.Laws.{joined-none, joined-long, joined-append, content-joined, standard-roles}
+use Rattle.sheet.specs.Joining.{has, Lacks, lastEnd}
+use Rattle.sheet.specs.Joining.Laws.{joined-none, joined-long, joined-append, missing-placed, content-joined}
+use Rattle.sheet.specs.Joining.Laws.{standard-roles}
 use Rattle.sheet.specs.Joining.Whole.{whole, contents-in-order, contents-placed}
 
 -- records from an offset on and above a rank that begin with those of some roles: the others, and where these end
@@ -33,7 +35,7 @@ pub record Front (F : Format) (s : List ℕ) (at last : ℕ) (roles : List (List
   pub order : InOrder F (last + length roles) rest
   pub ends : lastEnd F s at roles ≡ at + length (joined (map (recordIn F s) roles))
 
--- all four roles leave no rest
+-- ---- the roles behind the first ones
 rank-four : (k : Kind) → rank k ≤ 4
 rank-four Machine = omega arith
 rank-four Word = omega arith
@@ -41,9 +43,38 @@ rank-four Sequence = omega arith
 rank-four Answers = omega arith
 rank-four Unknown = omega arith
 
-none-above : (F : Format) (n : ℕ) (cs : List (ℕ × List ℕ)) → 4 ≤ n → InOrder F n cs → cs ≡ []
-none-above F n [] l h = refl
-none-above F n (c ∷ cs) l h = let z : ⊥ = omega (arith, h .0, rank-four (kindOf F (c .0))) in absurd z
+-- a known kind is one of those of the role that has its rank
+ranked : (F : Format) (k : ℕ) → 0 < rank (kindOf F k)
+    → among k (getD (rolesOf F) (rank (kindOf F k) - 1) []) ≡ true
+unfolding kindOf
+ranked F k l = elim (true-or-false (among k (F .machine))) [
+  | inl e ↦ rw (e, e)
+  | inr a ↦ (elim (true-or-false (among k (F .word))) [
+    | inl e ↦ rw (a, e, e)
+    | inr b ↦ (elim (true-or-false (among k (F .sequence))) [
+      | inl e ↦ rw (a, b, e, e)
+      | inr c ↦ (elim (true-or-false (among k (F .answers))) [
+        | inl e ↦ rw (a, b, c, e, e)
+        | inr d ↦ (let z : ⊥ = omega (arith, rw (a, b, c, d) at l) in absurd z)
+      ])
+    ])
+  ])
+]
+
+-- one that the sheet lacks, among those behind the first n
+lacking : (F : Format) (s : List ℕ) (roles : List (List ℕ)) (n i : ℕ) → Lacks F s (drop n roles) → n ≤ i
+    → i < length roles → isMissing (find (getD roles i []) (parsed F s .records)) ≡ true
+lacking F s [] n i h l m = let z : ⊥ = omega arith in absurd z
+lacking F s (ks ∷ roles) zero zero h l m = h .0
+lacking F s (ks ∷ roles) zero (suc i) h l m = lacking F s roles zero i (h .1) (omega arith) (omega arith)
+lacking F s (ks ∷ roles) (suc n) zero h l m = let z : ⊥ = omega arith in absurd z
+lacking F s (ks ∷ roles) (suc n) (suc i) h l m = lacking F s roles n i h (omega arith) (omega arith)
+
+-- a record behind others
+has-behind : (ks : List ℕ) (rs : List (ℕ × List ℕ)) (c : ℕ × List ℕ) (cs : List (ℕ × List ℕ))
+    → among (c .0) ks ≡ true → has ks (rs ++ (c ∷ cs)) ≡ true
+has-behind ks [] c cs e = rw e
+has-behind ks (r ∷ rs) c cs e = rw (has-behind ks rs c cs e) (or-true (among (r .0) ks))
 
 module _ (F : Format) (s : List ℕ) where
   -- the record of a role is found among these, and carries what reading gives
@@ -145,13 +176,29 @@ module _ (F : Format) (s : List ℕ) (bytes : Bytes s) (roles : List (List ℕ))
       ap (take (lastEnd F s 0 roles)) front-bytes
       ∙ take-at (joined (map (recordIn F s) roles)) _ (lastEnd F s 0 roles) (omega (arith, front .ends))
 
-  -- with all four roles they are the whole sheet
-  pub front-whole : 4 ≤ length roles → s ≡ joined (map (recordIn F s) roles)
-  front-whole l =
-      let none = none-above F (0 + length roles) (front .rest) (omega arith) (front .order) in
-      front-bytes ∙ rw (none, joined-none) (append-nil (joined (map (recordIn F s) roles)))
+  -- where the sheet has none of the other roles they are all of it
+  others-none : Lacks F s (drop (length roles) (rolesOf F)) → (cs : List (ℕ × List ℕ)) → front .rest ≡ cs → cs ≡ []
+  others-none lacks [] e = refl
+  others-none lacks (c ∷ cs) e =
+      let above : InOrder F (0 + length roles) (c ∷ cs) = subst (InOrder F (0 + length roles)) e (front .order) in
+      let r = rank (kindOf F (c .0)) in
+      let ks = getD (rolesOf F) (r - 1) [] in
+      let there : has ks (contents F s) ≡ true =
+      ap (has ks) (front .is ∙ ap (λ (q : List (ℕ × List ℕ)). map (recordIn F s) roles ++ q) e)
+      ∙ has-behind ks (map (recordIn F s) roles) c cs (ranked F (c .0) (omega (arith, above .0))) in
+      let found : isMissing (find ks (parsed F s .records)) ≡ false =
+      ap (λ (q : List Record). isMissing (find ks q)) (sym (contents-placed F s bytes stop))
+      ∙ missing-placed ks (contents F s) 0 ∙ ap not there in
+      let low : r - 1 < length (rolesOf F) = omega (arith, above .0, rank-four (kindOf F (c .0))) in
+      let missed = lacking F s (rolesOf F) (length roles) (r - 1) lacks (omega (arith, above .0)) low in
+      absurd (true≢false (sym missed ∙ found))
+
+  pub front-whole : Lacks F s (drop (length roles) (rolesOf F)) → s ≡ joined (map (recordIn F s) roles)
+  front-whole lacks =
+      front-bytes
+      ∙ rw (others-none lacks (front .rest) refl, joined-none) (append-nil (joined (map (recordIn F s) roles)))
 
 -- a sheet of the format that the services take is the records of all four, where it has them
 pub standard-whole : (s : List ℕ) → Bytes s → firstCause (sheetCauses standard (rolesOf standard) s) ≡ Clear
     → s ≡ joined (map (recordIn standard s) (rolesOf standard))
-standard-whole s bytes clear = front-whole standard s bytes (rolesOf standard) standard-roles clear (omega arith)
+standard-whole s bytes clear = front-whole standard s bytes (rolesOf standard) standard-roles clear tt

@@ -36,6 +36,13 @@ module _ (before : List ℕ) (at : ℕ) (xs : List ℕ) where
       → end ≡ putEnd before at xs → Puts before at xs after end
   put-puts l e f = record { ends = f ∙ end-fits l; inside = omega (arith, f, end-fits l); written = e ∙ put-fits l }
 
+-- and the other direction: bytes that were put where all of them fit are there as `put` would put them
+pub puts-put : {before after : List ℕ} {at end : ℕ} (xs : List ℕ) → Puts before at xs after end
+    → (after ≡ putAt before at xs) × (end ≡ putEnd before at xs)
+puts-put {before} {after} {at} xs h =
+    let l : at + length xs ≤ length before = omega (arith, h .ends, h .inside) in
+    (h .written ∙ sym (put-fits before at xs l), h .ends ∙ sym (end-fits before at xs l))
+
 -- ---- parts, one after the other
 pub puts-none : (before : List ℕ) (at : ℕ) → at ≤ length before → Puts before at [] before at
 puts-none before at l = record { ends = omega arith; inside = l; written = paste-zero before at [] }

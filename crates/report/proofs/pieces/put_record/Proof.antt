@@ -1,43 +1,25 @@
--- `report::pieces::put_record` meets its contract: the header, then the payload.
--- Assumes nothing.
+-- `report::pieces::put_record` meets its contract: the record fits. Assumes nothing.
 use borrow.Author.Needs.{needs}
-use Prim.Native.Nat.{ℕ}
-use mathlib.Core.Path.{ap}
-use mathlib.Core.List.{List, _++_}
+use native.Mathlib.Omega.{arith}
 use denote.Ref.{now}
-use Rattle.sheet.specs.Writing.Laws.{puts-append, puts-same}
+use Rattle.sheet.specs.Writing.{recordBytes}
+use Rattle.sheet.specs.Writing.Laws.{put-puts, record-size}
 use Rattle.report.proofs.pieces.put_record.Statement.{statement}
 use Rattle.report.proofs.pieces.put_record.Tie as tie
 
-header-of-requires : tie.Need-header-of-requires
-header-of-requires c κs = search needs
-
-slice-aggregate-put : tie.Need-slice-aggregate-put
-slice-aggregate-put c = search needs
-
-put-requires : tie.Need-put-requires
-put-requires c κs = search needs
-
-put-requires-2 : tie.Need-put-requires-2
-put-requires-2 c κs = search needs
+put-record-requires : tie.Need-put-record-requires
+put-record-requires c κs = search needs
 
 same-length : tie.Need-same-length
 same-length c = search needs
 
 returns : tie.Need-returns
 returns c =
-    let made = c .before .before .before .before .before .before .before .before .before in
-    puts-same (ap (λ (h : List ℕ). h ++ now (made .before .before .before .args .payload)) (made .header-of .ensures))
-    (puts-append _ _ (c .before .before .before .before .before .before .put .ensures)
-    (c .before .before .put2 .ensures))
+    let start = c .before .before .before .before .before .before in
+    let put = c .before .before .put-record .ensures in
+    put-puts (now (start .args .out)) (start .args .at)
+    (recordBytes (start .args .kind) (now (start .args .payload)))
+    (omega (arith, record-size (start .args .kind) (now (start .args .payload)), start .pre)) (put .0) (put .1)
 
 pub put-record-spec : {M : Type 1} → statement M
-put-record-spec =
-    tie.close
-    (tie.spec
-    header-of-requires
-    slice-aggregate-put
-    put-requires
-    put-requires-2
-    same-length
-    returns)
+put-record-spec = tie.close (tie.spec put-record-requires same-length returns)
