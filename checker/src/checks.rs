@@ -1,5 +1,5 @@
 // Checks 1 to 7 in the specification's order (§4.1), 12 straight after 4, as far as
-// a service needs them.
+// a service needs them: of a sheet, or of payloads that a sheet is written from.
 
 use crate::machine::{
     Machine, LONGEST_SEQUENCE, LONGEST_WORD, MOST_COMMANDS, MOST_STATES, SILENCE,
@@ -41,26 +41,38 @@ pub fn check<'a>(
     machine: &mut Machine,
 ) -> Result<Checked<'a>, Refusal> {
     let needed = service.needed();
-    let parts = read(sheet, needed)?;
-    let part = |kind: usize| {
-        parts[kind - 1]
-            .filter(|_| kind <= needed)
-            .unwrap_or_default()
-    };
-    read_machine(part(1), machine)?;
-    let word = part(2);
-    commands(word, LONGEST_WORD, machine.k, 5)?;
-    if let Some((i, j)) = machine.unseparated(word.payload) {
-        return Err(Refusal::new(6, 16 * i + j));
-    }
-    if needed >= 3 {
-        commands(part(3), LONGEST_SEQUENCE, machine.k, 7)?;
-    }
+    let mut parts = read(sheet, needed)?.map(Option::unwrap_or_default);
+    parts[needed..].fill(Part::default());
+    check_parts(&parts[..needed], machine)?;
+    let [_, word, sequence, answers] = parts;
     Ok(Checked {
         word: word.payload,
-        sequence: part(3).payload,
-        answers: part(4),
+        sequence: sequence.payload,
+        answers,
     })
+}
+
+/// Checks 3 to 7 and 12 of the parts from kind 1 up, as many as there are, each
+/// where it says that it stands; reads the machine into `machine`.
+pub fn check_parts(parts: &[Part], machine: &mut Machine) -> Result<(), Refusal> {
+    for (kind, &part) in (1..).zip(parts) {
+        match kind {
+            1 => read_machine(part, machine)?,
+            2 => check_word(part, machine)?,
+            3 => commands(part, LONGEST_SEQUENCE, machine.k, 7)?,
+            _ => {}
+        }
+    }
+    Ok(())
+}
+
+/// Checks 5 and 6.
+fn check_word(part: Part, machine: &Machine) -> Result<(), Refusal> {
+    commands(part, LONGEST_WORD, machine.k, 5)?;
+    match machine.unseparated(part.payload) {
+        Some((i, j)) => Err(Refusal::new(6, 16 * i + j)),
+        None => Ok(()),
+    }
 }
 
 /// The machine of a sheet, record 1 alone being needed: checks 1 to 4

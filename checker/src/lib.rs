@@ -24,6 +24,7 @@ pub mod rom;
 pub mod searching;
 pub mod sheet;
 pub mod words;
+pub mod writing;
 
 #[cfg(test)]
 mod cases;

@@ -15,6 +15,10 @@ bench word              find a separating word for the machine of the sheet on s
                         the sheet with it as record 2; WORD, NONE or REFUSED on standard error
 bench build             build the sequence of the sheet on standard input: the sheet with it as record 3
 bench read KIND         read the sheet on standard input: the payload of record 1 machine, 2 word, 3 sequence, 4 answers
+bench write MACHINE WORD [SEQUENCE [ANSWERS]]  \
+                        write the sheet of the payloads in these files, as bench read gives them
+bench answers FILE      put the answers in that file into the sheet on standard input: \
+                        the sheet with them as record 4
 bench desk SHEET        bring a unit to its start by the sheet in that file: COMMAND, answers on standard input, \
                         HOME or STRANGER
 bench house             the house unit's sheet: machine and word

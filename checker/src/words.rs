@@ -5,8 +5,9 @@
 pub const LONGEST: usize = 4095;
 
 /// Every first word that names a service.
-pub const NAMES: [&str; 10] = [
-    "judge", "certify", "word", "build", "read", "desk", "house", "help", "--help", "-h",
+pub const NAMES: [&str; 12] = [
+    "judge", "certify", "word", "build", "read", "write", "answers", "desk", "house", "help",
+    "--help", "-h",
 ];
 
 pub type Word = Vec<u8>;
@@ -18,17 +19,14 @@ pub enum Service {
     Word,
     Build,
     Read(u16),
+    /// The two to four words behind it name files.
+    Write,
+    /// The word behind it names a file.
+    Answers,
     /// The word behind it names a file.
     Desk,
     House,
     Help,
-}
-
-impl Service {
-    /// Whether the service reads a sheet from standard input.
-    pub fn takes_sheet(self) -> bool {
-        !matches!(self, Service::Desk | Service::House | Service::Help)
-    }
 }
 
 /// The mistakes in the order in which they are looked for.
@@ -44,10 +42,12 @@ pub enum Mistake {
     NoKind,
     SheetEmpty,
     SheetLong,
+    FileEmpty,
+    FileLong,
 }
 
 impl Mistake {
-    pub const ALL: [Mistake; 10] = [
+    pub const ALL: [Mistake; 12] = [
         Mistake::FirstEmpty,
         Mistake::FirstLong,
         Mistake::NoService,
@@ -58,15 +58,17 @@ impl Mistake {
         Mistake::NoKind,
         Mistake::SheetEmpty,
         Mistake::SheetLong,
+        Mistake::FileEmpty,
+        Mistake::FileLong,
     ];
 
     /// What the program's line says.
     pub fn phrase(self) -> &'static str {
         match self {
-            Mistake::FirstEmpty | Mistake::KindEmpty | Mistake::SheetEmpty => {
+            Mistake::FirstEmpty | Mistake::KindEmpty | Mistake::SheetEmpty | Mistake::FileEmpty => {
                 "an argument is empty"
             }
-            Mistake::FirstLong | Mistake::KindLong | Mistake::SheetLong => {
+            Mistake::FirstLong | Mistake::KindLong | Mistake::SheetLong | Mistake::FileLong => {
                 "an argument is longer than 4095 bytes"
             }
             Mistake::NoService => "the first argument names no service",
@@ -89,6 +91,8 @@ impl Mistake {
             Mistake::NoKind => "KIND no number",
             Mistake::SheetEmpty => "SHEET empty",
             Mistake::SheetLong => "SHEET too long",
+            Mistake::FileEmpty => "FILE empty",
+            Mistake::FileLong => "FILE too long",
         }
     }
 }
@@ -107,6 +111,8 @@ pub fn service(words: &[Word]) -> Result<Service, Mistake> {
         b"house" => Service::House,
         b"help" | b"--help" | b"-h" => Service::Help,
         b"read" => return reading(rest),
+        b"write" => return files(rest, 2, 4, Service::Write),
+        b"answers" => return files(rest, 1, 1, Service::Answers),
         b"desk" => return desk(rest),
         _ => return Err(Mistake::NoService),
     };
@@ -138,6 +144,20 @@ fn desk(rest: &[Word]) -> Result<Service, Mistake> {
         }
         _ => Err(Mistake::TooMany),
     }
+}
+
+/// The words behind `write` and `answers`: so many at least and at most, each of
+/// them any file's name.
+fn files(rest: &[Word], least: usize, most: usize, service: Service) -> Result<Service, Mistake> {
+    if rest.len() < least {
+        return Err(Mistake::TooFew);
+    }
+    if rest.len() > most {
+        return Err(Mistake::TooMany);
+    }
+    let named = |name: &Word| length(name, Mistake::FileEmpty, Mistake::FileLong);
+    rest.iter().try_for_each(named)?;
+    Ok(service)
 }
 
 fn length(word: &[u8], empty: Mistake, long: Mistake) -> Result<(), Mistake> {
@@ -177,6 +197,8 @@ mod tests {
         assert_eq!(asked(&["word"]), Ok(Service::Word));
         assert_eq!(asked(&["build"]), Ok(Service::Build));
         assert_eq!(asked(&["read", "3"]), Ok(Service::Read(3)));
+        assert_eq!(asked(&["write", "3", "4"]), Ok(Service::Write));
+        assert_eq!(asked(&["answers", "3"]), Ok(Service::Answers));
         assert_eq!(asked(&["desk", "3"]), Ok(Service::Desk));
         assert_eq!(asked(&["house"]), Ok(Service::House));
         for help in ["help", "--help", "-h"] {
@@ -200,7 +222,8 @@ mod tests {
             assert_eq!(asked(&[&word, "", "1"]), Err(mistake));
         }
         for word in [
-            "Judge", "jud", "judges", "words", "wor", "reads", "-help", "--h", "help\n",
+            "Judge", "jud", "judges", "words", "wor", "reads", "writes", "writ", "answer", "-help",
+            "--h", "help\n",
         ] {
             assert_eq!(asked(&[word]), Err(Mistake::NoService));
             assert_eq!(asked(&[word, "1", "1"]), Err(Mistake::NoService));
@@ -221,6 +244,37 @@ mod tests {
         assert_eq!(asked(&["desk"]), Err(Mistake::TooFew));
         assert_eq!(asked(&["desk", "", ""]), Err(Mistake::TooMany));
         assert_eq!(asked(&["desk", "x", "1"]), Err(Mistake::TooMany));
+    }
+
+    #[test]
+    fn files() {
+        let (long, longer) = ("x".repeat(4095), "x".repeat(4096));
+        for count in 0..6 {
+            let words = |name| [vec![name], vec!["x"; count]].concat();
+            let write = match count {
+                0..=1 => Err(Mistake::TooFew),
+                2..=4 => Ok(Service::Write),
+                _ => Err(Mistake::TooMany),
+            };
+            assert_eq!(asked(&words("write")), write);
+            let answers = match count {
+                0 => Err(Mistake::TooFew),
+                1 => Ok(Service::Answers),
+                _ => Err(Mistake::TooMany),
+            };
+            assert_eq!(asked(&words("answers")), answers);
+        }
+        assert_eq!(asked(&["write", ""]), Err(Mistake::TooFew));
+        assert_eq!(asked(&["write", "", "", "", "", ""]), Err(Mistake::TooMany));
+        assert_eq!(asked(&["answers", "", &longer]), Err(Mistake::TooMany));
+        assert_eq!(asked(&["answers", ""]), Err(Mistake::FileEmpty));
+        assert_eq!(asked(&["answers", &long]), Ok(Service::Answers));
+        assert_eq!(asked(&["answers", &longer]), Err(Mistake::FileLong));
+        assert_eq!(asked(&["write", &long, &long]), Ok(Service::Write));
+        let first = asked(&["write", "x", &longer, ""]);
+        assert_eq!(first, Err(Mistake::FileLong));
+        let first = asked(&["write", "x", "x", "", &longer]);
+        assert_eq!(first, Err(Mistake::FileEmpty));
     }
 
     #[test]

@@ -9,7 +9,7 @@ use super::sheets::case;
 use crate::known::{twin, TWIN_ANSWERS, TWIN_BUILT};
 use crate::random::Random;
 use crate::sheet::sheet_of;
-use crate::words::{service, Word, LONGEST, NAMES};
+use crate::words::{Word, LONGEST, NAMES};
 
 type Line = Vec<Word>;
 
@@ -31,7 +31,7 @@ fn fixed() -> Vec<Line> {
     lines
 }
 
-/// A first word alone and with one to four words behind it.
+/// A first word alone and with one to five words behind it.
 fn numbers_of_words(first: &[u8]) -> Vec<Line> {
     let long = vec![b'3'; LONGEST + 1];
     vec![
@@ -44,6 +44,8 @@ fn numbers_of_words(first: &[u8]) -> Vec<Line> {
         line(&[first, b"3", b""]),
         line(&[first, b"x", b"3", b"3"]),
         line(&[first, b"3", b"3", &long, b""]),
+        line(&[first, b"3", b"", &long]),
+        line(&[first, b"3", b"3", b"3", b"", b"3"]),
     ]
 }
 
@@ -85,13 +87,18 @@ fn empty_and_long() -> Vec<Line> {
     behind.iter().flat_map(with).collect()
 }
 
-/// One to five random words, `read` and `desk` with one more often.
+/// One to six random words; those that take names or a kind often with some.
 fn random_line(random: &mut Random) -> Line {
     if random.once_in(3) {
         return vec![b"read".to_vec(), kinds::any(random)];
     }
     if random.once_in(8) {
-        return vec![b"desk".to_vec(), kinds::any(random)];
+        let service = *random.pick(&["desk", "answers"]);
+        return vec![service.as_bytes().to_vec(), kinds::any(random)];
+    }
+    if random.once_in(10) {
+        let names = (0..random.range(1, 5)).map(|_| kinds::any(random));
+        return [vec![b"write".to_vec()], names.collect()].concat();
     }
     let words = *random.pick(&[1, 1, 1, 1, 2, 2, 3, 4, 5]);
     (0..words).map(|_| random_word(random)).collect()
@@ -145,9 +152,9 @@ impl Comparer {
     fn random_line(&mut self, options: &Options, index: usize) -> Result<(), Difference> {
         let mut random = Random::at(options.seed, 4, index);
         let line = random_line(&mut random);
-        let case = match service(&line) {
-            Ok(service) if service.takes_sheet() => case(options.seed, index, &mut random),
-            _ => passing(options.seed, index),
+        let case = match self.reads_sheet(&line) {
+            true => case(options.seed, index, &mut random),
+            false => passing(options.seed, index),
         };
         self.program(&case, &options.directory, &line)
     }
@@ -156,7 +163,7 @@ impl Comparer {
 #[cfg(test)]
 mod tests {
     use super::*;
-    use crate::words::{Mistake, Service};
+    use crate::words::{service, Mistake, Service};
 
     #[test]
     fn fixed_words_meet_every_service_and_mistake() {
@@ -180,6 +187,6 @@ mod tests {
         let tried = (0..5000).map(|_| random_line(random));
         let lines: Vec<Line> = fixed().into_iter().chain(tried).collect();
         assert!(lines.iter().flatten().all(|word| !word.contains(&0)));
-        assert!(lines.iter().all(|line| line.len() <= 5));
+        assert!(lines.iter().all(|line| line.len() <= 6));
     }
 }

@@ -6,7 +6,8 @@ use super::desks;
 use super::driving::Reached;
 use super::searches;
 use super::silence;
-use super::tally::{Group, Tally};
+use super::tally::{names, Group, Tally};
+use super::writings;
 use crate::number;
 use crate::words::{Mistake, Service, Word, NAMES};
 use std::collections::BTreeMap;
@@ -19,6 +20,8 @@ const CERTIFY: [u64; 11] = [1, 2, 3, 4, 5, 6, 7, 9, 12, 110, 111];
 const JUDGE: [u64; 15] = [1, 2, 3, 4, 5, 6, 7, 9, 10, 11, 12, 100, 101, 102, 103];
 const BUILD: [u64; 9] = [0, 1, 2, 3, 4, 5, 6, 8, 12];
 const READ: [u64; 3] = [0, 1, 2];
+/// The refusals of writing; its groups say what has to be met.
+const WRITE: [u64; 8] = [3, 4, 5, 6, 7, 9, 10, 12];
 /// The same of the lines of `bench judge` and `bench certify`.
 const LINES: [Group; 2] = [
     (
@@ -41,6 +44,8 @@ pub const ENOUGH_CASES: usize = 100_000;
 pub const ENOUGH_DESKS: usize = 300;
 /// The same for sheets of `bench word`.
 pub const ENOUGH_SEARCHES: usize = 600;
+/// The same for turns of `bench write` and `bench answers`.
+pub const ENOUGH_WRITINGS: usize = 200;
 /// The names under which the program's dialogues, its searches and lines, and
 /// calls of the C functions are counted.
 const DESK: &str = "bench desk";
@@ -69,6 +74,10 @@ pub struct Counts {
     pub desks: Tally,
     /// Searches of `bench word`.
     pub words: Tally,
+    /// Sheets of `bench write` and `bench answers`.
+    pub writings: Tally,
+    /// Sheets that the model wrote again from their records.
+    pub written_again: usize,
     /// Lines of `bench judge` and `bench certify`.
     pub lines: Tally,
     /// What the C functions told of silence.
@@ -145,6 +154,7 @@ impl Counts {
                 true,
             ),
             ("searches against all words", self.all_tried, true),
+            ("sheets written again", self.written_again, true),
             ("house unit through the chain", self.chains, fixed),
             ("units that pass", self.units_passed, units),
             ("units told wrong", self.units_wrong, units),
@@ -168,9 +178,37 @@ impl Counts {
         self.words.missing(PROGRAM, searches::groups())
     }
 
+    /// The same for `bench write` and `bench answers`.
+    pub fn writings_missing(&self) -> Vec<String> {
+        self.writings.missing(PROGRAM, writings::groups())
+    }
+
     /// The same for the dialogues of `bench desk`.
     pub fn desks_missing(&self) -> Vec<String> {
         self.desks.missing(DESK, desks::groups())
+    }
+
+    /// Sheets that were written by the programs, their refusals, and round trips:
+    /// of sheets to payloads and back, and of payloads to sheets and back.
+    fn writing(&self) -> String {
+        let told = |name: &str| {
+            let program = self.writings.met("write", name) + self.writings.met("answers", name);
+            self.reached.met("write", name) + program
+        };
+        let refused =
+            WRITE.map(|number| format!(" {number}:{}", told(&format!("refused {number}"))));
+        let trips = |name: &str| {
+            let read = self.reached.met("write, parts read back", name);
+            let again = self.reached.met("write, sheets again", name);
+            read + again + self.writings.met("read and written again", name)
+        };
+        let trips: usize = names(writings::WANTED).map(trips).sum();
+        format!(
+            "sheets written {}, refused{}; round trips {} by the model, {trips} by the programs\n",
+            told("written"),
+            refused.concat(),
+            self.written_again
+        )
     }
 
     pub fn summary(&self) -> String {
@@ -183,7 +221,7 @@ impl Counts {
              certified {} and open {} in rig_certify\n\
              sheets of fixed lengths {}, built sequences checked {}, fast against naive {}\n\
              searches for a word compared {}, with all words {}\n\
-             {}{}{}{}{}units: tried {}, passed {}, told wrong {}, told unheard {}; \
+             {}{}{}{}{}{}{}units: tried {}, passed {}, told wrong {}, told unheard {}; \
              sequences searched for all units {}, given up {}",
             row(&self.certify, ""),
             row(&self.judge, ""),
@@ -201,7 +239,9 @@ impl Counts {
             self.silence.summary(RIG, silence::groups()),
             self.desks.summary(DESK, desks::groups()),
             self.words.summary(PROGRAM, searches::groups()),
+            self.writings.summary(PROGRAM, writings::groups()),
             self.reached.summary(),
+            self.writing(),
             self.units,
             self.units_passed,
             self.units_wrong,
@@ -229,7 +269,6 @@ fn row<T: Display>(classes: &BTreeMap<T, usize>, separator: &str) -> String {
 #[cfg(test)]
 mod tests {
     use super::*;
-    use crate::checking::tally::names;
     use crate::words::service;
 
     #[test]
@@ -237,8 +276,8 @@ mod tests {
         let mut counts = Counts::default();
         let classes = CERTIFY.len() + JUDGE.len() + BUILD.len() + READ.len();
         let words = 1 + NAMES.len() + Mistake::ALL.len();
-        assert_eq!(counts.missing(false, true).len(), classes + words + 5);
-        assert_eq!(counts.missing(true, true).len(), classes + words + 9);
+        assert_eq!(counts.missing(false, true).len(), classes + words + 6);
+        assert_eq!(counts.missing(true, true).len(), classes + words + 10);
         for class in CERTIFY {
             counts.called(Call::Certify, class << 40);
         }
@@ -256,6 +295,7 @@ mod tests {
             "built sequences",
             "searches by halves against depth first",
             "searches against all words",
+            "sheets written again",
         ];
         assert_eq!(counts.missing(false, false), left);
         counts.chained(3);
@@ -280,13 +320,17 @@ mod tests {
         assert!(counts.silence_missing().is_empty());
     }
 
-    /// Every service and mistake once; `read` and `desk` alone are mistakes.
+    /// Every service and mistake once; some need words behind their names.
     fn ask_everything(counts: &mut Counts) {
         counts.asked(&[], service(&[]));
         for name in NAMES {
             let mut words = vec![name.as_bytes().to_vec()];
-            let takes_one = ["read", "desk"].contains(&name);
-            words.extend(takes_one.then(|| b"3".to_vec()));
+            let more = match name {
+                "read" | "desk" | "answers" => 1,
+                "write" => 2,
+                _ => 0,
+            };
+            words.extend(vec![b"3".to_vec(); more]);
             counts.asked(&words, service(&words));
         }
         for mistake in Mistake::ALL {

@@ -5,8 +5,8 @@ use std::path::PathBuf;
 
 pub const HELP: &str = "\
 checker [--seed S] [--count C] [--units U] [--programs P] [--words W]
-        [--lengths L] [--cases N] [--desks M] [--searches F] [--random-only]
-        [--directory D] [--spoil NAME]
+        [--lengths L] [--cases N] [--desks M] [--searches F] [--writings T]
+        [--random-only] [--directory D] [--spoil NAME]
 Holds the proved bench against a separately written model.
   --seed S       start of all random choices (default 1)
   --count C      random and damaged sheets (default 150000)
@@ -22,6 +22,8 @@ Holds the proved bench against a separately written model.
                  0: none, and no files either (default 500)
   --searches F   sheets for the program's search of a word; what it finds is
                  built and certified (default 600)
+  --writings T   turns of the program's writing of sheets, each with some runs;
+                 0: none, and no files either (default 200)
   --random-only  without what is the same in every run: the documented cases,
                  words of every kind, chains, all small machines
   --directory D  where the programs, bench and cases, are (default target/bin)
@@ -52,6 +54,7 @@ pub struct Options {
     pub cases: usize,
     pub desks: usize,
     pub searches: usize,
+    pub writings: usize,
     pub random_only: bool,
     pub directory: PathBuf,
     pub spoil: Option<Spoil>,
@@ -69,6 +72,7 @@ impl Default for Options {
             cases: 400_000,
             desks: 500,
             searches: 600,
+            writings: 200,
             random_only: false,
             directory: PathBuf::from("target/bin"),
             spoil: None,
@@ -123,6 +127,7 @@ fn set(options: &mut Options, name: &str, value: String) -> Result<(), String> {
         "--cases" => options.cases = number(name, &value, 0)? as usize,
         "--desks" => options.desks = number(name, &value, 0)? as usize,
         "--searches" => options.searches = number(name, &value, 0)? as usize,
+        "--writings" => options.writings = number(name, &value, 0)? as usize,
         "--directory" => options.directory = PathBuf::from(value),
         "--spoil" => {
             let spoil = Spoil::named(&value).ok_or(format!("no spoil is called {value}"))?;

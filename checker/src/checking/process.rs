@@ -120,6 +120,20 @@ pub fn piped(
     })
 }
 
+/// A run without standard input, which the shell closes.
+pub fn closed_input(program: &Path, words: &[Word], limit: Duration) -> io::Result<Printed> {
+    let mut shell = Command::new("sh");
+    shell
+        .args(["-c", "exec \"$0\" \"$@\" <&-"])
+        .arg(program)
+        .args(words.iter().map(|word| OsStr::from_bytes(word)))
+        .stdout(Stdio::piped())
+        .stderr(Stdio::piped());
+    let mut child = shell.spawn()?;
+    wait(&mut child, limit)?;
+    Ok(child.wait_with_output()?.into())
+}
+
 /// Waits for the end; after the time limit the run is ended and it is an error.
 pub fn wait(child: &mut Child, limit: Duration) -> io::Result<ExitStatus> {
     let start = Instant::now();
@@ -188,6 +202,18 @@ mod tests {
         assert_eq!((deaf.status, deaf.output.len()), (Some(0), 0));
         let waiting = unread_by("cat", &[], Duration::from_millis(200)).unwrap_err();
         assert_eq!(waiting.kind(), ErrorKind::TimedOut);
+    }
+
+    #[test]
+    fn without_input() {
+        let words = [
+            b"-c".to_vec(),
+            b"echo \"$0\"; cat".to_vec(),
+            b"a \xff".to_vec(),
+        ];
+        let printed = closed_input(Path::new("sh"), &words, LIMIT).unwrap();
+        assert_eq!(printed.output, b"a \xff\n");
+        assert!(!printed.error.is_empty());
     }
 
     /// `yes` never ends.

@@ -5,6 +5,7 @@ use super::compare::Comparer;
 use super::desks::{wanted, Wanted};
 use super::difference::{Case, Difference};
 use super::kinds;
+use super::named_files::contents;
 use super::process::{on_pipe, on_sheet, Printed, LIMIT};
 use super::searches::outcome;
 use super::spoil::Spoil;
@@ -17,6 +18,7 @@ use crate::reading::payload;
 use crate::refusal::Refusal;
 use crate::searching::{search, with_word};
 use crate::words::{service, Service, Word};
+use crate::writing::{with_answers, write, MOST_NEEDED};
 use std::io;
 use std::path::Path;
 
@@ -65,24 +67,45 @@ impl Comparer {
         directory: &Path,
         words: &[Word],
     ) -> Result<(), Difference> {
+        self.printing(case, directory, words).map(drop)
+    }
+
+    /// The same; gives what was printed.
+    pub fn printing(
+        &mut self,
+        case: &Case,
+        directory: &Path,
+        words: &[Word],
+    ) -> Result<Printed, Difference> {
         let want = self.printed(words, &case.sheet);
-        let differs = |got: &str| {
-            let (words, want) = (spelled(words), shown(&want));
-            case.difference(&format!(
-                "{words}: the model gives {want}\nthe program {got}"
-            ))
-        };
+        self.run(case, directory, words, &want)
+    }
+
+    /// One run that has to print this; gives what it printed.
+    pub fn run(
+        &mut self,
+        case: &Case,
+        directory: &Path,
+        words: &[Word],
+        want: &Printed,
+    ) -> Result<Printed, Difference> {
         let mut got = self
-            .started(&directory.join(NAME), words, &case.sheet)
-            .map_err(|error| differs(&error.to_string()))?;
+            .started(&directory.join(NAME), words, &case.sheet, want)
+            .map_err(|error| differs(case, words, want, &error.to_string()))?;
         if let Some(spoil) = self.spoil {
             spoil.program(service(words), &case.sheet, &mut got);
         }
         self.count(words, &got);
-        if got == want {
-            return Ok(());
+        if got == *want {
+            return Ok(got);
         }
-        Err(differs(&shown(&got)))
+        Err(differs(case, words, want, &shown(&got)))
+    }
+
+    /// Whether a sheet on standard input is read: not where words are wrong, nor
+    /// where a file that comes before it cannot be read.
+    pub fn reads_sheet(&mut self, words: &[Word]) -> bool {
+        self.printed(words, &[]).left.is_none()
     }
 
     fn count(&mut self, words: &[Word], got: &Printed) {
@@ -94,13 +117,22 @@ impl Comparer {
             Ok(Service::Word) => self.counts.words.meet("word", &outcome(&got.error)),
             Ok(Service::Build) => self.counts.built_or_refused(refusal_number(&got.error)),
             Ok(Service::Read(_)) => self.counts.read_or_refused(refusal_number(&got.error)),
+            Ok(Service::Write) => self.counts.writings.meet("write", &told_name(got)),
+            Ok(Service::Answers) => self.counts.writings.meet("answers", &told_name(got)),
             _ => {}
         }
     }
 
-    /// Runs the program in the way that the words call for.
-    fn started(&self, program: &Path, words: &[Word], sheet: &[u8]) -> io::Result<Printed> {
-        if service(words).is_ok_and(Service::takes_sheet) {
+    /// Runs the program on the sheet; where no sheet is to be read, what is left of
+    /// it counts.
+    fn started(
+        &self,
+        program: &Path,
+        words: &[Word],
+        sheet: &[u8],
+        want: &Printed,
+    ) -> io::Result<Printed> {
+        if want.left.is_none() {
             return on_sheet(program, words, sheet);
         }
         let words = self.spoil.map_or(words, |spoil| spoil.words(words));
@@ -125,6 +157,8 @@ impl Comparer {
             Ok(Service::Word) => searched(sheet),
             Ok(Service::Build) => bytes_or_refusal(build_sheet(sheet)),
             Ok(Service::Read(kind)) => bytes_or_refusal(payload(sheet, kind).map(Vec::from)),
+            Ok(Service::Write) => written(&words[1..], sheet),
+            Ok(Service::Answers) => answered(&words[1], sheet),
             Ok(Service::Desk) => desk(&words[1], sheet),
             Ok(Service::House) => printed(house_sheet(), "", Some(sheet)),
             Ok(Service::Help) => printed(lines::HELP, "", Some(sheet)),
@@ -155,10 +189,36 @@ fn desk(name: &[u8], input: &[u8]) -> Printed {
 }
 
 /// Bytes go to standard output, a refusal's line to standard error.
-fn bytes_or_refusal(outcome: Result<Vec<u8>, Refusal>) -> Printed {
+pub fn bytes_or_refusal(outcome: Result<Vec<u8>, Refusal>) -> Printed {
     match outcome {
         Ok(bytes) => printed(bytes, "", None),
         Err(refusal) => printed("", lines::refused(refusal), None),
+    }
+}
+
+/// The sheet of the payloads in these files, the first that cannot be read being
+/// told; standard input is left alone.
+fn written(names: &[Word], input: &[u8]) -> Printed {
+    let files = names.iter().map(|name| contents(name, MOST_NEEDED));
+    match files.collect::<Result<Vec<_>, _>>() {
+        Ok(payloads) => wrote(&payloads, input),
+        Err(told) => printed("", told, Some(input)),
+    }
+}
+
+/// The same for files that hold these payloads.
+pub fn wrote(payloads: &[Vec<u8>], input: &[u8]) -> Printed {
+    Printed {
+        left: Some(input.len()),
+        ..bytes_or_refusal(write(payloads))
+    }
+}
+
+/// The sheet with the answers in this file, which is read before the sheet.
+fn answered(name: &[u8], sheet: &[u8]) -> Printed {
+    match contents(name, MOST_NEEDED) {
+        Ok(answers) => bytes_or_refusal(with_answers(sheet, &answers)),
+        Err(told) => printed("", told, Some(sheet)),
     }
 }
 
@@ -185,7 +245,7 @@ fn refusal_number(line: &[u8]) -> u64 {
 }
 
 /// The name of a line: its first word, with the number of a refusal.
-fn line_name(line: &[u8]) -> String {
+pub fn line_name(line: &[u8]) -> String {
     let text = String::from_utf8_lossy(line).to_lowercase();
     let words: Vec<&str> = text.split_whitespace().collect();
     match words[..] {
@@ -193,6 +253,23 @@ fn line_name(line: &[u8]) -> String {
         [first, ..] => String::from(first),
         [] => String::from("none"),
     }
+}
+
+/// The name of what a service that writes a sheet told.
+fn told_name(got: &Printed) -> String {
+    match (got.output.is_empty(), refusal_number(&got.error)) {
+        (false, _) => String::from("written"),
+        (true, 0) => String::from("file not read"),
+        (true, number) => format!("refused {number}"),
+    }
+}
+
+/// A run with these words printed something else.
+pub fn differs(case: &Case, words: &[Word], want: &Printed, got: &str) -> Difference {
+    let (words, want) = (spelled(words), shown(want));
+    case.difference(&format!(
+        "{words}: the model gives {want}\nthe program {got}"
+    ))
 }
 
 /// The program's name and the words, each in quotes.

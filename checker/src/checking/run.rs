@@ -1,8 +1,10 @@
 // One run: what is the same in every run, then words, random sheets, units, all
-// lengths, cases as text, the desk and searches for a word.
+// lengths, cases as text, the desk, searches for a word and sheets that are written.
 
 use super::compare::Comparer;
-use super::counts::{Counts, ENOUGH, ENOUGH_CASES, ENOUGH_DESKS, ENOUGH_SEARCHES, ENOUGH_SILENCE};
+use super::counts::{
+    Counts, ENOUGH, ENOUGH_CASES, ENOUGH_DESKS, ENOUGH_SEARCHES, ENOUGH_SILENCE, ENOUGH_WRITINGS,
+};
 use super::difference::{Case, Difference};
 use super::exhaustive::agreeing_units;
 use super::options::Options;
@@ -30,6 +32,7 @@ pub fn run(options: &Options) -> Result<Counts, Difference> {
     comparer.cases(options)?;
     comparer.desks(options)?;
     comparer.searches(options)?;
+    comparer.writings(options)?;
     let missing = missing(&comparer.counts, options);
     if !missing.is_empty() {
         let text = format!("never occurred in this run: {}", missing.join(", "));
@@ -56,6 +59,9 @@ fn missing(counts: &Counts, options: &Options) -> Vec<String> {
     }
     if options.searches >= ENOUGH_SEARCHES {
         missing.extend(counts.words_missing());
+    }
+    if options.writings >= ENOUGH_WRITINGS {
+        missing.extend(counts.writings_missing());
     }
     missing
 }

@@ -1,6 +1,6 @@
 // The model against itself and against the specification's claims: fast recognition
-// is the naive one, what is built is certified and within its bound, and searches
-// for a word agree.
+// is the naive one, what is built is certified and within its bound, searches for a
+// word agree, and a sheet's records give that sheet.
 
 use super::compare::Comparer;
 use super::difference::{Case, Difference};
@@ -11,6 +11,7 @@ use crate::checks::{check, load, Checked, Service};
 use crate::machine::Machine;
 use crate::naive;
 use crate::sheet::sheet_of;
+use crate::writing::{payloads, write};
 
 /// Longest sequence for which the naive recognition is made.
 const SHORT: usize = 250;
@@ -29,6 +30,21 @@ impl Comparer {
         }
         if let Ok(machine) = load(&case.sheet) {
             self.searched(case, &machine)?;
+        }
+        self.written_again(case)
+    }
+
+    /// Writing what a sheet holds gives the sheet, where it is not refused; and it
+    /// is not where judging has none of its causes up to 10.
+    fn written_again(&mut self, case: &Case) -> Result<(), Difference> {
+        let written = payloads(&case.sheet).map(|payloads| write(&payloads));
+        let judged = check(&case.sheet, Service::Judging, &mut Machine::default());
+        let sound = judged.is_ok_and(|it| it.answers.payload.len() <= it.sequence.len());
+        match written {
+            Some(Ok(sheet)) if sheet == case.sheet => self.counts.written_again += 1,
+            Some(Ok(_)) => return Err(case.difference("the checker's own: written otherwise")),
+            _ if sound => return Err(case.difference("the checker's own: not written")),
+            _ => {}
         }
         Ok(())
     }

@@ -5,6 +5,7 @@ use super::desks::DeskSpoil;
 use super::driving::CasesSpoil;
 use super::process::{Printed, LIMIT};
 use super::searches::WordSpoil;
+use super::writings::WriteSpoil;
 use crate::lines::mistaken;
 use crate::number::{class, marked, CERTIFIED, OPEN, PASS, UNFINISHED, UNHEARD, WRONG};
 use crate::words::{Mistake, Service, Word};
@@ -62,6 +63,7 @@ pub enum Spoil {
     Status,
     Desk(DeskSpoil),
     Word(WordSpoil),
+    Write(WriteSpoil),
     Cases(CasesSpoil),
 }
 
@@ -137,6 +139,7 @@ impl Spoil {
         found
             .or_else(|| DeskSpoil::named(name).map(Spoil::Desk))
             .or_else(|| WordSpoil::named(name).map(Spoil::Word))
+            .or_else(|| WriteSpoil::named(name).map(Spoil::Write))
             .or_else(|| CasesSpoil::named(name).map(Spoil::Cases))
     }
 
@@ -149,6 +152,7 @@ impl Spoil {
         });
         own.chain(DeskSpoil::names())
             .chain(WordSpoil::names())
+            .chain(WriteSpoil::names())
             .chain(CasesSpoil::names())
     }
 
@@ -215,6 +219,7 @@ impl Spoil {
             Ok(Service::Word) => self.word(sheet, seen),
             Ok(Service::Build) => self.build(seen),
             Ok(Service::Read(_)) => self.read(seen),
+            Ok(service @ (Service::Write | Service::Answers)) => self.write(service, sheet, seen),
             Ok(Service::House) if self == Spoil::HouseByte => change_last(&mut seen.output),
             Ok(Service::Help) if self == Spoil::HelpCut => drop(seen.output.pop()),
             Ok(_) => {}
@@ -251,6 +256,12 @@ impl Spoil {
     fn word(self, sheet: &[u8], seen: &mut Printed) {
         if let Spoil::Word(way) = self {
             way.apply(sheet, seen);
+        }
+    }
+
+    fn write(self, service: Service, sheet: &[u8], seen: &mut Printed) {
+        if let Spoil::Write(way) = self {
+            way.apply(service, sheet, seen);
         }
     }
 
@@ -330,7 +341,7 @@ impl Spoil {
 }
 
 /// Another line for the same place, where the line begins with these words.
-fn other_line(line: &mut Vec<u8>, start: &str, other: impl Fn(&str) -> String) {
+pub fn other_line(line: &mut Vec<u8>, start: &str, other: impl Fn(&str) -> String) {
     let text = String::from_utf8_lossy(line).into_owned();
     let rest = text.strip_prefix(start);
     if let Some(place) = rest.and_then(|rest| rest.split_whitespace().next()) {
@@ -345,7 +356,7 @@ pub fn silence_as_next_state(line: &mut Vec<u8>) {
     });
 }
 
-fn change_last(bytes: &mut [u8]) {
+pub fn change_last(bytes: &mut [u8]) {
     if let Some(last) = bytes.last_mut() {
         *last ^= 1;
     }

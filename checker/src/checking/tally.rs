@@ -15,7 +15,8 @@ impl Tally {
         *self.met.entry((group, String::from(name))).or_default() += 1;
     }
 
-    fn met(&self, group: &'static str, name: &str) -> usize {
+    /// How often it occurred.
+    pub fn met(&self, group: &'static str, name: &str) -> usize {
         let met = self.met.get(&(group, String::from(name)));
         met.copied().unwrap_or_default()
     }
@@ -47,6 +48,19 @@ impl Tally {
         let met = self.met.keys();
         met.map(|(group, name)| format!("{group}: {name}"))
     }
+}
+
+/// Every name of these groups is missed until it occurs, and each occurs by itself.
+#[cfg(test)]
+pub fn missed_until_met(groups: &[Group]) {
+    let mut tally = Tally::default();
+    let all: usize = groups.iter().map(|(_, all)| names(all).count()).sum();
+    assert_eq!(tally.missing("a run", groups.iter().copied()).len(), all);
+    for &(group, expected) in groups {
+        names(expected).for_each(|name| tally.meet(group, name));
+    }
+    assert!(tally.missing("a run", groups.iter().copied()).is_empty());
+    assert_eq!(tally.all().count(), all);
 }
 
 pub fn names(names: &'static str) -> impl Iterator<Item = &'static str> {

@@ -13,6 +13,7 @@ use crate::machine::{LONGEST_SEQUENCE, LONGEST_WORD, MOST_COMMANDS, MOST_STATES}
 use crate::reading::part;
 use crate::refusal::Refusal;
 use crate::searching::search;
+use crate::writing::write_into;
 
 /// Every byte of a lent buffer before the service.
 pub const LENT: u8 = 238;
@@ -45,7 +46,7 @@ impl Answerer {
                 certified(self.certifier.certificate(sheet, marks))
             }),
             Question::Build { room, sheet } => {
-                lent(*room, |buffer| built(build_into(sheet, buffer)))
+                lent(*room, |buffer| length("built", build_into(sheet, buffer)))
             }
             Question::Refusal { kind, sheet } => match part(sheet, *kind) {
                 Ok(_) => String::from("none"),
@@ -55,6 +56,9 @@ impl Answerer {
             Question::Transfer { from, to, sheet } => transferred(sheet, *from, *to),
             Question::Desk { sheet, answers } => dialogue(sheet, answers),
             Question::Word { sheet } => searched(search(sheet)),
+            Question::Write { room, parts } => {
+                lent(*room, |buffer| length("written", write_into(parts, buffer)))
+            }
             Question::House { state, command } => {
                 let (next, answer) = house_entry(*state, *command);
                 format!("next {next} answer {answer}")
@@ -100,10 +104,11 @@ fn certified(outcome: Result<Certificate, Refusal>) -> String {
     }
 }
 
-fn built(outcome: Result<usize, Refusal>) -> String {
+/// The length of what was done.
+fn length(done: &str, outcome: Result<usize, Refusal>) -> String {
     match outcome {
         Err(refusal) => refused(refusal),
-        Ok(length) => format!("built {length}"),
+        Ok(length) => format!("{done} {length}"),
     }
 }
 

@@ -8,30 +8,53 @@ pub const MOST_BYTES: usize = 1_048_576;
 
 /// Reads a case's only part.
 pub fn part(reader: &mut Reader) -> Result<Vec<u8>, Unreadable> {
-    let mut bytes = Vec::new();
-    items(reader, &mut bytes, false)?;
-    Ok(bytes)
+    let mut parts = parts(reader, 1, 1)?;
+    Ok(parts.remove(0))
 }
 
-/// Reads two parts with ` / ` between them.
-pub fn two_parts(reader: &mut Reader) -> Result<(Vec<u8>, Vec<u8>), Unreadable> {
-    let mut first = Vec::new();
-    items(reader, &mut first, true)?;
-    let size = first.len();
-    items(reader, &mut first, false)?;
-    let second = first.split_off(size);
-    Ok((first, second))
+/// Reads parts with ` / ` between them, so many at least and at most.
+pub fn parts(reader: &mut Reader, least: usize, most: usize) -> Result<Vec<Vec<u8>>, Unreadable> {
+    let (mut bytes, mut sizes) = (Vec::new(), Vec::new());
+    for count in 1..=most {
+        let before = bytes.len();
+        let another = match count {
+            _ if count < least => Another::Has,
+            _ if count < most => Another::May,
+            _ => Another::Never,
+        };
+        let follows = items(reader, &mut bytes, another)?;
+        sizes.push(bytes.len() - before);
+        if !follows {
+            break;
+        }
+    }
+    let mut rest = &bytes[..];
+    let split = |&size: &usize| {
+        let (part, behind) = rest.split_at(size);
+        rest = behind;
+        part.to_vec()
+    };
+    Ok(sizes.iter().map(split).collect())
+}
+
+/// Whether another part has to follow, may follow, or never does.
+#[derive(Clone, Copy, PartialEq, Eq)]
+enum Another {
+    Has,
+    May,
+    Never,
 }
 
 /// Adds a part to those before it: `-`, or items with a space between them; a
 /// record may stand right behind another. Where another part follows, the
-/// ` / ` is read too.
-fn items(reader: &mut Reader, bytes: &mut Vec<u8>, another: bool) -> Result<(), Unreadable> {
+/// ` / ` is read too; gives whether it does.
+fn items(reader: &mut Reader, bytes: &mut Vec<u8>, another: Another) -> Result<bool, Unreadable> {
     if reader.takes(b'-') {
-        return match another {
-            true => b" / ".iter().try_for_each(|&byte| reader.take(byte)),
-            false => Ok(()),
-        };
+        if another == Another::Never || (another == Another::May && reader.peek() != Some(b' ')) {
+            return Ok(false);
+        }
+        b" / ".iter().try_for_each(|&byte| reader.take(byte))?;
+        return Ok(true);
     }
     loop {
         let is_record = reader.peek() == Some(b'{');
@@ -44,10 +67,14 @@ fn items(reader: &mut Reader, bytes: &mut Vec<u8>, another: bool) -> Result<(), 
             continue;
         }
         if !reader.takes(b' ') {
-            return if another { reader.stuck() } else { Ok(()) };
+            return match another {
+                Another::Has => reader.stuck(),
+                _ => Ok(false),
+            };
         }
-        if another && reader.takes(b'/') {
-            return reader.take(b' ');
+        if another != Another::Never && reader.takes(b'/') {
+            reader.take(b' ')?;
+            return Ok(true);
         }
     }
 }

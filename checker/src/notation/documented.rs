@@ -212,6 +212,32 @@ fn searched() {
 }
 
 #[test]
+fn sheets_written() {
+    let parts =
+        |room: &str, rest: &str| answer(&format!("write {room} 2 2 1 0 0 5 0 1 1 5 / {rest}"));
+    let front = "10 0*3 1 0 2 2 1 0 0 5 0 1 1 5 1 0*3 2 0 0";
+    assert_eq!(parts("25", "0"), format!("written 23 | {front} 238 238"));
+    let sequence = format!("written 31 | {front} 2 0*3 3 0 0 1");
+    assert_eq!(parts("31", "0 / 0 1"), sequence);
+    let answers = format!("written 38 | {front} 2 0*3 3 0 0 1 1 0*3 4 0 9");
+    assert_eq!(parts("38", "0 / 0 1 / 9"), answers);
+    let empty = format!("written 37 | {front} 2 0*3 3 0 0 1 0*4 4 0");
+    assert_eq!(parts("37", "0 / 0 1 / -"), empty);
+    assert_eq!(parts("22", "0"), "refused 9 at 23 | 238*22");
+    assert_eq!(parts("0", "0 / 0 1 / 9"), "refused 9 at 38 | -");
+    assert_eq!(parts("0", "0 / 0 1 / 9*3"), "refused 10 at 31 | -");
+    assert_eq!(parts("1", "0 / 0 2 / 9*3"), "refused 7 at 30 | 238");
+    assert_eq!(parts("1", "0 / - / 9*3"), "refused 7 at 23 | 238");
+    assert_eq!(parts("0", "1 / -"), "refused 6 at 1 | -");
+    assert_eq!(parts("2", "1 2"), "refused 5 at 23 | 238 238");
+    assert_eq!(parts("2", "-"), "refused 5 at 16 | 238 238");
+    assert_eq!(answer("write 0 1 1 0 255 / -"), "refused 12 at 9 | -");
+    assert_eq!(answer("write 0 1 2 0 255 1 0 / -"), "refused 4 at 10 | -");
+    assert_eq!(answer("write 0 1 1 1 255 9 / -"), "refused 3 at 0 | -");
+    assert_eq!(answer("write 0 {1 1 1 0 7} / 0"), "refused 3 at 0 | -");
+}
+
+#[test]
 fn two_parts() {
     let both = |line: &str| match question(line.as_bytes()) {
         Ok(Question::Desk { sheet, answers }) => (sheet, answers),
@@ -232,6 +258,20 @@ fn two_parts() {
     );
     let (sheet, answers) = both("desk 0*1048000 / {1 0*570}");
     assert_eq!((sheet.len(), answers.len()), (1_048_000, 576));
+}
+
+#[test]
+fn several_parts() {
+    let read = |line: &str| match question(line.as_bytes()) {
+        Ok(Question::Write { room, parts }) => (room, parts),
+        other => panic!("{line}: {other:?}"),
+    };
+    assert_eq!(read("write 7 - / -"), (7, vec![vec![]; 2]));
+    assert_eq!(read("write 0 - / 5*0 / - / -"), (0, vec![vec![]; 4]));
+    let four = vec![vec![1, 2], vec![], vec![3, 3], vec![4, 0, 0, 0, 0, 9, 0]];
+    assert_eq!(read("write 1 1 2 / - / 3*2 / 4 {9}"), (1, four));
+    let three = vec![vec![5], vec![6], vec![0, 0, 0, 0, 3, 0, 7]];
+    assert_eq!(read("write 1 5 / 6 / {3} 7"), (1, three));
 }
 
 #[test]

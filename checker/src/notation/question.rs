@@ -1,13 +1,14 @@
 // One case, read from its line.
 
-use super::bytes::{part, two_parts, MOST_BYTES};
+use super::bytes::{part, parts, MOST_BYTES};
 use super::reader::{Reader, Unreadable};
 
 /// The largest buffer that is lent.
 const MOST_ROOM: usize = MOST_BYTES;
 
-const NAMES: [&str; 10] = [
-    "judge", "certify", "build", "refusal", "part", "transfer", "desk", "word", "house", "limits",
+const NAMES: [&str; 11] = [
+    "judge", "certify", "build", "refusal", "part", "transfer", "desk", "word", "write", "house",
+    "limits",
 ];
 
 #[derive(Clone, Debug, PartialEq, Eq)]
@@ -20,6 +21,7 @@ pub enum Question {
     Transfer { from: u8, to: u8, sheet: Vec<u8> },
     Desk { sheet: Vec<u8>, answers: Vec<u8> },
     Word { sheet: Vec<u8> },
+    Write { room: usize, parts: Vec<Vec<u8>> },
     House { state: u8, command: u8 },
     Limits,
 }
@@ -35,18 +37,9 @@ pub fn question(line: &[u8]) -> Result<Question, Unreadable> {
 
 fn fields(name: &str, reader: &mut Reader) -> Result<Question, Unreadable> {
     Ok(match name {
-        "judge" => Question::Judge {
-            room: field(reader, MOST_ROOM)?,
-            sheet: sheet(reader)?,
-        },
-        "certify" => Question::Certify {
-            room: field(reader, MOST_ROOM)?,
-            sheet: sheet(reader)?,
-        },
-        "build" => Question::Build {
-            room: field(reader, MOST_ROOM)?,
-            sheet: sheet(reader)?,
-        },
+        "judge" => with_room(reader, |room, sheet| Question::Judge { room, sheet })?,
+        "certify" => with_room(reader, |room, sheet| Question::Certify { room, sheet })?,
+        "build" => with_room(reader, |room, sheet| Question::Build { room, sheet })?,
         "refusal" => Question::Refusal {
             kind: field(reader, 65_535)? as u16,
             sheet: sheet(reader)?,
@@ -64,6 +57,10 @@ fn fields(name: &str, reader: &mut Reader) -> Result<Question, Unreadable> {
         "word" => Question::Word {
             sheet: sheet(reader)?,
         },
+        "write" => Question::Write {
+            room: field(reader, MOST_ROOM)?,
+            parts: payloads(reader)?,
+        },
         "house" => Question::House {
             state: field(reader, 255)? as u8,
             command: field(reader, 255)? as u8,
@@ -72,10 +69,29 @@ fn fields(name: &str, reader: &mut Reader) -> Result<Question, Unreadable> {
     })
 }
 
+/// A room and a sheet.
+fn with_room(
+    reader: &mut Reader,
+    question: fn(usize, Vec<u8>) -> Question,
+) -> Result<Question, Unreadable> {
+    let room = field(reader, MOST_ROOM)?;
+    Ok(question(room, sheet(reader)?))
+}
+
 fn desk(reader: &mut Reader) -> Result<Question, Unreadable> {
     reader.take(b' ')?;
-    let (sheet, answers) = two_parts(reader)?;
-    Ok(Question::Desk { sheet, answers })
+    let mut both = parts(reader, 2, 2)?;
+    let answers = both.remove(1);
+    Ok(Question::Desk {
+        sheet: both.remove(0),
+        answers,
+    })
+}
+
+/// Machine and word, and a sequence or that and answers.
+fn payloads(reader: &mut Reader) -> Result<Vec<Vec<u8>>, Unreadable> {
+    reader.take(b' ')?;
+    parts(reader, 2, 4)
 }
 
 /// The space in front of a field, and a number.
@@ -100,17 +116,19 @@ impl Question {
             Question::Transfer { .. } => "transfer",
             Question::Desk { .. } => "desk",
             Question::Word { .. } => "word",
+            Question::Write { .. } => "write",
             Question::House { .. } => "house",
             Question::Limits => "limits",
         }
     }
 
-    /// The numbers in front of the sheet.
+    /// The numbers in front of the parts.
     pub fn numbers(&self) -> Vec<usize> {
         match *self {
             Question::Judge { room, .. }
             | Question::Certify { room, .. }
-            | Question::Build { room, .. } => vec![room],
+            | Question::Build { room, .. }
+            | Question::Write { room, .. } => vec![room],
             Question::Refusal { kind, .. } | Question::Part { kind, .. } => vec![usize::from(kind)],
             Question::Transfer { from, to, .. } => vec![usize::from(from), usize::from(to)],
             Question::House { state, command } => vec![usize::from(state), usize::from(command)],
@@ -118,7 +136,7 @@ impl Question {
         }
     }
 
-    /// The parts, the sheet first.
+    /// The parts in their order.
     pub fn parts(&self) -> Vec<&[u8]> {
         match self {
             Question::Judge { sheet, .. }
@@ -129,6 +147,7 @@ impl Question {
             | Question::Transfer { sheet, .. }
             | Question::Word { sheet } => vec![sheet],
             Question::Desk { sheet, answers } => vec![sheet, answers],
+            Question::Write { parts, .. } => parts.iter().map(Vec::as_slice).collect(),
             Question::House { .. } | Question::Limits => Vec::new(),
         }
     }

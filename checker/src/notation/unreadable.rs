@@ -52,6 +52,7 @@ fn names() {
     told("limit^;limi^x;limits^ ;limits^x;limits^\r;limits^ 1");
     told("part^s 1 -;pa^ss 1 -;house^;refusal^:1 -;certify^-");
     told("w^;wor^;wo^lf -;word^;word^s -;word^-;word^{1};word^/ -;^Word -");
+    told("wr^;writ^;wr^ong 1 - / -;wr^ote 1 - / -;write^;write^s 1 - / -;write^-;^Write 1 - / -");
 }
 
 #[test]
@@ -143,8 +144,39 @@ fn most_bytes_of_two_parts() {
     told("desk 0*1048576 /^;desk 0*1048576 / ^;desk 0*104857^7 / -;desk 0*1048570 / {1 5^}");
 }
 
+#[test]
+fn two_to_four_parts() {
+    told("write ^;write ^ 1 - / -;write ^-;write ^/;write 1^;write 1^/ -;write 1 ^;write 1 ^ -;write 1 ^/ -");
+    told("write 1 -^;write 1 - ^;write 1 - ^-;write 1 -^/ -;write 1 - /^;write 1 - / ^;write 1 - /^-");
+    told("write 1 5^;write 1 5 ^;write 1 5 ^-;write 1 5^/ 5;write 1 {1}^;write 1 {1} /^{2};write 1 {1 ^/ 5}");
+    told("write 1 5 / 5 ^;write 1 5 / 5^/;write 1 5 / 5 /^;write 1 5 / 5 / ^;write 1 5 / 5 ^- / 5");
+    told("write 1 5 / -^-;write 1 5 / - ^;write 1 5 / - ^5;write 1 5 / -^/;write 1 5 / - /^;write 1 5 / - / ^");
+    told("write 1 - / - / -^x;write 1 - / - / - ^;write 1 - / - / 5 ^;write 1 - / - / 5 / ^/;write 1 - / 25^6");
+    told("write 1 - / - / - / ^;write 1 - / - / - / -^ ;write 1 - / - / - / -^ / -;write 1 - / - / - / -^5");
+    told("write 1 5 / 5 / 5 / 5 ^;write 1 5 / 5 / 5 / 5 ^/ 5;write 1 5 / 5 / 5 / 5^/;write 1 5 / 5 / 5 / {1} ^/ 5");
+    told("write 104857^7 - / -;write 1 25^6 / -;write 1 - / - / - / 25^6;write 1 - / - / 5*^ / -");
+    readable(
+        "write 0 - / -;write 1 5 / 5;write 1 - / - / -;write 1 5 / - / 5;write 1 - / - / - / -",
+    );
+    readable("write 1048576 5 5*3 / {1} / 0*0 / {1}{2} 5;write 001 {1} {2} / 5 6 / {3 }{4}");
+}
+
+#[test]
+fn most_bytes_of_four_parts() {
+    readable(
+        "write 1 0*1048576 / - / - / -;write 1 - / - / - / 0*1048576;write 1 5 / 5 / 5 / 0*1048573",
+    );
+    readable("write 1 0*1048576 / 5*0 / 5*0;write 1 0*1048564 / {1} / {2};write 1 0*1048570 / - / - / {4}");
+    told("write 1 0*104857^7 / -;write 1 5 / 0*104857^6;write 1 5 / 5 / 0*104857^5;write 1 5 / 5 / 5 / 0*104857^4");
+    told("write 1 0*1048576 / 5^;write 1 0*1048576 / - / 5^ / -;write 1 0*1048576 / 5*^1");
+    told(
+        "write 1 0*1048576 / - / ^{1};write 1 0*1048571 / - / - / ^{1};write 1 0*1048570 / {1 5^}",
+    );
+    told("write 1 0*1048570 / {1} / 5^;write 1 0*1048576 5^ / -");
+}
+
 /// Cases whose ends complete whatever a case goes on from.
-const WHOLE: [&str; 14] = [
+const WHOLE: [&str; 17] = [
     "judge 1 -",
     "certify 1 -",
     "build 1 -",
@@ -154,6 +186,9 @@ const WHOLE: [&str; 14] = [
     "house 1 1",
     "desk - / -",
     "word -",
+    "write 1 - / -",
+    "write 1 0*0 / 0*0 / 0*0 / 0*0",
+    "write 1 {1:1 0*0} / {1:1 0*0} / {1:1 0*0} / {1:1 0*0}",
     "limits",
     "desk 0*0 / 0*0",
     "desk {1:1 0*0} / {1:1 0*0}",

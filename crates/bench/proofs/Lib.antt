@@ -1,1 +1,2 @@
 mod Naming
+mod Handing

@@ -1,6 +1,7 @@
-// The bench program: takes the words that it is started with, reads a sheet from standard input or
-// a file where the service wants one, and writes to standard output and standard error.
+// The bench program: takes the words that it is started with, reads from standard input and files
+// what the service takes, and writes to standard output and standard error.
 mod dialogue;
+mod inputs;
 mod output;
 mod services;
 mod words;
@@ -8,33 +9,39 @@ mod words;
 ghost use Prim.Native.Nat.{_-_};
 ghost use mathlib.Core.Path.{_≡_};
 use dialogue::converse;
-use output::write_both;
-use report::INPUT;
-use report::OUTPUT;
-use services::bench;
-use services::sheet_source;
-use streams::Input;
-use streams::read_input;
+use inputs::answer_answers;
+use inputs::answer_parts;
+use inputs::answer_standard;
+use inputs::answer_words;
+use services::input_source;
 use streams::read_word;
 use words::Source;
 use words::WORD_BUFFER;
+use words::WORDS;
 
-// Writes what the bench answers to its words and a sheet.
-fn answer(count: usize, first: &[u8], second: &[u8], sheet: &[u8]) {
-    let mut bytes = [0u8; OUTPUT];
-    let written = bench(count, first, second, sheet, &mut bytes);
-    let out = written.out;
-    let end = written.end;
-    write_both(&bytes[..end], out);
+// Answers the words: how many there are, and the first of them.
+fn run(count: usize, words: &[&[u8]; WORDS]) {
+    let source = input_source(count, words);
+    match source {
+        Source::Nothing => answer_words(count, words),
+        Source::Standard => answer_standard(count, words),
+        Source::File => converse(words[1]),
+        Source::Parts => answer_parts(count, words),
+        Source::Answers => answer_answers(count, words),
+    }
 }
 
-// Reads a sheet, and answers.
-fn answer_input(count: usize, first: &[u8], second: &[u8]) {
-    let mut sheet = [0u8; INPUT];
-    let input = read_input(&mut sheet);
-    if let Input::Read { size } = input {
-        answer(count, first, second, &sheet[..size]);
-    }
+// The first words as one value.
+fn start<'a>(
+    count: usize,
+    first: &'a [u8],
+    second: &'a [u8],
+    third: &'a [u8],
+    fourth: &'a [u8],
+    fifth: &'a [u8],
+) {
+    let words = [first, second, third, fourth, fifth];
+    run(count, &words);
 }
 
 // How many words stand behind the program's own name, of all that it was started with.
@@ -47,13 +54,21 @@ fn behind_name(given: usize) -> usize
 fn main() {
     let mut first = [0u8; WORD_BUFFER];
     let mut second = [0u8; WORD_BUFFER];
+    let mut third = [0u8; WORD_BUFFER];
+    let mut fourth = [0u8; WORD_BUFFER];
+    let mut fifth = [0u8; WORD_BUFFER];
     let count = behind_name(os::arg_count());
     let a = read_word(1, &mut first);
     let b = read_word(2, &mut second);
-    let source = sheet_source(count, &first[..a], &second[..b]);
-    match source {
-        Source::Nothing => answer(count, &first[..a], &second[..b], b""),
-        Source::Standard => answer_input(count, &first[..a], &second[..b]),
-        Source::File => converse(&second[..b]),
-    }
+    let c = read_word(3, &mut third);
+    let d = read_word(4, &mut fourth);
+    let e = read_word(5, &mut fifth);
+    start(
+        count,
+        &first[..a],
+        &second[..b],
+        &third[..c],
+        &fourth[..d],
+        &fifth[..e],
+    );
 }

@@ -64,9 +64,10 @@ pub(crate) fn certified(a: Certification, out: &mut [u8], used: usize) -> usize 
     }
 }
 
-pub(crate) fn built(a: Answer, out: &mut [u8], used: usize) -> usize {
+// The answer of a service that writes, with its word for having done so.
+pub(crate) fn written(done: &[u8], a: Answer, out: &mut [u8], used: usize) -> usize {
     match a {
-        Answer::Written { length } => labelled(b"built ", length, out, used),
+        Answer::Written { length } => labelled(done, length, out, used),
         Answer::Refused { number, place } => refused(number, place, out, used),
     }
 }

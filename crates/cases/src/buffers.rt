@@ -6,12 +6,17 @@ pub(crate) fn front(buf: &[u8], size: usize) -> &[u8] {
 }
 
 // The bytes behind the first ones of a buffer; none where there are fewer.
-pub(crate) fn behind(buf: &[u8], size: usize) -> &[u8] {
+fn behind(buf: &[u8], size: usize) -> &[u8] {
     if size <= buf.len() {
         &buf[size..]
     } else {
         &buf[..0]
     }
+}
+
+// The bytes from a place to another; none where the second does not lie behind the first.
+pub(crate) fn between(buf: &[u8], from: usize, end: usize) -> &[u8] {
+    behind(front(buf, end), from)
 }
 
 // The first bytes, to write to.

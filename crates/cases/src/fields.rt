@@ -4,29 +4,45 @@ use crate::numbers::Cursor;
 use crate::numbers::Decimal;
 use crate::numbers::expect;
 use crate::numbers::expect_end;
+use crate::numbers::next_is;
 use crate::numbers::read_number;
 use crate::parts::Filled;
 use crate::parts::read_part;
 
-// Up to two numbers, how many bytes the sheet has and how many all parts, of which it is the first,
-// and where reading has come to.
+// The most parts of a case.
+const MOST_PARTS: usize = 4;
+
+// How many parts there are; where each ends in the buffer, in which they lie one behind the other, 0
+// for those that are not there; and where reading has come to.
+pub struct Parts {
+    pub count: usize,
+    pub ends: [usize; MOST_PARTS],
+    pub cursor: Cursor,
+}
+
+// Up to two numbers, and the parts behind them.
 pub struct Fields {
     pub first: u32,
     pub second: u32,
-    pub sheet: usize,
-    pub size: usize,
-    pub cursor: Cursor,
+    pub parts: Parts,
+}
+
+// No parts: the line ends here.
+fn no_parts(line: &[u8], c: Cursor) -> Parts {
+    let cursor = expect_end(line, c);
+    Parts {
+        count: 0,
+        ends: [0usize; MOST_PARTS],
+        cursor,
+    }
 }
 
 // No fields: the line ends here.
 pub(crate) fn no_fields(line: &[u8], c: Cursor) -> Fields {
-    let cursor = expect_end(line, c);
     Fields {
         first: 0,
         second: 0,
-        sheet: 0,
-        size: 0,
-        cursor,
+        parts: no_parts(line, c),
     }
 }
 
@@ -40,53 +56,55 @@ fn spaced(line: &[u8], c: Cursor, most: u32) -> Decimal {
     }
 }
 
-// The last part of a case, its last field.
-fn last_part(line: &[u8], f: Filled, parts: &mut [u8]) -> Filled {
-    let filled = read_part(line, f, true, parts);
-    let cursor = expect_end(line, filled.cursor);
-    let used = filled.used;
-    Filled { cursor, used }
-}
-
-// The one part of a case, its last field.
-fn only_part(line: &[u8], c: Cursor, parts: &mut [u8]) -> Filled {
-    last_part(line, Filled { cursor: c, used: 0 }, parts)
-}
-
-// A part with the ` / ` behind it.
-fn divided_part(line: &[u8], f: Filled, parts: &mut [u8]) -> Filled {
-    let filled = read_part(line, f, false, parts);
-    let spaced = expect(line, filled.cursor, b' ');
+// A part behind another, with the ` / ` between them.
+fn next_part(line: &[u8], f: Filled, last: bool, parts: &mut [u8]) -> Filled {
+    let spaced = expect(line, f.cursor, b' ');
     let divided = expect(line, spaced, b'/');
     let cursor = expect(line, divided, b' ');
-    let used = filled.used;
-    Filled { cursor, used }
+    let used = f.used;
+    read_part(line, Filled { cursor, used }, last, parts)
+}
+
+// Whether one more part is to be read: it is needed, or the line goes on.
+fn another(line: &[u8], c: Cursor, needed: bool) -> bool {
+    needed || next_is(line, c, b' ')
+}
+
+// At least so many parts and at most so many, the last fields of a case.
+fn read_parts(line: &[u8], c: Cursor, least: usize, most: usize, parts: &mut [u8]) -> Parts {
+    let mut filled = read_part(line, Filled { cursor: c, used: 0 }, most == 1, parts);
+    let mut ends = [0usize; MOST_PARTS];
+    ends[0] = filled.used;
+    let mut count = 1;
+    while count < MOST_PARTS && count < most && another(line, filled.cursor, count < least) {
+        filled = next_part(line, filled, count + 1 == most, parts);
+        ends[count] = filled.used;
+        count += 1;
+    }
+    let cursor = expect_end(line, filled.cursor);
+    Parts {
+        count,
+        ends,
+        cursor,
+    }
 }
 
 // A sheet.
 pub(crate) fn one_sheet(line: &[u8], c: Cursor, parts: &mut [u8]) -> Fields {
-    let filled = only_part(line, c, parts);
-    let cursor = filled.cursor;
     Fields {
         first: 0,
         second: 0,
-        sheet: filled.used,
-        size: filled.used,
-        cursor,
+        parts: read_parts(line, c, 1, 1, parts),
     }
 }
 
 // A number and a sheet.
 pub(crate) fn number_and_sheet(line: &[u8], c: Cursor, most: u32, parts: &mut [u8]) -> Fields {
     let n = spaced(line, c, most);
-    let filled = only_part(line, n.cursor, parts);
-    let cursor = filled.cursor;
     Fields {
         first: n.value,
         second: 0,
-        sheet: filled.used,
-        size: filled.used,
-        cursor,
+        parts: read_parts(line, n.cursor, 1, 1, parts),
     }
 }
 
@@ -94,28 +112,29 @@ pub(crate) fn number_and_sheet(line: &[u8], c: Cursor, most: u32, parts: &mut [u
 pub(crate) fn bytes_and_sheet(line: &[u8], c: Cursor, parts: &mut [u8]) -> Fields {
     let a = spaced(line, c, BYTE);
     let b = spaced(line, a.cursor, BYTE);
-    let filled = only_part(line, b.cursor, parts);
-    let cursor = filled.cursor;
     Fields {
         first: a.value,
         second: b.value,
-        sheet: filled.used,
-        size: filled.used,
-        cursor,
+        parts: read_parts(line, b.cursor, 1, 1, parts),
     }
 }
 
 // A sheet and a part behind it.
 pub(crate) fn sheet_and_part(line: &[u8], c: Cursor, parts: &mut [u8]) -> Fields {
-    let sheet = divided_part(line, Filled { cursor: c, used: 0 }, parts);
-    let filled = last_part(line, sheet, parts);
-    let cursor = filled.cursor;
     Fields {
         first: 0,
         second: 0,
-        sheet: sheet.used,
-        size: filled.used,
-        cursor,
+        parts: read_parts(line, c, 2, 2, parts),
+    }
+}
+
+// A number and two, three or four parts.
+pub(crate) fn number_and_parts(line: &[u8], c: Cursor, most: u32, parts: &mut [u8]) -> Fields {
+    let n = spaced(line, c, most);
+    Fields {
+        first: n.value,
+        second: 0,
+        parts: read_parts(line, n.cursor, 2, MOST_PARTS, parts),
     }
 }
 
@@ -123,12 +142,9 @@ pub(crate) fn sheet_and_part(line: &[u8], c: Cursor, parts: &mut [u8]) -> Fields
 pub(crate) fn two_bytes(line: &[u8], c: Cursor) -> Fields {
     let a = spaced(line, c, BYTE);
     let b = read_number(line, a.cursor, BYTE);
-    let cursor = expect_end(line, b.cursor);
     Fields {
         first: a.value,
         second: b.value,
-        sheet: 0,
-        size: 0,
-        cursor,
+        parts: no_parts(line, b.cursor),
     }
 }

@@ -9,6 +9,7 @@ pub enum Service {
     Transfer,
     Desk,
     Word,
+    Write,
     House,
     Limits,
 }
@@ -59,6 +60,7 @@ pub(crate) fn named(line: &[u8]) -> Found {
     let f = named_or(line, b"transfer ", Service::Transfer, e);
     let g = named_or(line, b"desk ", Service::Desk, f);
     let h = named_or(line, b"word ", Service::Word, g);
-    let i = named_or(line, b"house ", Service::House, h);
-    named_or(line, b"limits", Service::Limits, i)
+    let i = named_or(line, b"write ", Service::Write, h);
+    let j = named_or(line, b"house ", Service::House, i);
+    named_or(line, b"limits", Service::Limits, j)
 }

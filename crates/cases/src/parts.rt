@@ -232,7 +232,7 @@ fn read_items(line: &[u8], f: Filled, last: bool, parts: &mut [u8]) -> Filled {
     filled
 }
 
-// A part, the last one of a case or not: `-`, or items.
+// A part, the last one that the case can have or not: `-`, or items.
 pub(crate) fn read_part(line: &[u8], f: Filled, last: bool, parts: &mut [u8]) -> Filled {
     if next_is(line, f.cursor, b'-') {
         let cursor = expect(line, f.cursor, b'-');

@@ -1,7 +1,6 @@
 // The services: the fields of each, and its answer.
 use crate::answers::begun;
 use crate::answers::buffer;
-use crate::answers::built;
 use crate::answers::certified;
 use crate::answers::checked;
 use crate::answers::entry;
@@ -11,13 +10,15 @@ use crate::answers::limits;
 use crate::answers::ordered;
 use crate::answers::sought;
 use crate::answers::transferred;
-use crate::buffers::behind;
+use crate::answers::written;
+use crate::buffers::between;
 use crate::buffers::fill;
 use crate::buffers::front;
 use crate::buffers::lent;
 use crate::fields::Fields;
 use crate::fields::bytes_and_sheet;
 use crate::fields::no_fields;
+use crate::fields::number_and_parts;
 use crate::fields::number_and_sheet;
 use crate::fields::one_sheet;
 use crate::fields::sheet_and_part;
@@ -46,6 +47,8 @@ use sheet::part_of;
 use sheet::read;
 use sheet::refusal;
 use word::find_word;
+use writer::Wanted;
+use writer::write;
 
 // What every byte of a buffer is before it is lent.
 const BEFORE: u8 = 238;
@@ -65,6 +68,7 @@ fn read_fields(line: &[u8], service: Service, at: usize, room: u32, parts: &mut 
         Service::Transfer => bytes_and_sheet(line, c, parts),
         Service::Desk => sheet_and_part(line, c, parts),
         Service::Word => one_sheet(line, c, parts),
+        Service::Write => number_and_parts(line, c, room, parts),
         Service::House => two_bytes(line, c),
         Service::Limits => no_fields(line, c),
     }
@@ -91,7 +95,7 @@ fn certify_case(sheet: &[u8], size: usize, buf: &mut [u8], out: &mut [u8], used:
 
 fn build_case(sheet: &[u8], size: usize, buf: &mut [u8], out: &mut [u8], used: usize) -> usize {
     let room = lent_room(buf, size);
-    let at = built(build(sheet, room), out, used);
+    let at = written(b"built ", build(sheet, room), out, used);
     buffer(room, out, at)
 }
 
@@ -147,7 +151,31 @@ fn desk_case(sheet: &[u8], answers: &[u8], out: &mut [u8], used: usize) -> usize
     }
 }
 
-// The answer of a service to its fields, the sheet in the first bytes of the parts. An unknown one
+// What is wanted in a sheet of so many parts.
+fn wanted_of(count: usize) -> Wanted {
+    match count {
+        4 => Wanted::Answers,
+        3 => Wanted::Sequence,
+        _ => Wanted::Word,
+    }
+}
+
+// The sheet of its parts; those that are not there are empty.
+fn write_case(f: Fields, parts: &[u8], buf: &mut [u8], out: &mut [u8], used: usize) -> usize {
+    let room = lent_room(buf, f.first as usize);
+    let ends = f.parts.ends;
+    let machine = front(parts, ends[0]);
+    let word = between(parts, ends[0], ends[1]);
+    let sequence = between(parts, ends[1], ends[2]);
+    let answers = between(parts, ends[2], ends[3]);
+    let wanted = wanted_of(f.parts.count);
+    let answer = write(wanted, machine, word, sequence, answers, room);
+    let at = written(b"written ", answer, out, used);
+    buffer(room, out, at)
+}
+
+// The answer of a service to its fields, the sheet, or of writing the machine, in the first bytes of
+// the parts. An unknown one
 // has none: its line could not be read.
 fn perform(
     service: Service,
@@ -157,8 +185,9 @@ fn perform(
     out: &mut [u8],
     used: usize,
 ) -> usize {
-    let sheet = front(parts, f.sheet);
-    let answers = behind(front(parts, f.size), f.sheet);
+    let ends = f.parts.ends;
+    let sheet = front(parts, ends[0]);
+    let answers = between(parts, ends[0], ends[1]);
     let room = f.first as usize;
     let kind = (f.first % 65_536) as u16;
     let a = (f.first % 256) as u8;
@@ -173,6 +202,7 @@ fn perform(
         Service::Transfer => transfer_case(sheet, a, b, out, used),
         Service::Desk => desk_case(sheet, answers, out, used),
         Service::Word => sought(find_word(sheet), out, used),
+        Service::Write => write_case(f, parts, buf, out, used),
         Service::House => entry(house_entry(a, b), out, used),
         Service::Limits => limits(Machine::limits(), out, used),
     }
@@ -198,7 +228,7 @@ pub(crate) fn answer(
     let n = named(line);
     let service = n.service;
     let f = read_fields(line, service, n.at, limit(buf, 0), parts);
-    let cursor = f.cursor;
+    let cursor = f.parts.cursor;
     if cursor.failed {
         labelled(b"unreadable at ", column(line, cursor.at), out, used)
     } else {

@@ -1,4 +1,4 @@
--- What each service of the bench writes to which stream (§8.2), by the bytes of its sheet. Laws stand in Services.Laws.
+-- What each service of the bench writes to which stream (§8.2), by the bytes that it is given. Laws: Services.Laws.
 use Prim.Native.Nat.{ℕ, _+_}
 use mathlib.Core.List.{List, [], _∷_}
 use mathlib.Core.Option.{Option, none, some}
@@ -6,6 +6,10 @@ use Rattle.sheet.specs.Check.{firstCause}
 use Rattle.sheet.specs.Reader.{refusalOf, content}
 use Rattle.machine.specs.Limits.{mostSequence}
 use Rattle.machine.specs.Causes.{machineIn}
+use Rattle.writer.specs.declared.wanted.Wanted.{Wanted}
+use Rattle.writer.specs.declared.wanted.Wanted.the-variants.{Answers}
+use Rattle.writer.specs.Parts.{Parts, withAnswers, sheetOf}
+use Rattle.writer.specs.Writer.{partCauses, answersCauses}
 use Rattle.word.specs.Search.{search}
 use Rattle.word.specs.Service.{searchCauses}
 use Rattle.certify.specs.Certification.{certification}
@@ -45,6 +49,14 @@ built s = bytesUnless (firstCause (connectedCauses s)) (builtSheet s)
 -- the payload of the record of a kind, nothing added
 abbrev pub recordRead : ℕ → List ℕ → Output
 recordRead kind s = bytesUnless (refusalOf standard (kind ∷ []) s) (content standard (kind ∷ []) s)
+
+-- `bench write`: the sheet of the wanted parts (§15.1); there is room for every sheet, so that 9 is never present
+abbrev pub sheetWritten : Wanted → Parts → Output
+sheetWritten v p = bytesUnless (firstCause (partCauses v p)) (sheetOf v p)
+
+-- `bench answers`: the sheet with these answers (§15.3), with the same room
+abbrev pub answersWritten : List ℕ → List ℕ → Output
+answersWritten s ys = bytesUnless (firstCause (answersCauses s ys)) (sheetOf Answers (withAnswers s ys))
 
 -- the house unit's sheet
 abbrev pub houseWritten : Output

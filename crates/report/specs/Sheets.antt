@@ -1,7 +1,7 @@
 -- The sheets that `bench word`, `bench build` and `bench house` write (§8.2), as joined records. Sheets.Found shows
 -- what the first carries and that building takes it, Sheets.Certified that the second carries the built sequence and is
 -- certified, both that the given sheet's own bytes stand at the front, by Sheets.Kept; Sheets.House shows what the
--- third carries.
+-- third carries. Sheets.Written has what the services make of a sheet that the writer writes.
 use Prim.Native.Nat.{ℕ}
 use mathlib.Core.List.{List, [], _∷_}
 use Rattle.sheet.specs.Format.{standard}
@@ -14,6 +14,7 @@ pub mod Kept
 pub mod Found
 pub mod Certified
 pub mod House
+pub mod Written
 
 -- the sheet that `bench word` writes (§8.2): the machine's record as it is, and the word that was found
 unfoldable pub wordSheet : List ℕ → List ℕ → List ℕ

@@ -5,14 +5,21 @@ use Rattle.facts.specs.Decimal.{bytes}
 use Rattle.report.specs.declared.words.Mistake.{Mistake}
 use Rattle.report.specs.declared.words.Mistake.the-variants.{Unknown, Empty, Long, Many, Few, Kind}
 
--- the list of services, a line each (§8.2). Its text is fixed here; the specification leaves it free
-unfoldable pub helpText : List ℕ
-helpText =
+-- the lines of the services that read one sheet from standard input and nothing else (§8.2)
+unfoldable pub sheetHelp : List ℕ
+sheetHelp =
     bytes "bench, bench judge      judge the sheet on standard input: PASS, WRONG, UNHEARD, UNFINISHED or REFUSED\n"
     ++ bytes "bench certify           certify the sequence of the sheet on standard input: CERTIFIED, OPEN or REFUSED\n"
     ++ bytes "bench word              find a separating word for the machine of the sheet on standard input: the sheet with it as record 2; WORD, NONE or REFUSED on standard error\n"
     ++ bytes "bench build             build the sequence of the sheet on standard input: the sheet with it as record 3\n"
     ++ bytes "bench read KIND         read the sheet on standard input: the payload of record 1 machine, 2 word, 3 sequence, 4 answers\n"
+
+-- the list of services, a line each (§8.2). Its text is fixed here; the specification leaves it free
+unfoldable pub helpText : List ℕ
+helpText =
+    sheetHelp
+    ++ bytes "bench write MACHINE WORD [SEQUENCE [ANSWERS]]  write the sheet of the payloads in these files, as bench read gives them\n"
+    ++ bytes "bench answers FILE      put the answers in that file into the sheet on standard input: the sheet with them as record 4\n"
     ++ bytes "bench desk SHEET        bring a unit to its start by the sheet in that file: COMMAND, answers on standard input, HOME or STRANGER\n"
     ++ bytes "bench house             the house unit's sheet: machine and word\n"
     ++ bytes "bench help, --help, -h  these lines\n"

@@ -1,5 +1,5 @@
 // The sheets that the bench writes: the lent sheet's records as they are with the word that was
-// found or the sequence that was built as the next one, and the house unit's.
+// found or the sequence that was built as the next one, those of the writer, and the house unit's.
 ghost use Prim.Native.Nat.{_+_, _≤_};
 ghost use mathlib.Core.Path.{_≡_};
 ghost use mathlib.Core.List.{[], _∷_};
@@ -11,11 +11,13 @@ ghost use Rattle.sheet.specs.Writing.{Puts};
 ghost use Rattle.sheet.specs.Promise.{Writes as Promise};
 ghost use Rattle.sheet.specs.Joining.{joined, fresh};
 ghost use Rattle.build.specs.Building.{connectedCauses};
+ghost use Rattle.writer.specs.Parts.{partsOf};
 ghost use Rattle.report.specs.Lines.{noneLine};
 ghost use Rattle.report.specs.Pieces.{WordRequires};
 ghost use Rattle.report.specs.Output.{onError, Writes};
 ghost use Rattle.report.specs.Sheets.{builtSheet};
 ghost use Rattle.report.specs.Services.{foundOutput, searched, built, houseWritten};
+ghost use Rattle.report.specs.Services.{sheetWritten, answersWritten};
 use crate::lines::refused;
 use crate::lines::to_streams;
 use crate::output::OUTPUT;
@@ -35,6 +37,13 @@ use sheet::read;
 use sheet::record_of;
 use word::Answer as Search;
 use word::find_word;
+use writer::Wanted;
+use writer::add_answers;
+use writer::write;
+
+// The bytes of a buffer for a part of a sheet that is read: one more than the longest part has, so
+// that a longer one is seen to be too long.
+pub const PART: usize = Machine::SEQUENCE + 1;
 
 // Puts the records of a machine and a word to the start; gives the place behind them.
 fn put_two(kind: u16, machine: &[u8], word: &[u8], out: &mut [u8]) -> usize
@@ -111,6 +120,32 @@ pub fn build_sheet(sheet: &[u8], out: &mut [u8; OUTPUT]) -> Written
     ensures { λ r. ⌜ Writes (built (now (sheet .entry))) (now (out .entry)) (now (out .exit)) r ⌝ }
 {
     let answer = write_built(sheet, out);
+    to_streams(answer, out)
+}
+
+// The sheet of the wanted parts, or a refusal's line.
+pub fn write_sheet(
+    wanted: Wanted,
+    machine: &[u8],
+    word: &[u8],
+    sequence: &[u8],
+    answers: &[u8],
+    out: &mut [u8; OUTPUT],
+) -> Written
+    ensures { λ r. ⌜
+        Writes (sheetWritten wanted (partsOf (now (machine .entry)) (now (word .entry)) (now (sequence .entry))
+        (now (answers .entry)))) (now (out .entry)) (now (out .exit)) r ⌝ }
+{
+    let answer = write(wanted, machine, word, sequence, answers, out);
+    to_streams(answer, out)
+}
+
+// A sheet's machine, word and sequence with these answers, or a refusal's line.
+pub fn answers_sheet(sheet: &[u8], answers: &[u8], out: &mut [u8; OUTPUT]) -> Written
+    ensures { λ r. ⌜
+        Writes (answersWritten (now (sheet .entry)) (now (answers .entry))) (now (out .entry)) (now (out .exit)) r ⌝ }
+{
+    let answer = add_answers(sheet, answers, out);
     to_streams(answer, out)
 }
 

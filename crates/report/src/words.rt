@@ -4,7 +4,7 @@ ghost use Prim.Native.Nat.{_≤_};
 ghost use lib.ListN.{length};
 ghost use Rattle.report.specs.Pieces.{Prints};
 ghost use Rattle.report.specs.Output.{Writes};
-ghost use Rattle.report.specs.Words.{longestMistake, mistakeOf, mistakeLine, helpText};
+ghost use Rattle.report.specs.Words.{longestMistake, mistakeOf, mistakeLine, sheetHelp, helpText};
 ghost use Rattle.report.specs.Services.{helped, mistaken};
 use crate::output::OUTPUT;
 use crate::output::Written;
@@ -57,8 +57,9 @@ pub fn tell(mistake: Mistake, out: &mut [u8; OUTPUT]) -> Written
     Written { out: 0, end: size }
 }
 
-fn help_text(out: &mut [u8; OUTPUT]) -> usize
-    ensures { λ r. ⌜ Prints helpText (now (out .entry)) (now (out .exit)) r ⌝ }
+// The lines of the services that read one sheet from standard input and nothing else.
+fn sheet_help(out: &mut [u8; OUTPUT]) -> usize
+    ensures { λ r. ⌜ Prints sheetHelp (now (out .entry)) (now (out .exit)) r ⌝ }
 {
     let a = put(
         b"bench, bench judge      judge the sheet on standard input: PASS, WRONG, UNHEARD, UNFINISHED or REFUSED\n",
@@ -80,22 +81,39 @@ fn help_text(out: &mut [u8; OUTPUT]) -> usize
         c,
         out,
     );
-    let e = put(
+    put(
         b"bench read KIND         read the sheet on standard input: the payload of record 1 machine, 2 word, 3 sequence, 4 answers\n",
         d,
         out,
+    )
+}
+
+// The whole list: those lines, and the others.
+fn help_text(out: &mut [u8; OUTPUT]) -> usize
+    ensures { λ r. ⌜ Prints helpText (now (out .entry)) (now (out .exit)) r ⌝ }
+{
+    let a = sheet_help(out);
+    let b = put(
+        b"bench write MACHINE WORD [SEQUENCE [ANSWERS]]  write the sheet of the payloads in these files, as bench read gives them\n",
+        a,
+        out,
     );
-    let f = put(
+    let c = put(
+        b"bench answers FILE      put the answers in that file into the sheet on standard input: the sheet with them as record 4\n",
+        b,
+        out,
+    );
+    let d = put(
         b"bench desk SHEET        bring a unit to its start by the sheet in that file: COMMAND, answers on standard input, HOME or STRANGER\n",
-        e,
+        c,
         out,
     );
-    let g = put(
+    let e = put(
         b"bench house             the house unit's sheet: machine and word\n",
-        f,
+        d,
         out,
     );
-    put(b"bench help, --help, -h  these lines\n", g, out)
+    put(b"bench help, --help, -h  these lines\n", e, out)
 }
 
 // Lists the services.

@@ -71,10 +71,16 @@ abbrev pub Successive : Format → ℕ → List (List ℕ) → Type 0
 Successive F last [] = Unit {0}
 Successive F last (ks ∷ roles) = Each (λ k. rank (kindOf F k) ≡ last + 1) ks × Successive F (last + 1) roles
 
--- a sheet that has no record of any of these roles
+-- a sheet that has no record of any of these roles, up to where its parsing stops
 abbrev pub Lacks : Format → List ℕ → List (List ℕ) → Type 0
 Lacks F s [] = Unit {0}
 Lacks F s (ks ∷ roles) = (isMissing (find ks (parsed F s .records)) ≡ true) × Lacks F s roles
+
+-- the records of these roles start one where the other ends, the first at an offset
+abbrev pub Adjacent : Format → List ℕ → ℕ → List (List ℕ) → Type 0
+Adjacent F s at [] = Unit {0}
+Adjacent F s at (ks ∷ roles) =
+    (recordOf F ks s .start ≡ at) × Adjacent F s (at + header + length (content F ks s)) roles
 
 -- where the record of the last of these roles ends; at the given offset where there is no role
 abbrev pub lastEnd : Format → List ℕ → ℕ → List (List ℕ) → ℕ

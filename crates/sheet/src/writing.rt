@@ -60,7 +60,8 @@ pub fn put(bytes: &[u8], at: usize, buffer: &mut [u8]) -> usize
     at + i
 }
 
-// The same for a record: its header, then its payload.
+// The same for a record: its header, which has the length of a payload below 2^32 bytes, then its
+// payload.
 pub fn put_record(kind: u16, payload: &[u8], at: usize, buffer: &mut [u8]) -> usize
     ensures { λ r. ⌜ now (buffer .exit) ≡ putAt (now (buffer .entry)) at (recordBytes kind (now (payload .entry))) ⌝ }
     ensures { λ r. ⌜ r ≡ putEnd (now (buffer .entry)) at (recordBytes kind (now (payload .entry))) ⌝ }

@@ -1,13 +1,15 @@
-// The causes of the wanted parts in order. Places count in the sheet that would be written: each
-// record starts where the one before it ends.
+// The causes of the wanted parts in order. But for 6, a place is an offset in the sheet that a success
+// would write, where each record starts at the end of the one before it.
 ghost use mathlib.Core.Path.{_≡_};
 ghost use Prim.Native.Nat.{_+_, _≤_};
-ghost use Rattle.sheet.specs.Check.{firstCause};
-ghost use Rattle.sheet.specs.Format.{standard, header};
-ghost use Rattle.machine.specs.Limits.{mostMachine, mostWord};
+ghost use lib.ListN.{length};
+ghost use Rattle.sheet.specs.Check.{_else_, firstCause};
+ghost use Rattle.sheet.specs.Format.{standard, header, offset};
+ghost use Rattle.machine.specs.Limits.{mostMachine};
 ghost use Rattle.machine.specs.Machine.{meaning};
+ghost use Rattle.machine.specs.Causes.{sequenceCauses, wordCauses, cause10};
 ghost use Rattle.writer.specs.Parts.{partsOf};
-ghost use Rattle.writer.specs.Writer.{answersCausesAt, sequenceCausesAt, wordCausesAt, partCauses};
+ghost use Rattle.writer.specs.Writer.{laterCauses, partCauses};
 use crate::wanted::Wanted;
 use machine::Machine;
 use machine::sequence_check;
@@ -19,8 +21,10 @@ use sheet::first_of;
 use sheet::refuse;
 
 // Causes 7 and 10, of a sequence whose record starts at an offset and of its answers.
-fn answered(m: Machine, at: u32, sequence: &[u8], answers: &[u8]) -> Check
-    ensures { λ c. ⌜ c ≡ firstCause (answersCausesAt (meaning m) at (now (sequence .entry)) (now (answers .entry))) ⌝ }
+fn answers_check(m: Machine, at: u32, sequence: &[u8], answers: &[u8]) -> Check
+    ensures { λ c. ⌜
+        c ≡ (firstCause (sequenceCauses (meaning m) at (now (sequence .entry)))
+        else cause10 (offset at (length (now (sequence .entry)))) (now (sequence .entry)) (now (answers .entry))) ⌝ }
 {
     let seven = sequence_check(m, at, sequence);
     let next = at as usize + HEADER + sequence.len();
@@ -29,23 +33,31 @@ fn answered(m: Machine, at: u32, sequence: &[u8], answers: &[u8]) -> Check
 }
 
 // The causes of sequence and answers, where they are wanted.
-fn sequence_on(wanted: Wanted, m: Machine, at: u32, sequence: &[u8], answers: &[u8]) -> Check
+fn later_check(wanted: Wanted, m: Machine, at: u32, sequence: &[u8], answers: &[u8]) -> Check
     ensures { λ c. ⌜
-        c ≡ firstCause (sequenceCausesAt wanted (meaning m) at (now (sequence .entry)) (now (answers .entry))) ⌝ }
+        c ≡ firstCause (laterCauses wanted (meaning m) at (now (sequence .entry)) (now (answers .entry))) ⌝ }
 {
     match wanted {
         Wanted::Word => Check::Clear,
         Wanted::Sequence => sequence_check(m, at, sequence),
-        Wanted::Answers => answered(m, at, sequence, answers),
+        Wanted::Answers => answers_check(m, at, sequence, answers),
     }
 }
 
 // The causes of the word, whose record starts at an offset, and of what is wanted behind it.
-fn word_on(wanted: Wanted, m: Machine, at: u32, word: &[u8], sequence: &[u8], answers: &[u8]) -> Check
+fn word_and_later(
+    wanted: Wanted,
+    m: Machine,
+    at: u32,
+    word: &[u8],
+    sequence: &[u8],
+    answers: &[u8],
+) -> Check
     requires { ⌜ at ≤ header + mostMachine standard ⌝ }
     ensures { λ c. ⌜
-        c ≡ firstCause (wordCausesAt wanted (meaning m) at (now (word .entry)) (now (sequence .entry))
-        (now (answers .entry))) ⌝ }
+        c ≡ (firstCause (wordCauses (meaning m) at (now (word .entry)))
+        else firstCause (laterCauses wanted (meaning m) (offset at (length (now (word .entry))))
+        (now (sequence .entry)) (now (answers .entry)))) ⌝ }
 {
     let check = word_check(m, at, word);
     if let Check::Refused {
@@ -55,11 +67,17 @@ fn word_on(wanted: Wanted, m: Machine, at: u32, word: &[u8], sequence: &[u8], an
         return check;
     }
     let next = at as usize + HEADER + word.len();
-    sequence_on(wanted, m, next as u32, sequence, answers)
+    later_check(wanted, m, next as u32, sequence, answers)
 }
 
 // All of them, the machine's first.
-pub fn parts_check(wanted: Wanted, machine: &[u8], word: &[u8], sequence: &[u8], answers: &[u8]) -> Check
+pub fn parts_check(
+    wanted: Wanted,
+    machine: &[u8],
+    word: &[u8],
+    sequence: &[u8],
+    answers: &[u8],
+) -> Check
     ensures { λ c. ⌜
         c ≡ firstCause (partCauses wanted (partsOf (now (machine .entry)) (now (word .entry)) (now (sequence .entry))
         (now (answers .entry)))) ⌝ }
@@ -73,5 +91,5 @@ pub fn parts_check(wanted: Wanted, machine: &[u8], word: &[u8], sequence: &[u8],
     }
     let m = Machine::load(machine);
     let next = HEADER + machine.len();
-    word_on(wanted, m, next as u32, word, sequence, answers)
+    word_and_later(wanted, m, next as u32, word, sequence, answers)
 }

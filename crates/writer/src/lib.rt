@@ -1,5 +1,5 @@
-// Sheets written of their parts: refusals 3 to 7, 9, 10 and 12 of payloads that stand in no sheet yet, and
-// answers put into a sheet.
+// Sheets written of their parts: refusals 3 to 7, 9, 10 and 12 of payloads that stand in no sheet yet;
+// and answers added to a sheet.
 mod checks;
 mod putting;
 mod service;

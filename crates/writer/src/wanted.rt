@@ -1,6 +1,6 @@
-// What is wanted in a sheet besides the machine.
+// Which records a sheet is to have behind the machine's.
 
-// The word; word and sequence; word, sequence and answers.
+// Record 2; records 2 and 3; records 2, 3 and 4.
 pub enum Wanted {
     Word,
     Sequence,

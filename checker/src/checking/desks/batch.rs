@@ -2,14 +2,12 @@
 
 use super::Desks;
 use crate::checking::difference::{Case, Difference};
+use crate::checking::named_files::contents;
 use crate::checking::process::{on_pipe, Printed, LIMIT};
 use crate::checking::program::shown;
 use crate::dialogue::{whole, ENDED, MOST_READ};
 use crate::random::Random;
 use crate::words::Word;
-use std::ffi::OsStr;
-use std::fs::File;
-use std::io::{self, Read};
 use std::ops::RangeInclusive;
 use std::os::unix::ffi::OsStrExt;
 use std::path::Path;
@@ -29,16 +27,13 @@ pub fn words(path: &Path) -> [Word; 2] {
 /// The model's dialogue with the file of this name; one that cannot be read is
 /// told with the system's reason.
 pub fn wanted(name: &[u8], input: &[u8]) -> Wanted {
-    match contents(name) {
+    match contents(name, MOST_READ) {
         Ok(file) => dialogue(&file, input),
-        Err(error) => {
-            let reason = format!(": {}\n", reason(&error));
-            Wanted {
-                output: Vec::new(),
-                error: [name, reason.as_bytes()].concat(),
-                read: 0..=0,
-            }
-        }
+        Err(error) => Wanted {
+            output: Vec::new(),
+            error,
+            read: 0..=0,
+        },
     }
 }
 
@@ -50,21 +45,6 @@ pub fn dialogue(file: &[u8], input: &[u8]) -> Wanted {
         error: said.error.into_bytes(),
         read,
     }
-}
-
-/// As much of the file as the program reads.
-fn contents(name: &[u8]) -> io::Result<Vec<u8>> {
-    let mut bytes = Vec::new();
-    let file = File::open(OsStr::from_bytes(name))?;
-    file.take(MOST_READ as u64).read_to_end(&mut bytes)?;
-    Ok(bytes)
-}
-
-/// The C library's words for it, without the number that Rust adds.
-fn reason(error: &io::Error) -> String {
-    let text = error.to_string();
-    let number = text.find(" (os error ");
-    String::from(&text[..number.unwrap_or(text.len())])
 }
 
 impl Wanted {

@@ -50,18 +50,11 @@ pub fn several(lines: usize) -> String {
 #[cfg(test)]
 mod tests {
     use super::*;
-    use crate::checking::tally::{names, Tally};
+    use crate::checking::tally::missed_until_met;
 
     #[test]
     fn all_is_missed_until_it_occurs() {
-        let mut tally = Tally::default();
-        let all: usize = groups().map(|(_, expected)| names(expected).count()).sum();
-        assert_eq!(tally.missing("desk", groups()).len(), all);
-        for (group, expected) in groups() {
-            names(expected).for_each(|name| tally.meet(group, name));
-        }
-        assert!(tally.missing("desk", groups()).is_empty());
-        assert_eq!(tally.all().count(), all);
+        missed_until_met(&GROUPS);
     }
 
     #[test]

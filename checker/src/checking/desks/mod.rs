@@ -7,7 +7,6 @@ mod files;
 mod inputs;
 mod live;
 mod pieces;
-mod scratch;
 mod spoils;
 mod talk;
 
@@ -21,6 +20,7 @@ use super::driving::{for_building, maybe_refused};
 use super::options::Options;
 use super::process::LIMIT;
 use super::program::NAME;
+use super::scratch::Scratch;
 use super::spoil::Spoil;
 use super::tally::Tally;
 use super::visitors::{connected, largest, received, visitors};
@@ -28,7 +28,6 @@ use crate::desk::Desk;
 use crate::dialogue::{ENDED, NO_ANSWER, TOO_LONG, TOO_MANY};
 use crate::random::Random;
 use expected::several;
-use scratch::Scratch;
 use std::path::{Path, PathBuf};
 use std::time::Duration;
 
@@ -61,7 +60,7 @@ impl Comparer {
             seed: options.seed,
             program: options.directory.join(NAME),
             spoil: options.spoil.and_then(Spoil::desk),
-            scratch: Scratch::new()?,
+            scratch: Scratch::new("desk")?,
         };
         desks.files()?;
         desks.pieces()?;

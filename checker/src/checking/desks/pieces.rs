@@ -5,19 +5,13 @@ use super::batch::dialogue;
 use super::files::longest;
 use super::Desks;
 use crate::checking::difference::Difference;
+use crate::checking::named_files::feed;
 use crate::dialogue::MOST_READ;
 use crate::known::house_sheet;
 use crate::random::Random;
-use std::fs::File;
-use std::io::{self, Write};
-use std::path::{Path, PathBuf};
-use std::process::Command;
-use std::thread::{sleep, spawn};
-use std::time::Duration;
 
 /// Leads the house unit home.
 const INPUT: &[u8] = b"2\n21\n6\n6\n";
-const PAUSE: Duration = Duration::from_micros(200);
 /// The endless pipe is fed with so much; the program has long stopped reading.
 const ENDLESS: usize = 20 * MOST_READ;
 
@@ -41,22 +35,4 @@ impl Desks<'_> {
         }
         Ok(())
     }
-}
-
-/// Makes the pipe and writes to it as soon as it is read; nobody waits for that.
-fn feed(path: &Path, sheet: Vec<u8>, size: usize) -> io::Result<()> {
-    let made = Command::new("mkfifo").arg(path).status()?;
-    if !made.success() {
-        return Err(io::Error::other("mkfifo failed"));
-    }
-    let path = PathBuf::from(path);
-    spawn(move || {
-        let mut pipe = File::options().write(true).open(path)?;
-        for piece in sheet.chunks(size) {
-            pipe.write_all(piece)?;
-            sleep(PAUSE);
-        }
-        io::Result::Ok(())
-    });
-    Ok(())
 }

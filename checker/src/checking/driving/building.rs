@@ -1,7 +1,9 @@
-// Building with every room, and sheets that building refuses.
+// Building with every room, and sheets that building refuses; each is written again
+// where it can be.
 
 use super::driver::Driver;
 use super::sheets;
+use super::writings::again;
 use crate::building::build_into;
 use crate::checking::damage::{bytes_damaged, damaged};
 use crate::checking::difference::Difference;
@@ -122,5 +124,6 @@ fn build(
     rooms.iter().try_for_each(|&room| {
         let sheet = sheet.to_vec();
         driver.ask(random, Question::Build { room, sheet })
-    })
+    })?;
+    again(driver, random, sheet)
 }

@@ -9,8 +9,16 @@ use crate::machine::{Machine, SILENCE};
 use crate::notation::{part, written, Reader, LENT};
 use crate::sheet::machine_payload;
 
-/// Room beyond what building needs.
-const MORE: usize = 5;
+/// Room beyond what is needed.
+pub const MORE: usize = 5;
+
+/// So many bytes of the buffer behind the start of an answer; none where others
+/// than the room beyond them follow, or it begins otherwise.
+pub fn lent_bytes(answer: &str, start: &str, length: usize) -> Option<Vec<u8>> {
+    let buffer = answer.strip_prefix(start)?;
+    let bytes = part(&mut Reader::new(buffer.as_bytes())).ok()?;
+    (bytes.get(length..)? == [LENT; MORE]).then(|| bytes[..length].to_vec())
+}
 
 struct Chain {
     name: &'static str,
@@ -57,18 +65,10 @@ impl Chain {
     /// The sequence, taken out of the answer.
     fn build(&self, driver: &mut Driver) -> Result<Vec<u8>, Difference> {
         let line = format!("build {} {}", self.length + MORE, self.front());
-        let answer = self.answer(driver, &line)?;
+        let answer = driver.answer(&line)?;
         let start = format!("built {} | ", self.length);
-        let bytes = answer.strip_prefix(start.as_str()).map(|bytes| {
-            let mut reader = Reader::new(bytes.as_bytes());
-            part(&mut reader).unwrap_or_default()
-        });
-        match bytes {
-            Some(bytes) if bytes[self.length.min(bytes.len())..] == [LENT; MORE] => {
-                Ok(bytes[..self.length].to_vec())
-            }
-            _ => Err(self.differs(&line, &format!("{start}..."), &answer)),
-        }
+        lent_bytes(&answer, &start, self.length)
+            .ok_or_else(|| self.differs(&line, &format!("{start}..."), &answer))
     }
 
     fn certify(&self, driver: &mut Driver, sequence: &[u8]) -> Result<(), Difference> {
@@ -143,19 +143,11 @@ impl Chain {
     }
 
     fn expect(&self, driver: &mut Driver, line: &str, want: &str) -> Result<(), Difference> {
-        let answer = self.answer(driver, line)?;
+        let answer = driver.answer(line)?;
         if answer == want {
             return Ok(());
         }
         Err(self.differs(line, want, &answer))
-    }
-
-    /// The program's answer to one case, which is the model's too.
-    fn answer(&self, driver: &mut Driver, line: &str) -> Result<String, Difference> {
-        let text = driver.exchange(line.as_bytes())?;
-        let text = String::from_utf8_lossy(&text);
-        let answer = text.lines().nth(1).and_then(|line| line.strip_prefix("> "));
-        Ok(String::from(answer.unwrap_or_default()))
     }
 
     fn differs(&self, line: &str, want: &str, answer: &str) -> Difference {

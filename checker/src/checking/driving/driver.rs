@@ -112,6 +112,14 @@ impl<'a> Driver<'a> {
         }
     }
 
+    /// The program's answer to one case, which is the model's too.
+    pub fn answer(&mut self, line: &str) -> Result<String, Difference> {
+        let text = self.exchange(line.as_bytes())?;
+        let text = String::from_utf8_lossy(&text);
+        let answer = text.lines().nth(1).and_then(|line| line.strip_prefix("> "));
+        Ok(String::from(answer.unwrap_or_default()))
+    }
+
     fn differs(&self, input: &[u8], text: &str) -> Difference {
         let (seed, length) = (self.seed, input.len());
         Difference(format!(

@@ -4,8 +4,9 @@ use super::searches::SIZES;
 use crate::checking::searches;
 use crate::checking::tally::Group;
 use crate::checking::visitors::{STATES, UNITS};
+use crate::checking::writings::{DAMAGED, WANTED};
 
-const GROUPS: [Group; 25] = [
+const GROUPS: [Group; 32] = [
     (
         "build",
         "built, refused 1, refused 2, refused 3, refused 4, refused 5, refused 6, refused 8, refused 9, \
@@ -65,6 +66,22 @@ const GROUPS: [Group; 25] = [
         "word, permutations",
         "word of 1, word of 2, word of 3, word of 4, word of 5, word of 6, none",
     ),
+    (
+        "write",
+        "written, refused 3, refused 4, refused 5, refused 6, refused 7, refused 9, refused 10, refused 12",
+    ),
+    ("write, written with", WANTED),
+    ("write, damages", DAMAGED),
+    (
+        "write, two causes",
+        "3 and 4, 4 and 12, 12 and 5, 5 and 6, 6 and 7, 7 and 10, 10 and 9",
+    ),
+    (
+        "write, rooms",
+        "every one from 0, none, less, one less, as needed, one more, more",
+    ),
+    ("write, sheets again", WANTED),
+    ("write, parts read back", WANTED),
     ("house", "inside, outside"),
     ("limits", "asked"),
     (
@@ -83,8 +100,9 @@ const GROUPS: [Group; 25] = [
     ),
 ];
 /// What is the same in every run.
-const FIXED: [Group; 2] = [
+const FIXED: [Group; 3] = [
     ("chains", "house unit, ring, doubling, longest dialogue"),
+    ("written by the program", "twin, house unit, ring"),
     ("word, all machines of the size", SIZES),
 ];
 

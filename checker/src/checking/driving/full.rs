@@ -18,7 +18,26 @@ pub fn full(driver: &mut Driver, random: &mut Random) -> Result<(), Difference> 
         driver.reached.meet("lines", "full case");
     }
     driver.try_line(line.as_bytes(), "more than full")?;
-    driver.try_line(two_parts(random).as_bytes(), "more than full")
+    driver.try_line(two_parts(random).as_bytes(), "more than full")?;
+    driver.try_line(several_parts(random).as_bytes(), "more than full")
+}
+
+/// Two to four parts that leave at most a few bytes, and something behind.
+fn several_parts(random: &mut Random) -> String {
+    let mut left = MOST_BYTES - random.below(8);
+    let mut line = String::from("write 3 1 1 0 7");
+    left -= 4;
+    for _ in 0..random.range(1, 3) {
+        let size = *random.pick(&[0, 1, left / 2, left]);
+        line.push_str(&format!(" / 0*{size}"));
+        left -= size;
+    }
+    line.push_str(&format!(" 0*{left}"));
+    for _ in 0..random.range(1, 3) {
+        let piece = *random.pick(&BEHIND);
+        line.push_str(piece);
+    }
+    line
 }
 
 /// Two parts that leave at most a few bytes, and something behind.

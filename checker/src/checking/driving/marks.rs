@@ -1,7 +1,9 @@
-// Certifying and judging with any room for the marks.
+// Certifying and judging with any room for the marks; the sheet is written again
+// where it can be.
 
 use super::driver::Driver;
 use super::sheets;
+use super::writings::again;
 use crate::checking::compare::needed_room;
 use crate::checking::difference::Difference;
 use crate::notation::Question;
@@ -28,5 +30,5 @@ pub fn marks(driver: &mut Driver, random: &mut Random) -> Result<(), Difference>
         )?;
         driver.ask(random, Question::Judge { room, sheet })?;
     }
-    Ok(())
+    again(driver, random, &sheet)
 }

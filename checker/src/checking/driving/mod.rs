@@ -20,10 +20,13 @@ mod sizes;
 mod spelling;
 mod spoiled_answer;
 mod spoiled_run;
+mod spoiled_writing;
 mod spoils;
 mod tables;
 mod transfers;
 mod unreadable;
+mod writings;
+mod written;
 
 pub use compare::{first_difference, program_difference};
 pub use driver::{LIMIT, NAME};
@@ -40,13 +43,15 @@ use driver::Driver;
 type Generator = fn(&mut Driver, &mut Random) -> Result<(), Difference>;
 
 /// One round of cases; what comes several times makes few cases at a time.
-const ROUND: [Generator; 39] = [
+const ROUND: [Generator; 48] = [
     building::every_room,
     marks::marks,
     parts::parts,
     between::between,
     desks::desks,
     searches::searches,
+    writings::written,
+    writings::refused,
     transfers::transfers,
     building::refused,
     desks::refused,
@@ -56,6 +61,8 @@ const ROUND: [Generator; 39] = [
     building::long_rooms,
     numbers::numbers,
     marks::marks,
+    writings::every_room,
+    writings::refused,
     between::between,
     building::refused,
     searches::searches,
@@ -66,6 +73,8 @@ const ROUND: [Generator; 39] = [
     unreadable::damaged,
     building::refused,
     transfers::transfers,
+    writings::written,
+    writings::refused,
     desks::desks,
     marks::marks,
     numbers::numbers,
@@ -78,7 +87,10 @@ const ROUND: [Generator; 39] = [
     desks::desks,
     desks::refused,
     searches::refused,
+    writings::refused,
+    writings::written,
     unreadable::damaged,
+    writings::refused,
     marks::marks,
 ];
 /// The inputs of every size come in one round of so many.
@@ -112,10 +124,12 @@ impl Comparer {
         driver.send()
     }
 
-    /// Whole chains, built, certified and judged, and the longest dialogue.
+    /// Whole chains, built, certified and judged, the longest dialogue, and sheets
+    /// that are written and judged.
     pub fn case_chains(&mut self, options: &Options) -> Result<(), Difference> {
         let driver = &mut Driver::new(options, &mut self.counts.reached);
         chains::chains(driver)?;
-        desks::longest(driver)
+        desks::longest(driver)?;
+        written::all_written(driver)
     }
 }

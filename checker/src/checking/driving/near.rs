@@ -4,7 +4,7 @@ use super::driver::Driver;
 use crate::checking::difference::Difference;
 use crate::random::Random;
 
-const FIRST: [&str; 16] = [
+const FIRST: [&str; 20] = [
     "judge ",
     "certify ",
     "build ",
@@ -14,10 +14,14 @@ const FIRST: [&str; 16] = [
     "desk ",
     "desk - / ",
     "word ",
+    "write ",
+    "write 9 - / ",
+    "write 9 5 / 0 / ",
     "house ",
     "limits",
     "judges",
     "words ",
+    "writes ",
     "Build ",
     "par",
     " ",

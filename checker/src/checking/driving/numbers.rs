@@ -10,7 +10,7 @@ use crate::random::Random;
 use crate::sheet::HEADER;
 
 /// What stands before a number, its limit, and what stands behind.
-const PLACES: [(&str, usize, &str); 26] = [
+const PLACES: [(&str, usize, &str); 33] = [
     ("judge ", MOST_BYTES, " -"),
     ("certify ", MOST_BYTES, " {1}"),
     ("build ", MOST_BYTES, " {4 }"),
@@ -28,6 +28,13 @@ const PLACES: [(&str, usize, &str); 26] = [
     ("word ", 255, " 7"),
     ("word {1 1 1 0 ", 255, "}{2 5}"),
     ("word {1 1 1 0 7} 5*", MOST_BYTES - 10, ""),
+    ("write ", MOST_BYTES, " 1 1 0 7 / 0"),
+    ("write 30 ", 255, " 1 0 7 / 0"),
+    ("write 30 1 1 0 7 / 0 / ", 255, ""),
+    ("write 30 1 1 0 7 / 0*", MOST_BYTES - 4, " / -"),
+    ("write 30 1 1 0 7 / 0 / 0*", MOST_BYTES - 5, ""),
+    ("write 30 1 1 0 7 / 0 / 0 / 7*", MOST_BYTES - 6, ""),
+    ("write 30 7*", MOST_BYTES, " / - / - / -"),
     ("house ", 255, " 0"),
     ("house 3 ", 255, ""),
     ("refusal 1 ", 255, ""),

@@ -1,7 +1,9 @@
-// Reading: what is handed back and what is refused, for every kind.
+// Reading: what is handed back and what is refused, for every kind; the sheet is
+// written again where it can be.
 
 use super::driver::Driver;
 use super::sheets;
+use super::writings::again;
 use crate::checking::difference::Difference;
 use crate::notation::Question;
 use crate::random::Random;
@@ -34,7 +36,7 @@ pub fn parts(driver: &mut Driver, random: &mut Random) -> Result<(), Difference>
         )?;
         driver.ask(random, Question::Refusal { kind, sheet })?;
     }
-    Ok(())
+    again(driver, random, &sheet)
 }
 
 /// Some kinds in rising order with any payloads, empty ones often.

@@ -1,8 +1,10 @@
 // What the program `cases` was asked and answered in a run.
 
 use super::expected::{groups, KINDS};
+use super::writings::needed;
 use crate::checking::searches::{meet_asked, Asked};
 use crate::checking::tally::{names, Tally};
+use crate::checking::writings::{wanted, Given};
 use crate::desk::{Desk, Order};
 use crate::machine::SILENCE;
 use crate::notation::{lines, part, Line, Question, Reader, Unreadable, MOST_INPUT};
@@ -21,6 +23,11 @@ impl Reached {
         self.tally.meet(group, name);
     }
 
+    /// How often it was met.
+    pub fn met(&self, group: &'static str, name: &str) -> usize {
+        self.tally.met(group, name)
+    }
+
     /// A case, its line first, and its answer.
     pub fn answered(&mut self, line: &[u8], asked: &Result<Question, Unreadable>, answer: &str) {
         self.cases += 1;
@@ -32,6 +39,7 @@ impl Reached {
             Ok(Question::Part { kind, .. }) => self.meet("part, kinds", kind_name(*kind)),
             Ok(Question::Refusal { kind, .. }) => self.meet("refusal, kinds", kind_name(*kind)),
             Ok(Question::Desk { sheet, answers }) => self.dialogue(sheet, answers),
+            Ok(Question::Write { room, parts }) => self.written(*room, parts, answer),
             _ => {}
         }
     }
@@ -39,6 +47,33 @@ impl Reached {
     /// A machine whose word is asked for.
     pub fn searched(&mut self, asked: &Asked) {
         meet_asked(&mut self.tally, asked);
+    }
+
+    /// Payloads for a sheet.
+    pub fn given(&mut self, given: &Given) {
+        given.meet(&mut self.tally);
+    }
+
+    /// What a sheet was written with, and whether the room was enough.
+    fn written(&mut self, room: usize, parts: &[Vec<u8>], answer: &str) {
+        let written = answer.starts_with("written ");
+        if written {
+            self.meet("write, written with", wanted(parts.len()));
+        }
+        if written || answer.starts_with("refused 9 ") {
+            let needed = needed(parts);
+            self.meet(
+                "write, rooms",
+                match room {
+                    0 => "none",
+                    _ if room == needed => "as needed",
+                    _ if room + 1 == needed => "one less",
+                    _ if room == needed + 1 => "one more",
+                    _ if room < needed => "less",
+                    _ => "more",
+                },
+            );
+        }
     }
 
     /// How a dialogue went, and how many answers there were for it.
@@ -190,7 +225,7 @@ mod tests {
     fn all_is_missed_until_it_occurs() {
         let mut reached = Reached::default();
         let all = reached.missing(true).len();
-        assert_eq!(reached.missing(false).len(), all - 11);
+        assert_eq!(reached.missing(false).len(), all - 14);
         for (group, expected) in groups(true) {
             names(expected).for_each(|name| reached.meet(group, name));
         }
@@ -202,7 +237,8 @@ mod tests {
     fn counted_under_their_names() {
         let mut reached = Reached::default();
         let input = b"#\x80\r\n\n> old\nlimits\nhouse 256\npart 4 {4}\npart 258 0\nword {1 4 1 1 1 2 0 3 0 0 0}\n\
-            word {1 2 1 0 0 0 0}\nword -\nbuild 0 -\r";
+            word {1 2 1 0 0 0 0}\nword -\nwrite 2 - / 0 / - / -\nwrite 40 1 1 0 0 / 0\nwrite 17 1 1 0 0 / 0\n\
+            build 0 -\r";
         reached.input(input);
         let seen = |line: &[u8], asked: &_, answer: &str| reached.answered(line, asked, answer);
         Answerer::new().text(input, seen).unwrap();
@@ -211,8 +247,9 @@ mod tests {
              lines: case with carriage return; lines: comment; lines: comment with bytes above 127; \
              lines: comment with carriage return; lines: empty; part: empty record; part: refused; \
              part, kinds: 258; part, kinds: 4; unreadable: digit too many; unreadable: other byte; \
-             word: none; word: refused 2; word: word of 3";
+             word: none; word: refused 2; word: word of 3; write: refused 3; write: written; \
+             write, rooms: as needed; write, rooms: more; write, written with: a word";
         assert_eq!(met.collect::<Vec<_>>().join("; "), expected);
-        assert_eq!(reached.cases, 8);
+        assert_eq!(reached.cases, 11);
     }
 }

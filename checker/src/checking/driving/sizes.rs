@@ -8,7 +8,7 @@ use crate::notation::MOST_INPUT;
 use crate::random::Random;
 
 /// Long lines: what stands before, the byte that fills them, what stands behind.
-const FILLINGS: [(&[u8], u8, &[u8]); 13] = [
+const FILLINGS: [(&[u8], u8, &[u8]); 15] = [
     (b"#", b'x', b""),
     (b"# ", b' ', b"\n"),
     (b"house 3 ", b'0', b"3"),
@@ -19,6 +19,8 @@ const FILLINGS: [(&[u8], u8, &[u8]); 13] = [
     (b"desk {1 1 1 0 7}{2 0} / ", b'0', b"7 7"),
     (b"word {1 1 1 0 7} {", b'0', b"2 5}"),
     (b"word ", b'0', b"5\n"),
+    (b"write ", b'0', b"19 1 1 0 7 / 0\n"),
+    (b"write 30 1 1 0 7 / 0 / 0 / ", b'0', b"7"),
     (b"> ", b'>', b"\nlimits"),
     (b"", b'\n', b"limits"),
     (b"x", b'y', b"z"),

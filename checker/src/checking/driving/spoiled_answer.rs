@@ -1,5 +1,6 @@
 // Spoils one answer among those that the program `cases` wrote.
 
+use super::spoiled_writing::WritingChange;
 use crate::checking::searches::Wrong;
 use crate::checks::load;
 use crate::notation::{lines, part, question, written, Line, Question, Reader, LENT};
@@ -30,6 +31,8 @@ pub enum Change {
     OtherWord(Wrong),
     /// A wrong answer is told as one that did not come.
     Unheard,
+    /// Of a sheet that is written.
+    Writing(WritingChange),
 }
 
 impl Change {
@@ -60,6 +63,7 @@ impl Change {
             }
             Change::OtherWord(way) => other_word(asked, answer, way),
             Change::Unheard => unheard(answer),
+            Change::Writing(change) => change.of(asked, answer),
             Change::Byte(_) | Change::LentByte(_) | Change::Moved(_) => None,
         }
     }

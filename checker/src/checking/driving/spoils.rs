@@ -3,8 +3,10 @@
 use super::spoiled_answer::spoil_answer;
 use super::spoiled_answer::Change::{
     self, Answer, Byte, Command, Dropped, LentByte, Middle, More, Moved, OtherWord, Unheard, Words,
+    Writing,
 };
 use super::spoiled_run::{answer_kept, comment_lost, count_more, newline_lost, too_long_taken};
+use super::spoiled_writing::WritingChange::{InPart, LastKind, RoomFirst};
 use crate::checking::process::Printed;
 use crate::checking::searches::Wrong;
 
@@ -14,7 +16,7 @@ pub struct CasesSpoil(usize);
 
 /// A name, how the case begins, its numbers without needless zeros, and what
 /// becomes of the first answer to which the way applies.
-const ANSWERS: [(&str, &str, Change); 70] = [
+const ANSWERS: [(&str, &str, Change); 89] = [
     ("built-length", "build", More("built ")),
     ("built-byte", "build", Byte("built ")),
     ("byte-behind-built", "build", LentByte("built ")),
@@ -112,6 +114,45 @@ const ANSWERS: [(&str, &str, Change); 70] = [
     ),
     ("word-taken", "word", Answer("refused ", "none")),
     ("word-refused", "word", Answer("word ", "refused 2 at 0")),
+    ("write-length", "write", More("written ")),
+    ("write-byte", "write", Byte("written ")),
+    ("write-behind", "write", LentByte("written ")),
+    ("write-last-kind", "write", Writing(LastKind)),
+    ("write-needs", "write", More("refused 9 at ")),
+    (
+        "write-room-before-answers",
+        "write",
+        Writing(RoomFirst("refused 10 ")),
+    ),
+    (
+        "write-room-before-all",
+        "write",
+        Writing(RoomFirst("refused ")),
+    ),
+    ("write-place-in-part", "write", Writing(InPart)),
+    ("write-answers-place", "write", More("refused 10 at ")),
+    ("write-refused-writes", "write", LentByte("refused ")),
+    ("write-room-writes", "write", LentByte("refused 9 ")),
+    (
+        "write-shape-cause",
+        "write",
+        Words("refused 3 ", "refused 4 "),
+    ),
+    (
+        "write-silence-cause",
+        "write",
+        Words("refused 12 ", "refused 4 "),
+    ),
+    ("write-pair", "write", More("refused 6 at ")),
+    ("write-word-place", "write", More("refused 5 at ")),
+    ("write-sequence-place", "write", More("refused 7 at ")),
+    (
+        "write-unseparated",
+        "write",
+        Words("refused 6 at 1 ", "written 1 "),
+    ),
+    ("write-refused", "write", Words("written ", "refused 9 at ")),
+    ("write-taken", "write", Words("refused 10 at ", "written ")),
     ("house-next", "house 3 2 ", More("next ")),
     ("house-answer", "house 255 255 ", More("answer ")),
     ("limits", "limits", More("sequence ")),

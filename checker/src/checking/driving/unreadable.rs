@@ -6,7 +6,7 @@ use super::spelling::spelled;
 use crate::checking::difference::Difference;
 use crate::notation::Question;
 use crate::random::Random;
-use crate::sheet::sheet_of;
+use crate::sheet::{machine_payload, sheet_of};
 
 /// Bytes that mean something in a case, or nearly.
 const NEAR: &[u8] = b"0123456789   {}{}::**--/|#>\r\n\t,.+";
@@ -30,7 +30,7 @@ pub fn damaged(driver: &mut Driver, random: &mut Random) -> Result<(), Differenc
 pub fn short(random: &mut Random) -> Question {
     let sheet = short_sheet(random);
     let (kind, room) = (random.below(6) as u16, random.below(30));
-    match random.below(17) {
+    match random.below(20) {
         0 => Question::Limits,
         1 => Question::House {
             state: random.below(6) as u8,
@@ -51,8 +51,26 @@ pub fn short(random: &mut Random) -> Question {
             Question::Desk { sheet, answers }
         }
         13..=14 => Question::Word { sheet },
+        15..=17 => Question::Write {
+            room,
+            parts: short_parts(random),
+        },
         _ => Question::Judge { room, sheet },
     }
+}
+
+/// Two to four parts for a sheet, or any.
+fn short_parts(random: &mut Random) -> Vec<Vec<u8>> {
+    let (machine, word) = sheets::small(random);
+    let sequence = word.repeat(random.range(1, 4));
+    let answers = machine.answers(0, &sequence);
+    let mut parts = vec![machine_payload(&machine), word, sequence, answers];
+    parts.truncate(random.range(2, 4));
+    if random.once_in(3) {
+        let place = random.below(parts.len());
+        parts[place].truncate(random.below(3));
+    }
+    parts
 }
 
 fn short_sheet(random: &mut Random) -> Vec<u8> {

@@ -191,3 +191,7 @@ cause10-is at xs ys = refl
 
 pub clear-few : (at : ℕ) (xs ys : List ℕ) → cause10 at xs ys ≡ Clear → length ys ≤ length xs
 clear-few at xs ys e = ltb-false _ _ (clear-absent 10 at _ (cause10-is at xs ys ∙ e))
+
+-- the other direction
+pub few-clear : (at : ℕ) (xs ys : List ℕ) → length ys ≤ length xs → cause10 at xs ys ≡ Clear
+few-clear at xs ys l = sym (cause10-is at xs ys) ∙ absent 10 at (le-ltb (length xs) (length ys) l)

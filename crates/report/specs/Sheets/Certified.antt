@@ -16,6 +16,7 @@ use Rattle.sheet.specs.Reader.Laws.{needed-word}
 use Rattle.sheet.specs.Promise.Laws.{room-clear, writing-outcome, written-clear}
 use Rattle.sheet.specs.Joining.{bytesOf, joined, recordIn, fresh}
 use Rattle.sheet.specs.Joining.Laws.{joined-none, joined-long, standard-roles, kept-fresh}
+use Rattle.sheet.specs.Joining.Front.{kept-front}
 use Rattle.machine.specs.Causes.{machineIn, loadCauses}
 use Rattle.machine.specs.Causes.Lists.{distinguishes-clear, sequence-clear, loading-clear, clear-sheet, kind-reads}
 use Rattle.machine.specs.Causes.Lists.{clear-machine}
@@ -28,7 +29,7 @@ use Rattle.build.specs.Building.{buildNeeds, connectedCauses, building}
 use Rattle.build.specs.Building.Connection.{clear-load, clear-distinguishes}
 use Rattle.build.specs.Building.Service.{connected-built, built-sequence, built-certification}
 use Rattle.report.specs.Sheets.{builtSheet}
-use Rattle.report.specs.Sheets.Kept.{Keeps, kept-front, keeps}
+use Rattle.report.specs.Sheets.Kept.{Keeps, keeps}
 
 -- what the sheet with a sequence added is read as
 pub record Carries (s xs t : List ℕ) : Type 0 where
@@ -90,8 +91,8 @@ built-front room s bytes e =
     let last = fresh (standard .sequence) (sequence (machineIn s) (wordIn s)) in
     ap (λ (r : ℕ × List ℕ). joined (recordIn standard s (standard .machine) ∷ r ∷ last ∷ []))
     (sym (kept-fresh standard _ s word))
-    ∙ kept-front (standard .machine ∷ standard .word ∷ []) s _ bytes (standard-roles .0, (standard-roles .1 .0, tt))
-    (clear-sheet buildNeeds s load)
+    ∙ kept-front standard s bytes (standard .machine ∷ standard .word ∷ [])
+    (standard-roles .0, (standard-roles .1 .0, tt)) (clear-sheet buildNeeds s load) last
 
 -- and certifying it, in a room for its marks, answers certified
 pub built-sheet-certified : (room : ℕ) (s : List ℕ) {n : ℕ} → building room s ≡ Written n → (marksRoom : ℕ)

@@ -16,6 +16,7 @@ use Rattle.sheet.specs.Reader.{wordIn, machineRecord}
 use Rattle.sheet.specs.Promise.{causeToWrite}
 use Rattle.sheet.specs.Joining.{bytesOf, fresh}
 use Rattle.sheet.specs.Joining.Laws.{joined-none, joined-long, standard-roles}
+use Rattle.sheet.specs.Joining.Front.{kept-front}
 use Rattle.machine.specs.Causes.{machineIn, loadCauses}
 use Rattle.machine.specs.Causes.Lists.{loading-clear, clear-sheet, clear-machine}
 use Rattle.build.specs.Sequence.{sequence}
@@ -25,7 +26,7 @@ use Rattle.word.specs.declared.answer.Answer.the-variants.{Found}
 use Rattle.word.specs.Service.{searchNeeds, searchCauses, searching}
 use Rattle.word.specs.Service.Laws.{found-passes, found-answered}
 use Rattle.report.specs.Sheets.{wordSheet}
-use Rattle.report.specs.Sheets.Kept.{Keeps, kept-front, keeps}
+use Rattle.report.specs.Sheets.Kept.{Keeps, keeps}
 
 -- what the sheet with the word is read as
 pub record Carries (s w t : List ℕ) : Type 0 where
@@ -61,8 +62,8 @@ pub word-front : (s w : List ℕ) → Bytes s → firstCause (searchCauses s) �
     → wordSheet s w ≡ take (end (machineRecord s)) s ++ bytesOf (fresh (standard .word) w)
 unfolding wordSheet
 word-front s w bytes e =
-    kept-front (standard .machine ∷ []) s (fresh (standard .word) w) bytes (standard-roles .0, tt)
-    (clear-sheet searchNeeds s (clear-machine searchNeeds s e))
+    kept-front standard s bytes (standard .machine ∷ []) (standard-roles .0, tt)
+    (clear-sheet searchNeeds s (clear-machine searchNeeds s e)) (fresh (standard .word) w)
 
 -- building succeeds on it, or refuses it with 8 or 9, as this machine and this word give them
 pub word-builds : (room : ℕ) (s : List ℕ) {n : ℕ} (e : searching s ≡ Found n) →

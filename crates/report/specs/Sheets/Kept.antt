@@ -1,23 +1,20 @@
--- What a sheet is read as whose first record is the machine's of another sheet, as it is there; and that the first
--- records of a sheet, as they are there, are its first bytes.
+-- What a sheet is read as whose first record is the machine's of another sheet, as it is there.
 use Prim.Native.Nat.{ℕ, _+_, _≤_}
 use mathlib.Core.Path.{_≡_, sym, ap, ap₂, subst, _∙_}
 use mathlib.Core.Bool.{true}
-use mathlib.Core.List.{List, [], _∷_, _++_, map}
+use mathlib.Core.List.{List, _∷_}
 use native.Mathlib.Omega.{arith}
-use lib.ListN.{length, take}
-use Rattle.facts.specs.Bytes.{Bytes}
+use lib.ListN.{length}
 use Rattle.sheet.specs.declared.check.Check.the-variants.{Clear}
 use Rattle.sheet.specs.declared.reader.Needs.{Needs}
 use Rattle.sheet.specs.Check.{_else_, firstCause}
 use Rattle.sheet.specs.Check.Laws.{else-clear}
 use Rattle.sheet.specs.Format.{standard, longest, header}
-use Rattle.sheet.specs.Reader.{sheetCauses, needed, machinePayload, wordIn, sequenceIn, machineRecord}
+use Rattle.sheet.specs.Reader.{needed, machinePayload, wordIn, sequenceIn, machineRecord}
 use Rattle.sheet.specs.Reader.Laws.{needed-machine}
-use Rattle.sheet.specs.Joining.{bytesOf, joined, InOrder, payloadOf, hasAll, recordIn, fresh, Successive, lastEnd}
-use Rattle.sheet.specs.Joining.Laws.{joined-one, joined-append, joined-long, content-joined, causes-joined}
+use Rattle.sheet.specs.Joining.{joined, InOrder, payloadOf, hasAll, recordIn, fresh}
+use Rattle.sheet.specs.Joining.Laws.{joined-long, content-joined, causes-joined}
 use Rattle.sheet.specs.Joining.Laws.{standard-roles, kept-fresh}
-use Rattle.sheet.specs.Joining.Front.{front-cut}
 use Rattle.machine.specs.Limits.{mostMachine}
 use Rattle.machine.specs.Causes.{machineIn, tableCauses, machineCauses}
 use Rattle.machine.specs.Causes.Laws.{table-anywhere}
@@ -33,15 +30,6 @@ pub record Keeps (s : List ℕ) (rest : List (ℕ × List ℕ)) (t : List ℕ) :
   pub sequence : sequenceIn t ≡ payloadOf (standard .sequence) rest
   pub clear : (m : Needs) → hasAll (needed standard m) (fresh (standard .machine) (machinePayload s) ∷ rest) ≡ true
       → firstCause (machineCauses m t) ≡ Clear
-
--- a sheet without causes 1 and 2 stands, up to the end of the last of its first roles, at the front of one that is made
--- of their records as they are and one more
-pub kept-front : (roles : List (List ℕ)) (s : List ℕ) (more : ℕ × List ℕ) → Bytes s → Successive standard 0 roles
-    → firstCause (sheetCauses standard roles s) ≡ Clear
-    → joined (map (recordIn standard s) roles ++ (more ∷ [])) ≡ take (lastEnd standard s 0 roles) s ++ bytesOf more
-kept-front roles s more bytes first clear =
-    joined-append (map (recordIn standard s) roles) (more ∷ [])
-    ∙ ap₂ _++_ (sym (front-cut standard s bytes roles first clear)) (joined-one more)
 
 pub keeps : (n : Needs) (s : List ℕ) → firstCause (machineCauses n s) ≡ Clear → (rest : List (ℕ × List ℕ))
     → InOrder standard 1 rest → header + mostMachine standard + length (joined rest) ≤ longest

@@ -18,14 +18,14 @@ use Rattle.sheet.specs.declared.record.Kind.the-variants.{Machine, Word,
 use Rattle.sheet.specs.declared.record.Found.the-variants.{At}
 use Rattle.sheet.specs.Check.{firstCause}
 use Rattle.sheet.specs.Check.Laws.{clear-absent, both-clear, cause-cons}
-use Rattle.sheet.specs.Format.{Format, standard, end, kindOf, rank, parsed, ofKind, _or_, find}
+use Rattle.sheet.specs.Format.{Format, standard, header, end, kindOf, rank, parsed, ofKind, _or_, find}
 use Rattle.sheet.specs.Format.Laws.{none-found}
 use Rattle.sheet.specs.Reader.{isMissing, missing, sheetCauses, recordOf, content}
 use Rattle.sheet.specs.Reader.Laws.{at-found, causes-clear, sheet-short}
 use Rattle.sheet.specs.Joining.{joined, placed, InOrder, payloadOf, contents, recordIn, rolesOf, Successive}
-use Rattle.sheet.specs.Joining.{has, Lacks, lastEnd}
-use Rattle.sheet.specs.Joining.Laws.{joined-none, joined-long, joined-append, missing-placed, content-joined}
-use Rattle.sheet.specs.Joining.Laws.{standard-roles}
+use Rattle.sheet.specs.Joining.{bytesOf, has, Lacks, Adjacent, lastEnd}
+use Rattle.sheet.specs.Joining.Laws.{joined-none, joined-one, joined-long, joined-append, missing-placed}
+use Rattle.sheet.specs.Joining.Laws.{content-joined, standard-roles}
 use Rattle.sheet.specs.Joining.Whole.{whole, contents-in-order, contents-placed}
 
 -- records from an offset on and above a rank that begin with those of some roles: the others, and where these end
@@ -33,6 +33,7 @@ pub record Front (F : Format) (s : List ℕ) (at last : ℕ) (roles : List (List
   pub rest : List (ℕ × List ℕ)
   pub is : cs ≡ map (recordIn F s) roles ++ rest
   pub order : InOrder F (last + length roles) rest
+  pub adjacent : Adjacent F s at roles
   pub ends : lastEnd F s at roles ≡ at + length (joined (map (recordIn F s) roles))
 
 -- ---- the roles behind the first ones
@@ -126,7 +127,13 @@ module _ (F : Format) (s : List ℕ) where
       → AllHere at cs roles → Front F s at last roles cs
   unfolding end
   split [] cs at last h u t =
-      record { rest = cs; is = refl; order = rw add-zero h; ends = rw joined-none (sym (add-zero at)) }
+      record {
+        rest = cs;
+        is = refl;
+        order = rw add-zero h;
+        adjacent = tt;
+        ends = rw joined-none (sym (add-zero at));
+      }
   split (ks ∷ roles) [] at last h u t = none-found ks (t .0 .0)
   split (ks ∷ roles) (c ∷ cs) at last h u t = elim (first-or at c cs (last + 1) ks (u .0) (t .0)) [
     | inl x ↦ (let more =
@@ -136,6 +143,10 @@ module _ (F : Format) (s : List ℕ) where
           rest = more .rest;
           is = ap₂ _∷_ (sym (x .2)) (more .is);
           order = subst (λ (n : ℕ). InOrder F n (more .rest)) (omega arith) (more .order);
+          adjacent = (
+            ap (λ (r : Record). r .start) (x .1),
+            subst (λ (q : ℕ × List ℕ). Adjacent F s (at + header + length (q .1)) roles) (sym (x .2)) (more .adjacent),
+          );
           ends = rw (x .2, x .1) (omega (arith, joined-long c (map (recordIn F s) roles), more .ends));
         })
     | inr y ↦ (let z : ⊥ =
@@ -175,6 +186,12 @@ module _ (F : Format) (s : List ℕ) (bytes : Bytes s) (roles : List (List ℕ))
   front-cut =
       ap (take (lastEnd F s 0 roles)) front-bytes
       ∙ take-at (joined (map (recordIn F s) roles)) _ (lastEnd F s 0 roles) (omega (arith, front .ends))
+
+  -- so they stand at the front of a sheet that is made of their records as they are and one more
+  pub kept-front : (more : ℕ × List ℕ)
+      → joined (map (recordIn F s) roles ++ (more ∷ [])) ≡ take (lastEnd F s 0 roles) s ++ bytesOf more
+  kept-front more =
+      joined-append (map (recordIn F s) roles) (more ∷ []) ∙ ap₂ _++_ (sym front-cut) (joined-one more)
 
   -- where the sheet has none of the other roles they are all of it
   others-none : Lacks F s (drop (length roles) (rolesOf F)) → (cs : List (ℕ × List ℕ)) → front .rest ≡ cs → cs ≡ []

@@ -1,7 +1,7 @@
 -- The laws of the promise of a service that writes: cause 9, what an answer says, in both directions, what it leaves in
 -- the buffer, and how the promise is kept.
 use Prim.Native.Nat.{ℕ, _≤_, _<_}
-use mathlib.Core.Path.{_≡_, refl, sym, subst, _∙_}
+use mathlib.Core.Path.{_≡_, refl, sym, ap, subst, _∙_}
 use mathlib.Core.List.{List}
 use mathlib.Core.Logic.{inl, inr}
 use native.Mathlib.Omega.{arith}
@@ -90,6 +90,13 @@ module _ {c : Check} {xs : List ℕ} (before : List ℕ) where
   written-first o =
       rw (written-leaves o, written-clear o .1 .0)
       (take-append-seam xs (drop (length xs) before), drop-append-seam xs (drop (length xs) before))
+
+  -- where the answer is written, no other cause is present, and the first bytes of the buffer are those
+  pub writes-first : {after : List ℕ} {n : ℕ} → Writes c xs before after (Written n)
+      → (c ≡ Clear) × (take n after ≡ xs)
+  writes-first {after} {n} h =
+      let o = writes-outcome h refl in
+      (written-clear o .0, ap (take n) (h .buffer) ∙ written-first o .0)
 
   -- ---- how the promise is kept: nothing is written, or the bytes are put at the start; and back
   outcome-writes : {after : List ℕ} {a : Answer} → Outcome c (length before) xs a → after ≡ leaving c xs before

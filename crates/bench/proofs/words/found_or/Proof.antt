@@ -9,10 +9,10 @@ same-requires : tie.Need-same-requires
 same-requires c κs = search needs
 
 returns : tie.Need-returns
-returns c = row-taken _ _ _ _ _ (c .before .same .ensures) (c .if1 .taken)
+returns c = row-taken _ _ _ _ (c .before .same .ensures) (c .if1 .taken)
 
 returns-2 : tie.Need-returns-2
-returns-2 c = row-passed _ _ _ _ _ (c .before .same .ensures) (c .if1 .left)
+returns-2 c = row-passed _ _ _ _ (c .before .same .ensures) (c .if1 .left)
 
 pub found-or-spec : {M : Type 1} → statement M
 found-or-spec = tie.close (tie.spec same-requires returns returns-2)

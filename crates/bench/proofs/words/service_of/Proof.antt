@@ -1,9 +1,11 @@
--- `bench::words::service_of` meets its contract: no word, one, or more.
--- Assumes nothing.
-use borrow.Author.Needs.{needs}
-use mathlib.Core.Path.{_∙_}
+-- `bench::words::service_of` meets its contract: no word, or what the first names. Assumes nothing.
+use mathlib.Core.Path.{ap₂, _∙_}
+use mathlib.Core.List.{map}
 use denote.Ref.{now}
-use Rattle.bench.proofs.Naming.{words-none, words-one, words-more, more}
+use Rattle.bench.specs.Words.{unlessUnfit}
+use Rattle.bench.proofs.Naming.{words-none, words-more}
+use Rattle.bench.proofs.Handing.{slice-at}
+use borrow.Author.Needs.{needs}
 use Rattle.bench.proofs.words.service_of.Statement.{statement}
 use Rattle.bench.proofs.words.service_of.Tie as tie
 
@@ -12,31 +14,28 @@ on-sheet-requires c κs = search needs
 
 returns : tie.Need-returns
 returns c =
-    let args = c .before .before .before .before .args in
-    c .on-sheet .ensures ∙ words-none (args .count) (now (args .first)) (now (args .second)) (c .before .if1 .taken)
+    let args = c .before .before .args in
+    c .on-sheet .ensures ∙ words-none (args .count) (map now (now (args .words))) (c .before .if1 .taken)
 
-slice-aggregate-asked : tie.Need-slice-aggregate-asked
-slice-aggregate-asked c = search needs
+sub-named : tie.Need-sub-named
+sub-named c = search needs
 
-asked-requires : tie.Need-asked-requires
-asked-requires c κs = search needs
+named-requires : tie.Need-named-requires
+named-requires c κs = search needs
+
+element-copy-out-unless-unfit : tie.Need-element-copy-out-unless-unfit
+element-copy-out-unless-unfit c = search needs
+
+unless-unfit-requires : tie.Need-unless-unfit-requires
+unless-unfit-requires c κs = search needs
 
 returns-2 : tie.Need-returns-2
 returns-2 c =
-    let args = c .before .before .before .before .before .before .args in
-    c .asked .ensures ∙ words-one (args .count) (now (args .first)) (now (args .second)) (c .before .before .if2 .taken)
-
-sub-asked : tie.Need-sub-asked
-sub-asked c = search needs
-
-asked-requires-2 : tie.Need-asked-requires-2
-asked-requires-2 c κs = search needs
-
-returns-3 : tie.Need-returns-3
-returns-3 c =
-    let args = c .before .before .before .before .before .args in
-    c .asked2 .ensures ∙ words-more (args .count) (now (args .first)) (now (args .second))
-    (more (args .count) (c .before .before .if1 .left) (c .before .if2 .left))
+    let named = c .before .before in
+    let args = named .before .before .args in
+    c .unless-unfit .ensures
+    ∙ ap₂ unlessUnfit (slice-at (now (args .words)) 0) (named .named .ensures)
+    ∙ words-more (args .count) (map now (now (args .words))) (named .before .if1 .left)
 
 pub service-of-spec : {M : Type 1} → statement M
 service-of-spec =
@@ -44,9 +43,8 @@ service-of-spec =
     (tie.spec
     on-sheet-requires
     returns
-    slice-aggregate-asked
-    asked-requires
-    returns-2
-    sub-asked
-    asked-requires-2
-    returns-3)
+    sub-named
+    named-requires
+    element-copy-out-unless-unfit
+    unless-unfit-requires
+    returns-2)

@@ -1,104 +1,107 @@
--- `report::words::help_text` meets its contract: the pieces make the list.
--- Assumes nothing.
-use Rattle.report.specs.Words.{helpText}
+-- `report::words::help_text` meets its contract: the pieces make the list. Assumes nothing.
+use mathlib.Core.Path.{_≡_, refl}
+use lib.ListN.{length}
+use Rattle.report.specs.Words.{sheetHelp, helpText}
 use Rattle.sheet.specs.Writing.Laws.{puts-append}
 use borrow.Author.Needs.{needs}
 use native.Mathlib.Omega.{arith}
 use Rattle.report.proofs.words.help_text.Statement.{statement}
 use Rattle.report.proofs.words.help_text.Tie as tie
 
+sized : length sheetHelp ≡ 599
+unfolding sheetHelp
+sized = refl
+
+sheet-help-requires : tie.Need-sheet-help-requires
+sheet-help-requires c κs = search needs
+
 slice-aggregate-put : tie.Need-slice-aggregate-put
 slice-aggregate-put c = search needs
 
 put-requires : tie.Need-put-requires
-put-requires c κs = search needs
+put-requires c κs =
+    let p0 = c .before .before in
+    omega (arith, sized, p0 .sheet-help .ensures .ends)
 
 slice-aggregate-put-2 : tie.Need-slice-aggregate-put-2
 slice-aggregate-put-2 c = search needs
 
 put-requires-2 : tie.Need-put-requires-2
-put-requires-2 c κs = search needs
+put-requires-2 c κs =
+    let p1 = c .before .before in
+    let p0 = p1 .before .before .before in
+    omega (arith, sized, p0 .sheet-help .ensures .ends, p1 .put .ensures .ends)
 
 slice-aggregate-put-3 : tie.Need-slice-aggregate-put-3
 slice-aggregate-put-3 c = search needs
 
 put-requires-3 : tie.Need-put-requires-3
-put-requires-3 c κs = search needs
+put-requires-3 c κs =
+    let p2 = c .before .before in
+    let p1 = p2 .before .before .before in
+    let p0 = p1 .before .before .before in
+    omega (arith, sized, p0 .sheet-help .ensures .ends, p1 .put .ensures .ends, p2 .put2 .ensures .ends)
 
 slice-aggregate-put-4 : tie.Need-slice-aggregate-put-4
 slice-aggregate-put-4 c = search needs
 
 put-requires-4 : tie.Need-put-requires-4
-put-requires-4 c κs = search needs
+put-requires-4 c κs =
+    let p3 = c .before .before in
+    let p2 = p3 .before .before .before in
+    let p1 = p2 .before .before .before in
+    let p0 = p1 .before .before .before in
+    omega (
+      arith,
+      sized,
+      p0 .sheet-help .ensures .ends,
+      p1 .put .ensures .ends,
+      p2 .put2 .ensures .ends,
+      p3 .put3 .ensures .ends,
+    )
 
 slice-aggregate-put-5 : tie.Need-slice-aggregate-put-5
 slice-aggregate-put-5 c = search needs
 
 put-requires-5 : tie.Need-put-requires-5
-put-requires-5 c κs = search needs
-
-slice-aggregate-put-6 : tie.Need-slice-aggregate-put-6
-slice-aggregate-put-6 c = search needs
-
-put-requires-6 : tie.Need-put-requires-6
-put-requires-6 c κs = search needs
-
-slice-aggregate-put-7 : tie.Need-slice-aggregate-put-7
-slice-aggregate-put-7 c = search needs
-
-put-requires-7 : tie.Need-put-requires-7
-put-requires-7 c κs = search needs
-
-slice-aggregate-put-8 : tie.Need-slice-aggregate-put-8
-slice-aggregate-put-8 c = search needs
-
-put-requires-8 : tie.Need-put-requires-8
-put-requires-8 c κs =
-    let p7 = c .before .before in
-    let p6 = p7 .before .before .before in
-    let p5 = p6 .before .before .before in
-    let p4 = p5 .before .before .before in
+put-requires-5 c κs =
+    let p4 = c .before .before in
     let p3 = p4 .before .before .before in
     let p2 = p3 .before .before .before in
     let p1 = p2 .before .before .before in
+    let p0 = p1 .before .before .before in
     omega (
       arith,
+      sized,
+      p0 .sheet-help .ensures .ends,
       p1 .put .ensures .ends,
       p2 .put2 .ensures .ends,
       p3 .put3 .ensures .ends,
       p4 .put4 .ensures .ends,
-      p5 .put5 .ensures .ends,
-      p6 .put6 .ensures .ends,
-      p7 .put7 .ensures .ends,
     )
 
 returns : tie.Need-returns
 unfolding helpText
 returns c =
-    let p7 = c .before .before .before in
-    let p6 = p7 .before .before .before in
-    let p5 = p6 .before .before .before in
-    let p4 = p5 .before .before .before in
+    let p4 = c .before .before .before in
     let p3 = p4 .before .before .before in
     let p2 = p3 .before .before .before in
+    let p1 = p2 .before .before .before in
     puts-append _ _
     (puts-append _ _
     (puts-append _ _
     (puts-append _ _
-    (puts-append _ _
-    (puts-append _ _
-    (puts-append _ _ (p2 .before .before .before .put .ensures) (p2 .put2 .ensures))
+    (puts-append _ _ (p1 .before .before .before .sheet-help .ensures) (p1 .put .ensures))
+    (p2 .put2 .ensures))
     (p3 .put3 .ensures))
     (p4 .put4 .ensures))
-    (p5 .put5 .ensures))
-    (p6 .put6 .ensures))
-    (p7 .put7 .ensures))
-    (c .put8 .ensures)
+    (c .put5 .ensures)
 
 pub help-text-spec : {M : Type 1} → statement M
 help-text-spec =
     tie.close
     (tie.spec
+    sheet-help-requires
     slice-aggregate-put
     put-requires
     slice-aggregate-put-2
@@ -109,10 +112,4 @@ help-text-spec =
     put-requires-4
     slice-aggregate-put-5
     put-requires-5
-    slice-aggregate-put-6
-    put-requires-6
-    slice-aggregate-put-7
-    put-requires-7
-    slice-aggregate-put-8
-    put-requires-8
     returns)

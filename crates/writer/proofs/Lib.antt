@@ -1,0 +1,3 @@
+mod Checking
+mod Rows
+mod Answering
