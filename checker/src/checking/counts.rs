@@ -175,17 +175,17 @@ impl Counts {
 
     /// The same for the searches of `bench word`.
     pub fn words_missing(&self) -> Vec<String> {
-        self.words.missing(PROGRAM, searches::groups())
+        self.words.missing(PROGRAM, searches::GROUPS.into_iter())
     }
 
     /// The same for `bench write` and `bench answers`.
     pub fn writings_missing(&self) -> Vec<String> {
-        self.writings.missing(PROGRAM, writings::groups())
+        self.writings.missing(PROGRAM, writings::GROUPS.into_iter())
     }
 
     /// The same for the dialogues of `bench desk`.
     pub fn desks_missing(&self) -> Vec<String> {
-        self.desks.missing(DESK, desks::groups())
+        self.desks.missing(DESK, desks::GROUPS.into_iter())
     }
 
     /// Sheets that were written by the programs, their refusals, and round trips:
@@ -237,9 +237,9 @@ impl Counts {
             self.all_tried,
             self.lines.summary(PROGRAM, LINES.into_iter()),
             self.silence.summary(RIG, silence::groups()),
-            self.desks.summary(DESK, desks::groups()),
-            self.words.summary(PROGRAM, searches::groups()),
-            self.writings.summary(PROGRAM, writings::groups()),
+            self.desks.summary(DESK, desks::GROUPS.into_iter()),
+            self.words.summary(PROGRAM, searches::GROUPS.into_iter()),
+            self.writings.summary(PROGRAM, writings::GROUPS.into_iter()),
             self.reached.summary(),
             self.writing(),
             self.units,

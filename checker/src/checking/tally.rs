@@ -50,19 +50,27 @@ impl Tally {
     }
 }
 
-/// Every name of these groups is missed until it occurs, and each occurs by itself.
-#[cfg(test)]
-pub fn missed_until_met(groups: &[Group]) {
-    let mut tally = Tally::default();
-    let all: usize = groups.iter().map(|(_, all)| names(all).count()).sum();
-    assert_eq!(tally.missing("a run", groups.iter().copied()).len(), all);
-    for &(group, expected) in groups {
-        names(expected).for_each(|name| tally.meet(group, name));
-    }
-    assert!(tally.missing("a run", groups.iter().copied()).is_empty());
-    assert_eq!(tally.all().count(), all);
-}
-
 pub fn names(names: &'static str) -> impl Iterator<Item = &'static str> {
     names.split(", ")
+}
+
+#[cfg(test)]
+mod tests {
+    use super::*;
+    use crate::checking::{desks, searches, writings};
+
+    /// Every name is missed until it occurs, and each occurs by itself.
+    #[test]
+    fn missed_until_met() {
+        for groups in [&desks::GROUPS[..], &searches::GROUPS, &writings::GROUPS] {
+            let mut tally = Tally::default();
+            let all: usize = groups.iter().map(|(_, all)| names(all).count()).sum();
+            assert_eq!(tally.missing("a run", groups.iter().copied()).len(), all);
+            for &(group, expected) in groups {
+                names(expected).for_each(|name| tally.meet(group, name));
+            }
+            assert!(tally.missing("a run", groups.iter().copied()).is_empty());
+            assert_eq!(tally.all().count(), all);
+        }
+    }
 }

@@ -102,7 +102,7 @@ fn lead(sheet: &[u8]) {
 }
 
 // Reads the sheet of a file, and leads the dialogue.
-pub fn converse(path: &[u8]) {
+pub(crate) fn converse(path: &[u8]) {
     let mut sheet = [0u8; INPUT];
     let input = read_file(path, &mut sheet);
     if let Input::Read { size } = input {

@@ -39,7 +39,7 @@ fn answer_sheet(count: usize, words: &[&[u8]; WORDS], sheet: &[u8], answers: &[u
 }
 
 // Answers to the words alone.
-pub fn answer_words(count: usize, words: &[&[u8]; WORDS]) {
+pub(crate) fn answer_words(count: usize, words: &[&[u8]; WORDS]) {
     answer_sheet(count, words, b"", b"");
 }
 
@@ -53,12 +53,12 @@ fn answer_input(count: usize, words: &[&[u8]; WORDS], answers: &[u8]) {
 }
 
 // Answers to a sheet on standard input.
-pub fn answer_standard(count: usize, words: &[&[u8]; WORDS]) {
+pub(crate) fn answer_standard(count: usize, words: &[&[u8]; WORDS]) {
     answer_input(count, words, b"");
 }
 
 // Reads the answers of a file, and answers to them and a sheet on standard input.
-pub fn answer_answers(count: usize, words: &[&[u8]; WORDS]) {
+pub(crate) fn answer_answers(count: usize, words: &[&[u8]; WORDS]) {
     let mut answers = [0u8; PART];
     let input = read_file(words[1], &mut answers);
     if let Input::Read { size } = input {
@@ -99,7 +99,7 @@ fn answer_later<'a>(count: usize, words: &[&[u8]; WORDS], machine: &'a [u8], wor
 }
 
 // Reads the files of machine and word, then the others, in their order, and answers to these parts.
-pub fn answer_parts(count: usize, words: &[&[u8]; WORDS]) {
+pub(crate) fn answer_parts(count: usize, words: &[&[u8]; WORDS]) {
     let mut machine = [0u8; PART];
     let mut word = [0u8; PART];
     let first = read_file(words[1], &mut machine);

@@ -1,10 +1,11 @@
 // What the bench says of the words that it is started with: its services, and what is wrong with
 // other words.
 ghost use Prim.Native.Nat.{_≤_};
+ghost use mathlib.Core.Path.{_≡_};
 ghost use lib.ListN.{length};
 ghost use Rattle.report.specs.Pieces.{Prints};
 ghost use Rattle.report.specs.Output.{Writes};
-ghost use Rattle.report.specs.Words.{longestMistake, mistakeOf, mistakeLine, sheetHelp, helpText};
+ghost use Rattle.report.specs.Words.{longestMistake, mistakeOf, mistakeLine, sheetHelp, sheetHelpSize, helpText};
 ghost use Rattle.report.specs.Services.{helped, mistaken};
 use crate::output::OUTPUT;
 use crate::output::Written;
@@ -60,6 +61,7 @@ pub fn tell(mistake: Mistake, out: &mut [u8; OUTPUT]) -> Written
 // The lines of the services that read one sheet from standard input and nothing else.
 fn sheet_help(out: &mut [u8; OUTPUT]) -> usize
     ensures { λ r. ⌜ Prints sheetHelp (now (out .entry)) (now (out .exit)) r ⌝ }
+    ensures { λ r. ⌜ r ≡ sheetHelpSize ⌝ }
 {
     let a = put(
         b"bench, bench judge      judge the sheet on standard input: PASS, WRONG, UNHEARD, UNFINISHED or REFUSED\n",

@@ -9,7 +9,7 @@ const ENDS: &str = "home with the word, home later, stranger in the word, strang
 const REFUSALS: &str =
     "refused 1, refused 2, refused 3, refused 4, refused 5, refused 6, refused 8, refused 12";
 
-const GROUPS: [Group; 10] = [
+pub const GROUPS: [Group; 10] = [
     ("talks", ENDS),
     ("talks, units", UNITS),
     ("talks, copies begun in state", STATES),
@@ -33,10 +33,6 @@ const GROUPS: [Group; 10] = [
 /// How many lines of a dialogue are told to be no answer.
 const BAD: &str = "none, one, several, 98, 99, 100";
 
-pub fn groups() -> impl Iterator<Item = Group> {
-    GROUPS.into_iter()
-}
-
 /// The name of such a number.
 pub fn several(lines: usize) -> String {
     match lines {
@@ -50,12 +46,6 @@ pub fn several(lines: usize) -> String {
 #[cfg(test)]
 mod tests {
     use super::*;
-    use crate::checking::tally::missed_until_met;
-
-    #[test]
-    fn all_is_missed_until_it_occurs() {
-        missed_until_met(&GROUPS);
-    }
 
     #[test]
     fn numbers_of_lines() {

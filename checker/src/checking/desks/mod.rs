@@ -11,7 +11,7 @@ mod spoils;
 mod talk;
 
 pub use batch::{wanted, Wanted};
-pub use expected::groups;
+pub use expected::GROUPS;
 pub use spoils::DeskSpoil;
 
 use super::compare::Comparer;

@@ -110,5 +110,5 @@ pub const KINDS: &str = "0, 1, 2, 3, 4, 5, 257, 258, 65535, other";
 /// All groups, what is the same in every run among them or not.
 pub fn groups(fixed: bool) -> impl Iterator<Item = Group> {
     let fixed = FIXED.into_iter().filter(move |_| fixed);
-    GROUPS.into_iter().chain(searches::groups()).chain(fixed)
+    GROUPS.into_iter().chain(searches::GROUPS).chain(fixed)
 }

@@ -13,25 +13,10 @@ const RECORDS: &str =
 /// Where no word is found.
 const NONE: &str = "a longer word separates, 10 states and 8 commands";
 
-const GROUPS: [Group; 5] = [
+pub const GROUPS: [Group; 5] = [
     ("word", OUTCOMES),
     ("word, machines", MACHINES),
     ("word, behind the machine", RECORDS),
     ("word, none", NONE),
     ("word, found", "built and certified, not connected"),
 ];
-
-pub fn groups() -> impl Iterator<Item = Group> {
-    GROUPS.into_iter()
-}
-
-#[cfg(test)]
-mod tests {
-    use super::*;
-    use crate::checking::tally::missed_until_met;
-
-    #[test]
-    fn all_is_missed_until_it_occurs() {
-        missed_until_met(&GROUPS);
-    }
-}

@@ -8,7 +8,7 @@ mod sheets;
 mod spoils;
 mod wrong;
 
-pub use expected::groups;
+pub use expected::GROUPS;
 pub use machines::PERMUTATIONS;
 pub use promises::{promised, Promised};
 pub use sheets::{asked, maybe_refused, Asked};

@@ -5,7 +5,7 @@ use super::files::FILES;
 use super::payloads::{DAMAGED, PAIRS};
 use crate::checking::tally::Group;
 
-const GROUPS: [Group; 9] = [
+pub const GROUPS: [Group; 9] = [
     (
         "write",
         "written, refused 3, refused 4, refused 5, refused 6, refused 7, refused 10, refused 12, file not read",
@@ -37,19 +37,4 @@ pub const WANTED: &str = "a word, a sequence too, answers too";
 pub fn wanted(payloads: usize) -> &'static str {
     let names: Vec<&str> = WANTED.split(", ").collect();
     names[payloads - 2]
-}
-
-pub fn groups() -> impl Iterator<Item = Group> {
-    GROUPS.into_iter()
-}
-
-#[cfg(test)]
-mod tests {
-    use super::*;
-    use crate::checking::tally::missed_until_met;
-
-    #[test]
-    fn all_is_missed_until_it_occurs() {
-        missed_until_met(&GROUPS);
-    }
 }

@@ -8,7 +8,7 @@ mod files;
 mod payloads;
 mod spoils;
 
-pub use expected::{groups, wanted, WANTED};
+pub use expected::{wanted, GROUPS, WANTED};
 pub use payloads::{any_two, damaged, neighbours, sound, Given, DAMAGED, DAMAGES, ORDER};
 pub use spoils::WriteSpoil;
 

@@ -2,27 +2,25 @@
 -- is wanted is refused, whatever follows. One before it that is too long is refused first, so that where later records start plays no role.
 use Prim.Native.Nat.{ℕ, _+_, _<_}
 use mathlib.Core.Path.{_≡_, refl, sym, ap, _∙_}
-use mathlib.Core.Bool.{Bool, true, false, true≢false}
+use mathlib.Core.Bool.{true, false, true≢false}
 use mathlib.Core.List.{List}
 use mathlib.Core.Logic.{inl, inr}
 use native.Mathlib.Omega.{arith}
 use borrow.Author.Tests.{lt-ltb}
-use lib.Dec.{leb, ltb}
-use lib.ListN.{length, getD, take}
+use lib.ListN.{length, take}
 use lib.Seq.{take-all, length-take-le}
-use Rattle.facts.specs.Tests.{or-right}
 use Rattle.facts.specs.Numbers.{less-or-not}
 use Rattle.sheet.specs.declared.check.Check.{Check}
 use Rattle.sheet.specs.declared.check.Check.the-variants.{Clear, Refused}
-use Rattle.sheet.specs.Check.{refusal_with_if_, _else_, first, firstCause}
-use Rattle.sheet.specs.Check.Laws.{present, else-clear, else-refused, else-assoc}
+use Rattle.sheet.specs.Check.{_else_, firstCause}
+use Rattle.sheet.specs.Check.Laws.{present, else-clear, refusal-stays, else-assoc}
 use Rattle.sheet.specs.Format.{standard, offset}
 use Rattle.sheet.specs.Reader.{sheetCauses, needed}
 use Rattle.machine.specs.Limits.{mostSequence}
 use Rattle.machine.specs.Machine.{Mealy, machineOf}
-use Rattle.machine.specs.Causes.{cause3, commandsCause, tableCauses, wordCauses, sequenceCauses}
-use Rattle.machine.specs.Causes.Laws.{clear-shape, shape-entries, table-causes-are, cause10-is}
-use Rattle.machine.specs.Causes.Lists.{word-causes-are, sequence-causes-are}
+use Rattle.machine.specs.Causes.{tableCauses, wordCauses, sequenceCauses}
+use Rattle.machine.specs.Causes.Laws.{cause10-is}
+use Rattle.machine.specs.Causes.Lists.{table-long, word-long, sequence-long}
 use Rattle.writer.specs.declared.wanted.Wanted.{Wanted}
 use Rattle.writer.specs.declared.wanted.Wanted.the-variants.{Word, Sequence, Answers}
 use Rattle.writer.specs.Parts.{Parts, partsOf, withAnswers, needsOf, wordStart, sequenceStart}
@@ -32,10 +30,6 @@ use Rattle.writer.specs.Writer.Laws.{later-sequence, later-answers, part-causes
 use Rattle.report.specs.Output.{bytesUnless}
 use Rattle.report.specs.Services.{sheetWritten, answersWritten}
 use Rattle.report.specs.Services.Laws.{wanted-written}
-
--- a refusal stays what it is, whatever is checked behind it
-pub stays : (d : Check) {c : Check} {n p : ℕ} → c ≡ Refused n p → (c else d) ≡ Refused n p
-stays d {c} {n} {p} e = ap (λ (x : Check). x else d) e ∙ else-refused n p d
 
 -- two refusals of one kind, whatever would be written without them
 refusal-same : (c : Check) (n p : ℕ) (xs ys : List ℕ)
@@ -52,42 +46,13 @@ refused-same c n p xs ys e f =
     ∙ refusal-same c n p xs ys
     ∙ sym (ap (λ (x : Check). bytesUnless x ys) f)
 
--- ---- what is refused of parts that are too long
-not-clear : (n p : ℕ) (b : Bool) → ((refusal n with p if b) ≡ Clear → ⊥) → (refusal n with p if b) ≡ Refused n p
-unfolding refusal_with_if_
-not-clear n p true d = refl
-not-clear n p false d = absurd (d refl)
-
-shape-refused : (at : ℕ) (p : List ℕ) → (cause3 standard at p ≡ Clear → ⊥) → cause3 standard at p ≡ Refused 3 at
-unfolding cause3
-shape-refused at p d = not-clear 3 at _ d
-
-table-long : (at : ℕ) (p : List ℕ) → mostSequence < length p
-    → firstCause (tableCauses standard at p) ≡ Refused 3 at
-table-long at p l =
-    table-causes-are standard at p
-    ∙ stays _ (shape-refused at p
-    (λ e. let h = clear-shape standard at p e in omega (arith, h .long, shape-entries standard p h)))
-
-commands-long : (number most k at : ℕ) (w : List ℕ) → most < length w
-    → commandsCause number most k at w ≡ Refused number at
-unfolding commandsCause
-commands-long number most k at w l =
-    stays (first (length w) (λ i. refusal number with offset at i if leb k (getD w i 0)))
-    (present number at (or-right (ltb (length w) 1) (lt-ltb most (length w) l)))
-
+-- ---- more answers than a sequence may have commands
 module _ (M : Mealy) (at : ℕ) where
-  word-long : (w : List ℕ) → mostSequence < length w → firstCause (wordCauses M at w) ≡ Refused 5 at
-  word-long w l = word-causes-are M at w ∙ stays _ (commands-long 5 _ (M .k) at w (omega arith))
-
-  sequence-long : (xs : List ℕ) → mostSequence < length xs → firstCause (sequenceCauses M at xs) ≡ Refused 7 at
-  sequence-long xs l = sequence-causes-are M at xs ∙ commands-long 7 _ (M .k) at xs l
-
   -- of a sequence that is not too long there are more answers than commands, and one that is too long is refused first
   answers-long : (xs ys : List ℕ) → mostSequence < length ys → firstCause (laterCauses Answers M at xs ys)
       ≡ (firstCause (sequenceCauses M at xs) else Refused 10 (offset at (length xs)))
   answers-long xs ys l = later-answers M at xs ys ∙ elim (less-or-not mostSequence (length xs)) [
-    | inl h ↦ stays _ (sequence-long xs h) ∙ sym (stays _ (sequence-long xs h))
+    | inl h ↦ refusal-stays _ (sequence-long M at xs h) ∙ sym (refusal-stays _ (sequence-long M at xs h))
     | inr h ↦ ap (λ (c : Check). firstCause (sequenceCauses M at xs) else c)
         (sym (cause10-is (offset at (length xs)) xs ys)
         ∙ present 10 (offset at (length xs)) (lt-ltb (length xs) (length ys) (omega arith)))
@@ -127,13 +92,13 @@ module _ (p : Parts) where
 -- the first cause of all where one part is too long: those behind it play no role
 module _ (v : Wanted) (p : Parts) where
   at-machine : mostSequence < length (p .machine) → firstCause (partCauses v p) ≡ (Clear else Refused 3 0)
-  at-machine l = part-causes-are v p ∙ stays _ (table-long 0 (p .machine) l) ∙ sym (else-clear (Refused 3 0))
+  at-machine l = part-causes-are v p ∙ refusal-stays _ (table-long standard 0 (p .machine) (omega arith)) ∙ sym (else-clear (Refused 3 0))
 
   at-word : mostSequence < length (p .word)
       → firstCause (partCauses v p) ≡ (upToMachine p else Refused 5 (wordStart p))
   at-word l =
       part-causes-are v p
-      ∙ ap (λ (c : Check). upToMachine p else c) (stays _ (word-long (M p) (wordStart p) (p .word) l))
+      ∙ ap (λ (c : Check). upToMachine p else c) (refusal-stays _ (word-long (M p) (wordStart p) (p .word) (omega arith)))
 
   at-later : {c : Check} → firstCause (laterCauses v (M p) (sequenceStart p) (p .sequence) (p .answers)) ≡ c
       → firstCause (partCauses v p) ≡ (upToWord p else c)
@@ -149,7 +114,7 @@ at-sequence Word p t l = absurd (true≢false (sym t))
 at-sequence Sequence p t l =
     at-later Sequence p (later-sequence _ _ (p .sequence) (p .answers) ∙ sequence-long _ _ (p .sequence) l)
 at-sequence Answers p t l =
-    at-later Answers p (later-answers _ _ (p .sequence) (p .answers) ∙ stays _ (sequence-long _ _ (p .sequence) l))
+    at-later Answers p (later-answers _ _ (p .sequence) (p .answers) ∙ refusal-stays _ (sequence-long _ _ (p .sequence) l))
 
 at-answers : (p : Parts) → mostSequence < length (p .answers)
     → firstCause (partCauses Answers p) ≡ (upToSequence p else Refused 10 (answersStart p))

@@ -12,7 +12,7 @@ use lib.Seq.{take-all, length-take-le}
 use Rattle.sheet.specs.declared.check.Check.the-variants.{Refused}
 use Rattle.sheet.specs.declared.reader.Needs.{Needs}
 use Rattle.sheet.specs.Check.{firstCause}
-use Rattle.sheet.specs.Check.Laws.{present}
+use Rattle.sheet.specs.Check.Laws.{present, refusal-stays}
 use Rattle.sheet.specs.Format.{longest, standard}
 use Rattle.sheet.specs.Reader.{refusalOf, sheetCauses, needed}
 use Rattle.sheet.specs.Reader.Laws.{refusal-is, checks-are}
@@ -42,7 +42,7 @@ use Rattle.bench.specs.Words.{serviceOf, wordsOf}
 use Rattle.bench.specs.Words.Laws.{firsts, words-are, cut, words-cut}
 use Rattle.bench.specs.Bench.{Inputs, sheetOutput, output, readFor, bench}
 use Rattle.bench.specs.Bench.Laws.{read-enough}
-use Rattle.bench.specs.Bench.Cut.{stays, cutPart, cutParts, parts-cut, added-cut}
+use Rattle.bench.specs.Bench.Cut.{cutPart, cutParts, parts-cut, added-cut}
 use Rattle.facts.specs.Numbers.{less-or-not}
 use mathlib.Core.Logic.{inl, inr}
 
@@ -57,22 +57,22 @@ long Desk = onOutput (refusalLine 1 longest)
 
 module _ (s : List ℕ) (l : longest < length s) where
   read-long : (ks : List ℕ) → refusalOf standard ks s ≡ Refused 1 longest
-  read-long ks = refusal-is standard ks s ∙ stays _ (present 1 longest (lt-ltb longest (length s) l))
+  read-long ks = refusal-is standard ks s ∙ refusal-stays _ (present 1 longest (lt-ltb longest (length s) l))
 
   checks-long : (n : Needs) → firstCause (sheetCauses standard (needed standard n) s) ≡ Refused 1 longest
-  checks-long n = checks-are standard n s ∙ stays _ (read-long (standard .machine))
+  checks-long n = checks-are standard n s ∙ refusal-stays _ (read-long (standard .machine))
 
   load-long : (n : Needs) → firstCause (loadCauses n s) ≡ Refused 1 longest
-  load-long n = load-causes-are n s ∙ stays _ (machine-causes-are n s ∙ stays _ (checks-long n))
+  load-long n = load-causes-are n s ∙ refusal-stays _ (machine-causes-are n s ∙ refusal-stays _ (checks-long n))
 
   marking-long : (answers : Bool) (room : ℕ) → firstCause (markingCauses answers room s) ≡ Refused 1 longest
-  marking-long answers room = marking-causes-are answers room s ∙ stays _ (load-long (sequenceNeeds answers))
+  marking-long answers room = marking-causes-are answers room s ∙ refusal-stays _ (load-long (sequenceNeeds answers))
 
   output-long : (service : SheetService) → sheetOutput service s ≡ long service
   output-long Judge =
       ap (λ a. onOutput (judgeLine a))
       (judgement-refused (mostSequence + 1) s
-      (judge-causes-are (mostSequence + 1) s ∙ stays _ (marking-long true (mostSequence + 1))))
+      (judge-causes-are (mostSequence + 1) s ∙ refusal-stays _ (marking-long true (mostSequence + 1))))
   output-long Certify =
       ap (λ a. onOutput (certifyLine a))
       (certification-refused (mostSequence + 1) s (marking-long false (mostSequence + 1)))
@@ -82,7 +82,7 @@ module _ (s : List ℕ) (l : longest < length s) where
   output-long Desk = begun-refused s (load-refused s (load-long buildNeeds))
 
   added-long : (ys : List ℕ) → answersWritten s ys ≡ onError (refusalLine 1 longest)
-  added-long ys = unless-refused _ (answers-causes-are s ys ∙ stays _ (checks-long (needsOf Sequence)))
+  added-long ys = unless-refused _ (answers-causes-are s ys ∙ refusal-stays _ (checks-long (needsOf Sequence)))
 
 -- the first bytes of an input, one more than a sheet may have
 abbrev pub cutInput : List ℕ → List ℕ

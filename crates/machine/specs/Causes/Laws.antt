@@ -6,20 +6,22 @@ use mathlib.Core.Logic.{inl, inr}
 use mathlib.Core.List.{List, [], _∷_}
 use native.Mathlib.Nat.{zero-add, one-mul}
 use native.Mathlib.Omega.{arith}
-use borrow.Author.Tests.{ltb-false, leb-false, eqb-true, eqb-false, not-false, le-ltb, lt-leb, le-leb, eq-eqb, ne-eqb}
+use borrow.Author.Tests.{ltb-false, leb-false, eqb-true, eqb-false, not-false, lt-ltb, le-ltb, lt-leb, le-leb, eq-eqb}
+use borrow.Author.Tests.{ne-eqb}
 use lib.Arith.{digits-lt}
 use lib.Dec.{leb, ltb, eqb}
 use lib.ListN.{length, getD}
-use Rattle.facts.specs.Tests.{neither}
+use Rattle.facts.specs.Tests.{neither, or-right}
 use Rattle.facts.specs.Numbers.{less-or-not}
 use Rattle.sheet.specs.declared.check.Check.{Check}
-use Rattle.sheet.specs.declared.check.Check.the-variants.{Clear}
+use Rattle.sheet.specs.declared.check.Check.the-variants.{Clear, Refused}
 use Rattle.sheet.specs.Check.{refusal_with_if_, _else_, first, firstCause}
-use Rattle.sheet.specs.Check.Laws.{absent, clear-absent, else-clear, both-clear, first-clear, first-clear-at}
+use Rattle.sheet.specs.Check.Laws.{absent, present, clear-absent, not-clear, else-clear, refusal-stays, both-clear}
+use Rattle.sheet.specs.Check.Laws.{first-clear, first-clear-at}
 use Rattle.sheet.specs.Check.Laws.{first-same, cause-cons, cause-two}
 use Rattle.sheet.specs.Format.{Format, header, offset}
 use Rattle.facts.specs.Bytes.{Bytes}
-use Rattle.machine.specs.Limits.{mostStates, mostCommands, mostEntries, entries-few}
+use Rattle.machine.specs.Limits.{mostStates, mostCommands, mostEntries, mostMachine, entries-few}
 use Rattle.machine.specs.Machine.{noAnswer, pairAt, Commands}
 use Rattle.machine.specs.Causes.{outside, cause3, cause4, cause12, byteCause, commandsCause, cause10, tableCauses}
 
@@ -183,6 +185,23 @@ commands-clear number most k at w h =
     ap₂ _else_ (absent number at (ap₂ _||_ (le-ltb (length w) 1 (h .some)) (le-ltb most (length w) (h .few))))
     (first-clear (length w) _ (λ i l. absent number (offset at i) (lt-leb k (getD w i 0) (h .low i l))))
     ∙ else-clear Clear
+
+-- ---- payloads that are too long
+-- of a machine
+shape-refused : (F : Format) (at : ℕ) (p : List ℕ) → (cause3 F at p ≡ Clear → ⊥) → cause3 F at p ≡ Refused 3 at
+unfolding cause3
+shape-refused F at p d = not-clear 3 at _ d
+
+pub shape-long : (F : Format) (at : ℕ) (p : List ℕ) → mostMachine F < length p → cause3 F at p ≡ Refused 3 at
+shape-long F at p l =
+    shape-refused F at p (λ e. let h = clear-shape F at p e in omega (arith, h .long, shape-entries F p h))
+
+-- of a word or a sequence
+pub commands-long : (number most k at : ℕ) (w : List ℕ) → most < length w
+    → commandsCause number most k at w ≡ Refused number at
+unfolding commandsCause
+commands-long number most k at w l =
+    refusal-stays _ (present number at (or-right (ltb (length w) 1) (lt-ltb most (length w) l)))
 
 -- ---- cause 10
 pub cause10-is : (at : ℕ) (xs ys : List ℕ) → (refusal 10 with at if ltb (length xs) (length ys)) ≡ cause10 at xs ys

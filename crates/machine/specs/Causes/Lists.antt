@@ -1,6 +1,6 @@
 -- The laws of the lists of causes: what a payload shows where its own are clear, in both directions for a word and a
 -- sequence; the causes of loading written out, and what a sheet shows where they are clear.
-use Prim.Native.Nat.{ℕ, _≤_}
+use Prim.Native.Nat.{ℕ, _≤_, _<_}
 use mathlib.Core.Path.{_≡_, refl, sym, ap, ap₂, _∙_}
 use mathlib.Core.Bool.{Bool, true, false}
 use mathlib.Core.List.{List, _++_, List·Memᴰ}
@@ -8,10 +8,11 @@ use native.Mathlib.Omega.{arith}
 use lib.ListN.{length, take}
 use lib.Seq.{take-all}
 use Rattle.sheet.specs.declared.check.Check.{Check}
-use Rattle.sheet.specs.declared.check.Check.the-variants.{Clear}
+use Rattle.sheet.specs.declared.check.Check.the-variants.{Clear, Refused}
 use Rattle.sheet.specs.declared.reader.Needs.{Needs}
 use Rattle.sheet.specs.Check.{_else_, firstCause}
-use Rattle.sheet.specs.Check.Laws.{else-clear, both-clear, cause-none, cause-one, cause-two, cause-append}
+use Rattle.sheet.specs.Check.Laws.{else-clear, refusal-stays, both-clear, cause-none, cause-one, cause-two}
+use Rattle.sheet.specs.Check.Laws.{cause-append}
 use Rattle.sheet.specs.Format.{Format, standard}
 use Rattle.sheet.specs.Reader.{sheetCauses, when, needed, Reads, machinePayload, wordIn, sequenceIn, machineRecord}
 use Rattle.sheet.specs.Reader.{wordRecord, sequenceRecord}
@@ -22,7 +23,7 @@ use Rattle.machine.specs.Causes.{cause3, cause4, cause12, cause5, cause7
 use Rattle.machine.specs.Causes.{wordCauses, sequenceCauses, tableCausesIn, wordCausesIn, sequenceCausesIn}
 use Rattle.machine.specs.Causes.{machineCauses, loadCauses}
 use Rattle.machine.specs.Causes.Laws.{Shape, clear-shape, shape-entries, clear-next, clear-answers}
-use Rattle.machine.specs.Causes.Laws.{clear-commands, table-causes-are, commands-clear}
+use Rattle.machine.specs.Causes.Laws.{clear-commands, table-causes-are, commands-clear, shape-long, commands-long}
 use Rattle.machine.specs.Causes.Separation.{clear-separates, separates-clear}
 
 -- ---- a machine's payload
@@ -56,6 +57,10 @@ module _ (F : Format) (at : ℕ) (p : List ℕ) (e : firstCause (tableCauses F a
   unfolding machineOf
   table-answers = clear-answers F at p (both-clear _ _ (table-clear .1) .1)
 
+pub table-long : (F : Format) (at : ℕ) (p : List ℕ) → mostMachine F < length p
+    → firstCause (tableCauses F at p) ≡ Refused 3 at
+table-long F at p l = table-causes-are F at p ∙ refusal-stays _ (shape-long F at p l)
+
 -- ---- a word and a sequence
 module _ (M : Mealy) (at : ℕ) (w : List ℕ) where
   pub word-causes-are : firstCause (wordCauses M at w) ≡ (cause5 (M .k) at w else cause6 M w)
@@ -76,6 +81,9 @@ module _ (M : Mealy) (at : ℕ) (w : List ℕ) where
       ∙ ap₂ _else_ (commands-clear 5 mostWord (M .k) at w (d .commands)) (separates-clear M w (d .separates))
       ∙ else-clear Clear
 
+  pub word-long : mostWord < length w → firstCause (wordCauses M at w) ≡ Refused 5 at
+  word-long l = word-causes-are ∙ refusal-stays _ (commands-long 5 mostWord (M .k) at w l)
+
   pub sequence-causes-are : firstCause (sequenceCauses M at w) ≡ cause7 (M .k) at w
   unfolding sequenceCauses
   sequence-causes-are = cause-one (cause7 (M .k) at w)
@@ -85,6 +93,9 @@ module _ (M : Mealy) (at : ℕ) (w : List ℕ) where
 
   pub sequence-clear : Commands mostSequence (M .k) w → firstCause (sequenceCauses M at w) ≡ Clear
   sequence-clear h = sequence-causes-are ∙ commands-clear 7 mostSequence (M .k) at w h
+
+  pub sequence-long : mostSequence < length w → firstCause (sequenceCauses M at w) ≡ Refused 7 at
+  sequence-long l = sequence-causes-are ∙ commands-long 7 mostSequence (M .k) at w l
 
 -- ---- the lists of a sheet, written out
 pub machine-causes-are : (n : Needs) (s : List ℕ) → firstCause (machineCauses n s)

@@ -29,6 +29,11 @@ unfolding refusal_with_if_
 clear-absent n p true e = cc
 clear-absent n p false e = refl
 
+pub not-clear : (n p : ℕ) (b : Bool) → ((refusal n with p if b) ≡ Clear → ⊥) → (refusal n with p if b) ≡ Refused n p
+unfolding refusal_with_if_
+not-clear n p true d = refl
+not-clear n p false d = absurd (d refl)
+
 -- ---- two checks in a row
 pub else-clear : (d : Check) → (Clear else d) ≡ d
 unfolding _else_
@@ -37,6 +42,10 @@ else-clear d = refl
 pub else-refused : (n p : ℕ) (d : Check) → (Refused n p else d) ≡ Refused n p
 unfolding _else_
 else-refused n p d = refl
+
+-- a refusal stays what it is, whatever is checked behind it
+pub refusal-stays : (d : Check) {c : Check} {n p : ℕ} → c ≡ Refused n p → (c else d) ≡ Refused n p
+refusal-stays d {c} {n} {p} e = ap (λ (x : Check). x else d) e ∙ else-refused n p d
 
 -- code that makes the first one as k, and stops where it refuses or goes on where it is clear
 pub stops-at : (c d : Check) {e k : Check} → e ≡ (c else d) → k ≡ c → {n p : ℕ} → k ≡ Refused n p → k ≡ e

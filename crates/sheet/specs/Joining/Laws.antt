@@ -3,7 +3,7 @@ use Prim.Native.Nat.{ℕ, _+_, _^_, _≤_, _<_}
 use mathlib.Core.Path.{_≡_, refl, sym, ap, ap₂, _∙_}
 use mathlib.Core.Bool.{true, not}
 use mathlib.Core.Logic.{inl, inr}
-use mathlib.Core.List.{List, [], _∷_, _++_, map, append-assoc, append-nil}
+use mathlib.Core.List.{List, [], _∷_, _++_, map, append-assoc, append-nil, List·Memᴰ}
 use native.Mathlib.Omega.{arith}
 use borrow.Author.Tests.{le-ltb, eqb-true}
 use lib.ListN.{length, take, drop, length-append}
@@ -21,6 +21,7 @@ use Rattle.sheet.specs.Format.{parsed, ofKind, _or_, find}
 use Rattle.sheet.specs.Format.Laws.{parse-end, parse-as, parsed-is}
 use Rattle.sheet.specs.Reader.{isMissing, missing, sheetCauses, refusalOf, recordOr, recordOf, payloadPart}
 use Rattle.sheet.specs.Reader.{partWhen, part, partBytes, content, Reads}
+use Rattle.sheet.specs.Reader.Laws.{needed-clear, clear-reads}
 use Rattle.sheet.specs.Writing.{headerOf, Puts}
 use Rattle.sheet.specs.Writing.Laws.{header-size, record-size, header-reads, puts-same, puts-append}
 use Rattle.sheet.specs.Joining.{bytesOf, joined, placed, InOrder, payloadOf, has, hasAll, recordIn, rolesOf}
@@ -193,3 +194,8 @@ pub kept-fresh : (F : Format) (k : ℕ) (s : List ℕ) → Reads F (k ∷ []) s
 kept-fresh F k s h =
     let kind = recordOf F (k ∷ []) s .kind in
     ap (λ (n : ℕ). (n, content F (k ∷ []) s)) (eqb-true kind k (sym (among-one kind k) ∙ h .kind))
+
+-- so it is where the role is needed and causes 1 and 2 are absent
+pub needed-fresh : (F : Format) (s : List ℕ) (roles : List (List ℕ)) → firstCause (sheetCauses F roles s) ≡ Clear
+    → (k : ℕ) → List·Memᴰ (k ∷ []) roles → recordIn F s (k ∷ []) ≡ fresh (k ∷ []) (content F (k ∷ []) s)
+needed-fresh F s roles e k m = kept-fresh F k s (clear-reads F (k ∷ []) s (needed-clear F s roles (k ∷ []) m e))

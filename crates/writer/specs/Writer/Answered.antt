@@ -3,7 +3,7 @@
 use Prim.Native.Nat.{ℕ}
 use mathlib.Core.Path.{_≡_, refl, sym, ap, ap₂, subst, _∙_}
 use mathlib.Core.Bool.{true, true≢false}
-use mathlib.Core.List.{List, [], _∷_, _++_, List·Memᴰ, List·Memᴰ·head, List·Memᴰ·tail}
+use mathlib.Core.List.{List, [], _∷_, _++_, List·Memᴰ·head, List·Memᴰ·tail}
 use native.Mathlib.Omega.{arith}
 use lib.ListN.{length, take}
 use Rattle.facts.specs.Bytes.{Bytes}
@@ -13,12 +13,11 @@ use Rattle.sheet.specs.declared.writing.Answer.the-variants.{Written}
 use Rattle.sheet.specs.Check.{_else_, firstCause}
 use Rattle.sheet.specs.Check.Laws.{else-assoc, else-refused, else-clear, both-clear}
 use Rattle.sheet.specs.Format.{standard, end}
-use Rattle.sheet.specs.Reader.{sheetCauses, needed, content, machinePayload, wordIn, sequenceIn, machineRecord}
+use Rattle.sheet.specs.Reader.{sheetCauses, needed, machinePayload, wordIn, sequenceIn, machineRecord}
 use Rattle.sheet.specs.Reader.{wordRecord, sequenceRecord}
-use Rattle.sheet.specs.Reader.Laws.{needed-clear, clear-reads}
 use Rattle.sheet.specs.Promise.Laws.{writes-first}
 use Rattle.sheet.specs.Joining.{bytesOf, recordIn, fresh, Successive}
-use Rattle.sheet.specs.Joining.Laws.{joined-none, joined-long, standard-roles, kept-fresh}
+use Rattle.sheet.specs.Joining.Laws.{joined-none, joined-long, standard-roles, needed-fresh}
 use Rattle.sheet.specs.Joining.Front.{front, kept-front}
 use Rattle.machine.specs.Machine.{machineOf}
 use Rattle.machine.specs.Causes.{cause10, machineIn, tableCauses, wordCauses, sequenceCauses, tableCausesIn}
@@ -41,19 +40,17 @@ first-roles : Successive standard 0 roles
 first-roles = (standard-roles .0, (standard-roles .1 .0, (standard-roles .1 .1 .0, tt)))
 
 module _ (s ys : List ℕ) (bytes : Bytes s) (clear : firstCause (sheetCauses standard roles s) ≡ Clear) where
-  kept : (k : ℕ) → List·Memᴰ (k ∷ []) roles
-      → recordIn standard s (k ∷ []) ≡ fresh (k ∷ []) (content standard (k ∷ []) s)
-  kept k m = kept-fresh standard k s (clear-reads standard (k ∷ []) s (needed-clear standard s roles (k ∷ []) m clear))
-
   -- its records as they are, and the answers
   pub answered-front : sheetOf Answers (withAnswers s ys)
       ≡ take (end (sequenceRecord s)) s ++ bytesOf (fresh (standard .answers) ys)
   unfolding sheetOf
   answered-front =
-      let first = kept _ (List·Memᴰ·head refl) in
-      let second = kept _ (List·Memᴰ·tail (List·Memᴰ·head refl)) in
-      let third = kept _ (List·Memᴰ·tail (List·Memᴰ·tail (List·Memᴰ·head refl))) in
-      rw (← first, ← second, ← third)
+      let kept = needed-fresh standard s roles clear in
+      rw (
+        ← kept _ (List·Memᴰ·head refl),
+        ← kept _ (List·Memᴰ·tail (List·Memᴰ·head refl)),
+        ← kept _ (List·Memᴰ·tail (List·Memᴰ·tail (List·Memᴰ·head refl))),
+      )
       (kept-front standard s bytes roles first-roles clear (fresh (standard .answers) ys))
 
   -- the records start where they start in the given sheet, and the answers' where its third one ends

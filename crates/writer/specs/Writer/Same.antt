@@ -3,7 +3,7 @@
 use Prim.Native.Nat.{ℕ, _≤_}
 use mathlib.Core.Path.{_≡_, refl, sym, ap, _∙_}
 use mathlib.Core.Bool.{true}
-use mathlib.Core.List.{List, [], _∷_, List·Memᴰ, List·Memᴰ·head, List·Memᴰ·tail}
+use mathlib.Core.List.{List, [], _∷_, List·Memᴰ·head, List·Memᴰ·tail}
 use lib.ListN.{length}
 use Rattle.facts.specs.Bytes.{Bytes}
 use Rattle.sheet.specs.declared.check.Check.the-variants.{Clear}
@@ -11,16 +11,16 @@ use Rattle.sheet.specs.declared.writing.Answer.{Answer}
 use Rattle.sheet.specs.declared.writing.Answer.the-variants.{Written}
 use Rattle.sheet.specs.Check.{firstCause}
 use Rattle.sheet.specs.Format.{standard, Parsed, parsed, ofKind, _or_, find}
-use Rattle.sheet.specs.Reader.{isMissing, needed, content, machinePayload, sequenceIn, answersIn, machineRecord}
+use Rattle.sheet.specs.Reader.{isMissing, sheetCauses, needed, machinePayload, sequenceIn, answersIn, machineRecord}
 use Rattle.sheet.specs.Reader.{answersRecord}
 use Rattle.sheet.specs.Writing.{written}
 use Rattle.sheet.specs.Promise.Laws.{Outcome, wrote, outcome-writing, written-leaves}
-use Rattle.sheet.specs.Joining.{joined, placed, InOrder, recordIn, fresh, Lacks}
-use Rattle.sheet.specs.Joining.Laws.{parsed-joined, standard-roles, kept-fresh}
+use Rattle.sheet.specs.Joining.{joined, placed, InOrder, Successive, Lacks}
+use Rattle.sheet.specs.Joining.Laws.{parsed-joined, standard-roles, needed-fresh}
 use Rattle.sheet.specs.Joining.Front.{front-whole}
 use Rattle.machine.specs.Causes.{cause10, machineIn, loadCauses}
 use Rattle.machine.specs.Causes.Laws.{clear-few, table-anywhere}
-use Rattle.machine.specs.Causes.Lists.{clear-sheet, clear-table, kind-reads, clear-machine, word-distinguishes}
+use Rattle.machine.specs.Causes.Lists.{clear-sheet, clear-table, clear-machine, word-distinguishes}
 use Rattle.machine.specs.Causes.Lists.{sequence-commands}
 use Rattle.writer.specs.declared.wanted.Wanted.{Wanted}
 use Rattle.writer.specs.declared.wanted.Wanted.the-variants.{Word, Sequence, Answers}
@@ -61,38 +61,41 @@ consists-formed v s h = record {
 
 -- ---- and make that sheet
 module _ (s : List ℕ) (bytes : Bytes s) where
-  -- the record of a role as the sheet has it is the one that is written
-  kept : (v : Wanted) → firstCause (loadCauses (needsOf v) s) ≡ Clear → (k : ℕ)
-      → List·Memᴰ (k ∷ []) (needed standard (needsOf v))
-      → recordIn standard s (k ∷ []) ≡ fresh (k ∷ []) (content standard (k ∷ []) s)
-  kept v e k m = kept-fresh standard k s (kind-reads (needsOf v) s (clear-machine (needsOf v) s e) (k ∷ []) m)
+  -- causes 1 and 2 are absent
+  kinds : (v : Wanted) → Consists v s → firstCause (sheetCauses standard (needed standard (needsOf v)) s) ≡ Clear
+  kinds v h = clear-sheet (needsOf v) s (clear-machine (needsOf v) s (h .load))
 
   pub same-sheet : (v : Wanted) → Consists v s → sheetOf v (partsIn s) ≡ s
   unfolding sheetOf
   same-sheet Word h =
-      let whole = front-whole standard s bytes (standard .machine ∷ standard .word ∷ [])
-      (standard-roles .0, (standard-roles .1 .0, tt))
-      (clear-sheet (needsOf Word) s (clear-machine (needsOf Word) s (h .load))) (h .others) in
-      let first = kept Word (h .load) _ (List·Memᴰ·head refl) in
-      let second = kept Word (h .load) _ (List·Memᴰ·tail (List·Memᴰ·head refl)) in
-      sym (whole ∙ rw (first, second) refl)
+      let roles = needed standard (needsOf Word) in
+      let clear = kinds Word h in
+      let kept = needed-fresh standard s roles clear in
+      sym (front-whole standard s bytes roles (standard-roles .0, (standard-roles .1 .0, tt)) clear (h .others)
+      ∙ rw (kept _ (List·Memᴰ·head refl), kept _ (List·Memᴰ·tail (List·Memᴰ·head refl))) refl)
   same-sheet Sequence h =
-      let whole = front-whole standard s bytes (standard .machine ∷ standard .word ∷ standard .sequence ∷ [])
-      (standard-roles .0, (standard-roles .1 .0, (standard-roles .1 .1 .0, tt)))
-      (clear-sheet (needsOf Sequence) s (clear-machine (needsOf Sequence) s (h .load))) (h .others) in
-      let first = kept Sequence (h .load) _ (List·Memᴰ·head refl) in
-      let second = kept Sequence (h .load) _ (List·Memᴰ·tail (List·Memᴰ·head refl)) in
-      let third = kept Sequence (h .load) _ (List·Memᴰ·tail (List·Memᴰ·tail (List·Memᴰ·head refl))) in
-      sym (whole ∙ rw (first, second, third) refl)
+      let roles = needed standard (needsOf Sequence) in
+      let clear = kinds Sequence h in
+      let kept = needed-fresh standard s roles clear in
+      let first : Successive standard 0 roles =
+      (standard-roles .0, (standard-roles .1 .0, (standard-roles .1 .1 .0, tt))) in
+      sym (front-whole standard s bytes roles first clear (h .others)
+      ∙ rw (
+        kept _ (List·Memᴰ·head refl),
+        kept _ (List·Memᴰ·tail (List·Memᴰ·head refl)),
+        kept _ (List·Memᴰ·tail (List·Memᴰ·tail (List·Memᴰ·head refl))),
+      ) refl)
   same-sheet Answers h =
-      let whole = front-whole standard s bytes (needed standard (needsOf Answers)) standard-roles
-      (clear-sheet (needsOf Answers) s (clear-machine (needsOf Answers) s (h .load))) (h .others) in
-      let first = kept Answers (h .load) _ (List·Memᴰ·head refl) in
-      let second = kept Answers (h .load) _ (List·Memᴰ·tail (List·Memᴰ·head refl)) in
-      let third = kept Answers (h .load) _ (List·Memᴰ·tail (List·Memᴰ·tail (List·Memᴰ·head refl))) in
-      let fourth =
-      kept Answers (h .load) _ (List·Memᴰ·tail (List·Memᴰ·tail (List·Memᴰ·tail (List·Memᴰ·head refl)))) in
-      sym (whole ∙ rw (first, second, third, fourth) refl)
+      let roles = needed standard (needsOf Answers) in
+      let clear = kinds Answers h in
+      let kept = needed-fresh standard s roles clear in
+      sym (front-whole standard s bytes roles standard-roles clear (h .others)
+      ∙ rw (
+        kept _ (List·Memᴰ·head refl),
+        kept _ (List·Memᴰ·tail (List·Memᴰ·head refl)),
+        kept _ (List·Memᴰ·tail (List·Memᴰ·tail (List·Memᴰ·head refl))),
+        kept _ (List·Memᴰ·tail (List·Memᴰ·tail (List·Memᴰ·tail (List·Memᴰ·head refl)))),
+      ) refl)
 
   -- so the writer, given its parts and a room for it, writes it
   pub same-written : (v : Wanted) → Consists v s → {before after : List ℕ} {a : Answer} → length s ≤ length before

@@ -1,16 +1,9 @@
 -- `report::words::help_text` meets its contract: the pieces make the list. Assumes nothing.
-use mathlib.Core.Path.{_≡_, refl}
-use lib.ListN.{length}
-use Rattle.report.specs.Words.{sheetHelp, helpText}
+use Rattle.report.specs.Words.{helpText}
 use Rattle.sheet.specs.Writing.Laws.{puts-append}
 use borrow.Author.Needs.{needs}
-use native.Mathlib.Omega.{arith}
 use Rattle.report.proofs.words.help_text.Statement.{statement}
 use Rattle.report.proofs.words.help_text.Tie as tie
-
-sized : length sheetHelp ≡ 599
-unfolding sheetHelp
-sized = refl
 
 sheet-help-requires : tie.Need-sheet-help-requires
 sheet-help-requires c κs = search needs
@@ -19,66 +12,31 @@ slice-aggregate-put : tie.Need-slice-aggregate-put
 slice-aggregate-put c = search needs
 
 put-requires : tie.Need-put-requires
-put-requires c κs =
-    let p0 = c .before .before in
-    omega (arith, sized, p0 .sheet-help .ensures .ends)
+put-requires c κs = search needs
 
 slice-aggregate-put-2 : tie.Need-slice-aggregate-put-2
 slice-aggregate-put-2 c = search needs
 
 put-requires-2 : tie.Need-put-requires-2
-put-requires-2 c κs =
-    let p1 = c .before .before in
-    let p0 = p1 .before .before .before in
-    omega (arith, sized, p0 .sheet-help .ensures .ends, p1 .put .ensures .ends)
+put-requires-2 c κs = search needs
 
 slice-aggregate-put-3 : tie.Need-slice-aggregate-put-3
 slice-aggregate-put-3 c = search needs
 
 put-requires-3 : tie.Need-put-requires-3
-put-requires-3 c κs =
-    let p2 = c .before .before in
-    let p1 = p2 .before .before .before in
-    let p0 = p1 .before .before .before in
-    omega (arith, sized, p0 .sheet-help .ensures .ends, p1 .put .ensures .ends, p2 .put2 .ensures .ends)
+put-requires-3 c κs = search needs
 
 slice-aggregate-put-4 : tie.Need-slice-aggregate-put-4
 slice-aggregate-put-4 c = search needs
 
 put-requires-4 : tie.Need-put-requires-4
-put-requires-4 c κs =
-    let p3 = c .before .before in
-    let p2 = p3 .before .before .before in
-    let p1 = p2 .before .before .before in
-    let p0 = p1 .before .before .before in
-    omega (
-      arith,
-      sized,
-      p0 .sheet-help .ensures .ends,
-      p1 .put .ensures .ends,
-      p2 .put2 .ensures .ends,
-      p3 .put3 .ensures .ends,
-    )
+put-requires-4 c κs = search needs
 
 slice-aggregate-put-5 : tie.Need-slice-aggregate-put-5
 slice-aggregate-put-5 c = search needs
 
 put-requires-5 : tie.Need-put-requires-5
-put-requires-5 c κs =
-    let p4 = c .before .before in
-    let p3 = p4 .before .before .before in
-    let p2 = p3 .before .before .before in
-    let p1 = p2 .before .before .before in
-    let p0 = p1 .before .before .before in
-    omega (
-      arith,
-      sized,
-      p0 .sheet-help .ensures .ends,
-      p1 .put .ensures .ends,
-      p2 .put2 .ensures .ends,
-      p3 .put3 .ensures .ends,
-      p4 .put4 .ensures .ends,
-    )
+put-requires-5 c κs = search needs
 
 returns : tie.Need-returns
 unfolding helpText
@@ -91,7 +49,7 @@ returns c =
     (puts-append _ _
     (puts-append _ _
     (puts-append _ _
-    (puts-append _ _ (p1 .before .before .before .sheet-help .ensures) (p1 .put .ensures))
+    (puts-append _ _ (p1 .before .before .before .sheet-help .ensures .0) (p1 .put .ensures))
     (p2 .put2 .ensures))
     (p3 .put3 .ensures))
     (p4 .put4 .ensures))

@@ -41,13 +41,14 @@ returns c =
     let p4 = c .before .before .before in
     let p3 = p4 .before .before .before in
     let p2 = p3 .before .before .before in
-    puts-append _ _
+    let printed = puts-append _ _
     (puts-append _ _
     (puts-append _ _
     (puts-append _ _ (p2 .before .before .before .put .ensures) (p2 .put2 .ensures))
     (p3 .put3 .ensures))
     (p4 .put4 .ensures))
-    (c .put5 .ensures)
+    (c .put5 .ensures) in
+    (printed, printed .ends)
 
 pub sheet-help-spec : {M : Type 1} → statement M
 sheet-help-spec =
