@@ -1,13 +1,19 @@
 // The benchmark of certifying and of the search for a word: what the proved functions cost beside
 // an unverified near-linear certifier, and the program `cases` beside unverified searches, the
-// checker's, on the same sheets, all with parsing and all checks. Prints tables in Markdown; ends
-// with status 1 only where two sides answer differently, or the program cannot be run.
+// checker's, on the same sheets, all with parsing and all checks. Or, with --against, what they cost
+// beside those of an older archive. Prints tables in Markdown; ends with status 1 only where two sides
+// answer differently, the program cannot be run or the older archive is missing.
 
+mod against;
+mod archives;
 mod chains;
 mod children;
 mod clock;
 mod machines;
+mod marks;
 mod measure;
+mod options;
+mod pairs;
 mod scratch;
 mod searched;
 mod searching;
@@ -16,36 +22,24 @@ mod stack;
 mod table;
 mod workloads;
 
+use against::against;
 use checker::machine::LONGEST_SEQUENCE;
 use checker::random::Random;
 use checker::rig::{rig_certify, rig_judge};
 use measure::{medians, Times};
+use options::{options, usage, Options};
 use searching::searching;
-use sides::{proved, Sides};
-use stack::PaintedStack;
-use std::path::PathBuf;
+use sides::{proved, Proved, Sides};
 use std::process::ExitCode;
 use table::{figure, head, row, Bars};
 use workloads::Workload;
 
-/// The most stack that a call may take, in bytes.
-const STACK_BAR: f64 = 65_536.0;
 /// The lengths at which growth is looked at.
 const LENGTHS: [usize; 5] = [1_000, 2_000, 5_000, 10_000, LONGEST_SEQUENCE];
-const USAGE: &str = "usage: benchmark [--seed S] [--directory D] [--only-searching]
-  --seed S          start of all random choices (default 1)
-  --directory D     where the program cases is (default target/bin)
-  --only-searching  the search for a word alone";
-
-struct Options {
-    seed: u64,
-    directory: PathBuf,
-    only_searching: bool,
-}
 
 fn main() -> ExitCode {
     let Some(options) = options() else {
-        eprintln!("{USAGE}");
+        eprintln!("{}", usage());
         return ExitCode::from(2);
     };
     match benchmark(&options) {
@@ -60,33 +54,19 @@ fn main() -> ExitCode {
     }
 }
 
-/// What the arguments ask for; none if they are not understood.
-fn options() -> Option<Options> {
-    let mut options = Options {
-        seed: 1,
-        directory: PathBuf::from("target/bin"),
-        only_searching: false,
-    };
-    let mut arguments = std::env::args().skip(1);
-    while let Some(name) = arguments.next() {
-        match name.as_str() {
-            "--seed" => options.seed = arguments.next()?.parse().ok()?,
-            "--directory" => options.directory = PathBuf::from(arguments.next()?),
-            "--only-searching" => options.only_searching = true,
-            _ => return None,
-        }
-    }
-    Some(options)
-}
-
 fn benchmark(options: &Options) -> Result<Bars, String> {
-    let seed = options.seed;
-    let mut bars = Bars::default();
-    if !options.only_searching {
-        certifying_and_judging(seed, &mut bars)?;
+    if let Some(archive) = &options.against {
+        println!("# Proved functions: before, {archive}, and after, the present archive");
+        return against(options.layout_before, &options.seeds);
     }
-    println!("\n# The search for a word: program and unverified baselines, seed {seed}");
-    searching(&options.directory, &mut Random::new(seed), &mut bars)?;
+    let mut bars = Bars::default();
+    for &seed in &options.seeds {
+        if !options.only_searching {
+            certifying_and_judging(seed, &mut bars)?;
+        }
+        println!("\n# The search for a word: program and unverified baselines, seed {seed}");
+        searching(&options.directory, &mut Random::new(seed), &mut bars)?;
+    }
     Ok(bars)
 }
 
@@ -103,7 +83,11 @@ fn certifying_and_judging(seed: u64, bars: &mut Bars) -> Result<(), String> {
     ratios(&all, &mut sides, bars)?;
     growth(&[&house[0], &built[0], &built[5]], &mut sides)?;
     judging(built.iter().chain(&house), &mut sides)?;
-    stack_taken(&all, &mut random, bars);
+    let functions = [
+        ("rig_certify", rig_certify as Proved),
+        ("rig_judge", rig_judge),
+    ];
+    stack::taken(&functions, &stack::sheets(&all, &mut random), bars);
     println!(
         "\nThe baseline's workspace: {} bytes.",
         workspace(&built[5])
@@ -229,28 +213,6 @@ fn judged(sheet: &[u8], sides: &mut Sides) -> Times {
         proved(rig_judge, sheet, theirs);
     };
     medians(one, other)
-}
-
-/// The most stack that each function takes, over sheets of all kinds.
-fn stack_taken(workloads: &[Workload], random: &mut Random, bars: &mut Bars) {
-    let sheets = stack::sheets(workloads, random);
-    let mut painted = PaintedStack::new();
-    head("Stack", &["function", "calls", "most bytes", "bar", "met"]);
-    let functions: [(&str, sides::Proved); 2] =
-        [("rig_certify", rig_certify), ("rig_judge", rig_judge)];
-    for (name, function) in functions {
-        let depths = sheets
-            .iter()
-            .map(|(sheet, room)| painted.depth(function, sheet, *room));
-        let most = depths.max().unwrap_or_default();
-        row(&[
-            name.into(),
-            sheets.len().to_string(),
-            most.to_string(),
-            format!("{STACK_BAR}"),
-            bars.hold(name, most as f64, STACK_BAR).into(),
-        ]);
-    }
 }
 
 /// Bytes that the baseline has allocated once it has certified a sheet.

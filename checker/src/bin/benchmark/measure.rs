@@ -51,7 +51,12 @@ fn sample(call: &mut impl FnMut(), calls: usize) -> f64 {
     (now() - start) / calls as f64
 }
 
-pub fn median(mut times: Vec<f64>) -> f64 {
-    times.sort_by(f64::total_cmp);
-    times[times.len() / 2]
+/// The middle one; of an even number the mean of the middle two.
+pub fn median(mut values: Vec<f64>) -> f64 {
+    values.sort_by(f64::total_cmp);
+    let middle = values.len() / 2;
+    if values.len() % 2 == 1 {
+        return values[middle];
+    }
+    (values[middle - 1] + values[middle]) / 2.0
 }

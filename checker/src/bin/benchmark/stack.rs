@@ -2,22 +2,25 @@
 // painted before, and the lowest byte that has changed tells how deep it went.
 
 use crate::sides::{Proved, ROOM};
+use crate::table::{head, row, Bars};
 use crate::workloads::Workload;
 use checker::random::Random;
 use std::arch::asm;
 
+/// The most stack that a call may take, in bytes.
+const BAR: f64 = 65_536.0;
 /// Bytes of the painted stack, far more than a call may take.
 const STACK: usize = 1 << 20;
 const PAINT: u8 = 0xA5;
 
 /// A stack for calls, and a marks buffer.
-pub struct PaintedStack {
+struct PaintedStack {
     memory: Vec<u8>,
     marks: Vec<u8>,
 }
 
 impl PaintedStack {
-    pub fn new() -> PaintedStack {
+    fn new() -> PaintedStack {
         PaintedStack {
             memory: vec![0; STACK],
             marks: vec![0; ROOM],
@@ -25,7 +28,7 @@ impl PaintedStack {
     }
 
     /// How many bytes of stack a call takes, its return address included.
-    pub fn depth(&mut self, function: Proved, sheet: &[u8], room: usize) -> usize {
+    fn depth(&mut self, function: Proved, sheet: &[u8], room: usize) -> usize {
         self.memory.fill(PAINT);
         let bottom = self.memory.as_mut_ptr() as usize;
         let top = (bottom + STACK) & !15;
@@ -51,6 +54,25 @@ unsafe fn call_on(top: usize, function: Proved, sheet: &[u8], marks: &mut [u8]) 
         out("rax") _,
         clobber_abi("C"),
     );
+}
+
+/// The most stack that each of the named functions takes over the sheets.
+pub fn taken(functions: &[(&str, Proved)], sheets: &[(Vec<u8>, usize)], bars: &mut Bars) {
+    let mut painted = PaintedStack::new();
+    head("Stack", &["function", "calls", "most bytes", "bar", "met"]);
+    for &(name, function) in functions {
+        let depths = sheets
+            .iter()
+            .map(|(sheet, room)| painted.depth(function, sheet, *room));
+        let most = depths.max().unwrap_or_default();
+        row(&[
+            name.into(),
+            sheets.len().to_string(),
+            most.to_string(),
+            format!("{BAR}"),
+            bars.hold(name, most as f64, BAR).into(),
+        ]);
+    }
 }
 
 /// Sheets of all kinds, each with a room: answered in full and in part, without answers, with too

@@ -3,7 +3,7 @@
 use crate::chains;
 use crate::machines::{longest, separated, separated_by, LONGEST_WORD};
 use checker::building::build;
-use checker::known::house;
+use checker::known::{house, twin};
 use checker::machine::{Machine, LONGEST_SEQUENCE};
 use checker::random::Random;
 use checker::sheet::sheet_of;
@@ -84,6 +84,11 @@ pub fn built(random: &mut Random) -> Vec<Workload> {
     let name = "built, longest of all".into();
     workloads.push(Workload::built(name, &longest(), &LONGEST_WORD));
     workloads
+}
+
+/// The twin's built sequence, the shortest of all sequences here.
+pub fn twin_workload() -> Workload {
+    Workload::built("twin, built".into(), &twin(), &[0])
 }
 
 /// The house unit's built sequence, once and repeated.
