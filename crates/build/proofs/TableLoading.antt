@@ -18,14 +18,14 @@ use Rattle.build.specs.Building.Connection.{connected-causes-are}
 module _ (s : List ℕ) {l : Loaded} (h : LoadedBy (loadCauses buildNeeds s) s l) where
   -- one of the causes of loading
   pub early-connected : {a b : ℕ} → l .check ≡ Refused a b
-      → LoadedBy (connectedCauses s) s (record { check = l .check; machine = l .machine })
+      → LoadedBy (connectedCauses s) s l
   early-connected e =
       loaded-more _ _ s h (cause8 (machineIn s) (wordIn s)) (connected-causes-are s) (stops-at _ _ refl refl e)
 
   -- none of them: cause 8 decides
   pub eight-connected : l .check ≡ Clear → {w : List ℕ} → w ≡ wordIn s → {c : Check}
       → c ≡ cause8 (meaning (l .machine)) w
-      → LoadedBy (connectedCauses s) s (record { check = c; machine = l .machine })
+      → LoadedBy (connectedCauses s) s (record { check = c; machine = l .machine; records = l .records })
   eight-connected clear we ce =
       loaded-more _ _ s h (cause8 (machineIn s) (wordIn s)) (connected-causes-are s)
       (ce ∙ ap₂ cause8 (h .machine clear) we ∙ goes-on _ _ refl refl clear)

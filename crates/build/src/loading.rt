@@ -13,8 +13,7 @@ use machine::Loaded;
 use machine::load_sheet;
 use sheet::Check;
 use sheet::Needs;
-use sheet::WORD_KIND;
-use sheet::read;
+use sheet::payload;
 
 // Loads a sheet, and fills the table of transfers unless the sheet is refused.
 pub fn load_table(sheet: &[u8], rows: &mut [u8]) -> Loaded
@@ -32,18 +31,21 @@ pub fn load_table(sheet: &[u8], rows: &mut [u8]) -> Loaded
     };
     let loaded = load_sheet(sheet, needs);
     let earlier = loaded.check;
-    let machine = loaded.machine;
     if let Check::Refused {
         number: _,
         place: _,
     } = earlier {
-        return Loaded {
-            check: earlier,
-            machine,
-        };
+        return loaded;
     }
-    let check = connect(machine, read(sheet, WORD_KIND), rows);
-    Loaded { check, machine }
+    let machine = loaded.machine;
+    let records = loaded.records;
+    let found = records.word;
+    let check = connect(machine, payload(sheet, found), rows);
+    Loaded {
+        check,
+        machine,
+        records,
+    }
 }
 
 // Loads a sheet for a service that needs a separating word and transfers.

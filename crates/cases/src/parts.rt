@@ -26,7 +26,7 @@ pub struct Filled {
 // The length for a record's header, where one is given.
 struct Length {
     given: bool,
-    value: usize,
+    value: u32,
     cursor: Cursor,
 }
 
@@ -39,14 +39,18 @@ fn left(parts: &[u8], used: usize) -> usize {
     }
 }
 
-// The same as the limit of a number, which has 32 bits.
-pub(crate) fn limit(parts: &[u8], used: usize) -> u32 {
-    let bytes = left(parts, used);
+// A number of bytes in 32 bits; the largest such number where there are more.
+fn narrow(bytes: usize) -> u32 {
     if bytes < LENGTH as usize {
         bytes as u32
     } else {
         LENGTH
     }
+}
+
+// How many are left, as the limit of a number that is read.
+pub(crate) fn limit(parts: &[u8], used: usize) -> u32 {
+    narrow(left(parts, used))
 }
 
 // Puts a byte many times where all of them fit, else not at all; gives how many bytes are used then.
@@ -108,7 +112,7 @@ fn read_length(line: &[u8], c: Cursor) -> Length {
         let cursor = n.cursor;
         Length {
             given: true,
-            value: n.value as usize,
+            value: n.value,
             cursor,
         }
     } else {
@@ -152,7 +156,7 @@ fn header(kind: Decimal, length: Length, from: usize, end: usize) -> [u8; HEADER
     } else if end < from {
         header_of(number, 0)
     } else {
-        header_of(number, end - from)
+        header_of(number, narrow(end - from))
     }
 }
 

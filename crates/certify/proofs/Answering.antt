@@ -99,12 +99,11 @@ certifies-refused s before ce e =
     certifies s before (sym (certification-refused (length before) s (sym ce ∙ e)))
     (sym (after-refused s before (sym ce ∙ e)))
 
-pub certifies-clear : (s before : List ℕ) {c : Check} {M : Mealy} {w xs after ms : List ℕ} {a : Answer}
-    → c ≡ firstCause (certifyCauses (length before) s) → c ≡ Clear → M ≡ machineIn s → w ≡ wordIn s
+pub certifies-clear : (s before : List ℕ) {M : Mealy} {w xs after ms : List ℕ} {a : Answer}
+    → firstCause (certifyCauses (length before) s) ≡ Clear → M ≡ machineIn s → w ≡ wordIn s
     → xs ≡ sequenceIn s → a ≡ outcome M w xs → ms ≡ marks M w xs → after ≡ ms ++ drop (length xs + 1) before
     → Certifies s before after a
-certifies-clear s before {c} {M} {w} {xs} ce e me we xe ae mse afe =
-    let clear = sym ce ∙ e in
+certifies-clear s before {M} {w} {xs} clear me we xe ae mse afe =
     certifies s before (ae ∙ (rw (me, we, xe) (sym (certification-clear (length before) s clear))))
     (afe
     ∙ ap₂ (λ (l : List ℕ) (n : ℕ). l ++ drop n before) mse (sym (marks-length M w xs))

@@ -16,10 +16,12 @@ use Rattle.sheet.specs.declared.check.Values.{Values}
 use Rattle.sheet.specs.declared.reader.Needs.{Needs}
 use Rattle.sheet.specs.Check.{refusal_with_if_, _else_, firstCause, first, refusedOr, unlessRefused}
 use Rattle.sheet.specs.Values.{refusalValues, Returns}
-use Rattle.sheet.specs.Reader.{wordIn, sequenceIn}
+use Rattle.sheet.specs.Format.{standard}
+use Rattle.sheet.specs.Reader.{wordIn, sequenceIn, recordsIn}
 use Rattle.sheet.specs.Writing.{written}
 use Rattle.sheet.specs.Promise.{cause9}
-use Rattle.machine.specs.Machine.{Mealy, stateAt}
+use Rattle.machine.specs.declared.loading.Loaded.{Loaded}
+use Rattle.machine.specs.Machine.{Mealy, stateAt, meaning}
 use Rattle.machine.specs.Causes.{machineIn, loadCauses}
 use Rattle.certify.specs.declared.answer.Answer.{Answer}
 use Rattle.certify.specs.declared.answer.Answer.the-variants.{Certified as CertifiedAnswer, Open}
@@ -127,6 +129,12 @@ pub record Says (room : ℕ) (s : List ℕ) (a : Answer) : Type 0 where
   pub certified : (n : ℕ) → (a ≡ CertifiedAnswer n) ↔ CertifiedWith room s n
   pub opened : (n v : ℕ) → (a ≡ Open n v) ↔ OpenWith room s n v
   pub refused : (n p : ℕ) → (a ≡ RefusedAnswer n p) ↔ (firstCause (certifyCauses room s) ≡ Refused n p)
+
+-- a sheet that was loaded, with its machine and its records, where certifying into this room refuses nothing
+pub record Certifiable (s : List ℕ) (room : ℕ) (l : Loaded) : Type 0 where
+  pub clear : firstCause (certifyCauses room s) ≡ Clear
+  pub machine : meaning (l .machine) ≡ machineIn s
+  pub records : l .records ≡ recordsIn standard s
 
 -- what certifying a sheet promises (§4.4): the specified answer with its number and values, and what it says; every
 -- byte of the lent buffer, and what these are: the marks with later bytes unchanged or, on a refusal, those before

@@ -13,3 +13,4 @@ pub use answer::Answer;
 pub use answer::values_of;
 pub use loading::load_sequence;
 pub use service::certify;
+pub use service::certify_loaded;

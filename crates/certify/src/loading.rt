@@ -5,9 +5,8 @@ ghost use Rattle.certify.specs.Certification.{markingCauses};
 use machine::Loaded;
 use machine::load_sheet;
 use sheet::Needs;
-use sheet::SEQUENCE_KIND;
 use sheet::first_of;
-use sheet::read;
+use sheet::payload;
 use sheet::room_check;
 
 // Loads a sheet for a service that needs machine, word and sequence, a room for the sequence's marks,
@@ -22,10 +21,16 @@ pub fn load_sequence(sheet: &[u8], answers: bool, room: usize) -> Loaded
     };
     let loaded = load_sheet(sheet, needs);
     let machine = loaded.machine;
+    let records = loaded.records;
     let earlier = loaded.check;
-    let xs = read(sheet, SEQUENCE_KIND);
+    let found = records.sequence;
+    let xs = payload(sheet, found);
     let bytes = xs.len() + 1;
     let nine = room_check(room, bytes);
     let check = first_of(earlier, nine);
-    Loaded { check, machine }
+    Loaded {
+        check,
+        machine,
+        records,
+    }
 }

@@ -5,7 +5,7 @@ ghost use lib.ListN.{length};
 ghost use Rattle.machine.specs.Limits.{mostSequence};
 ghost use Rattle.machine.specs.Machine.{meaning, Proper, Commands};
 ghost use Rattle.certify.specs.Marks.{marks as marksOf};
-ghost use Rattle.certify.specs.Certification.{outcome, Certifies};
+ghost use Rattle.certify.specs.Certification.{outcome, Certifiable, Certifies};
 use crate::answer::Answer;
 use crate::answer::answer_of;
 use crate::closure::close;
@@ -13,11 +13,10 @@ use crate::loading::load_sequence;
 use crate::tally::count;
 use crate::tally::open_check;
 use crate::word::mark_words;
+use machine::Loaded;
 use machine::Machine;
 use sheet::Check;
-use sheet::SEQUENCE_KIND;
-use sheet::WORD_KIND;
-use sheet::read;
+use sheet::payload;
 
 // Marks the recognised places of a sequence, and answers.
 fn recognise(m: Machine, w: &[u8], xs: &[u8], marks: &mut [u8]) -> Answer
@@ -35,6 +34,21 @@ fn recognise(m: Machine, w: &[u8], xs: &[u8], marks: &mut [u8]) -> Answer
     answer_of(check, recognised)
 }
 
+// Certifies the sequence of a sheet that was loaded for it, where nothing is refused.
+pub fn certify_loaded(sheet: &[u8], loaded: Loaded, marks: &mut [u8]) -> Answer
+    requires { ⌜ Certifiable (now sheet) (length (now marks)) loaded ⌝ }
+    ensures { λ r. ⌜ Certifies (now (sheet .entry)) (now (marks .entry)) (now (marks .exit)) r ⌝ }
+{
+    let m = loaded.machine;
+    let records = loaded.records;
+    let word = records.word;
+    let sequence = records.sequence;
+    let w = payload(sheet, word);
+    let xs = payload(sheet, sequence);
+    let end = xs.len() + 1;
+    recognise(m, w, xs, &mut marks[..end])
+}
+
 // Certifies the sequence of a sheet and writes its marks into the lent buffer. A refusal writes
 // nothing; bytes behind the marks stay as they were.
 pub fn certify(sheet: &[u8], marks: &mut [u8]) -> Answer
@@ -42,13 +56,9 @@ pub fn certify(sheet: &[u8], marks: &mut [u8]) -> Answer
 {
     let answers = false;
     let loaded = load_sequence(sheet, answers, marks.len());
-    let m = loaded.machine;
     let check = loaded.check;
     if let Check::Refused { number, place } = check {
         return Answer::Refused { number, place };
     }
-    let w = read(sheet, WORD_KIND);
-    let xs = read(sheet, SEQUENCE_KIND);
-    let end = xs.len() + 1;
-    recognise(m, w, xs, &mut marks[..end])
+    certify_loaded(sheet, loaded, marks)
 }

@@ -5,10 +5,9 @@ use crate::desk::Phase;
 use build::load_connected;
 use machine::Machine;
 use sheet::Check;
-use sheet::WORD_KIND;
 use sheet::byte;
+use sheet::payload;
 use sheet::put;
-use sheet::read;
 
 // The first command, or refused with number and place.
 pub enum First {
@@ -29,13 +28,16 @@ pub fn start(sheet: &[u8]) -> Started
     let loaded = load_connected(sheet);
     let check = loaded.check;
     let machine = loaded.machine;
+    let records = loaded.records;
+    let found = records.word;
     let mut word = [0u8; Machine::WORD];
-    let size = put(read(sheet, WORD_KIND), 0, &mut word);
+    let end = put(payload(sheet, found), 0, &mut word);
+    let size = end as u8;
     let command = byte(&word, 0);
     let desk = Desk {
         machine,
         word,
-        size: size as u8,
+        size,
         heard: [0u8; Machine::WORD],
         count: 0,
         sent: command,

@@ -3,14 +3,12 @@ ghost use Rattle.judge.specs.Judging.{Judges, Identity};
 use crate::answer::Answer;
 use crate::comparison::compare;
 use certify::Answer as Certification;
-use certify::certify;
+use certify::certify_loaded;
 use certify::load_sequence;
-use sheet::ANSWERS_KIND;
 use sheet::Check;
-use sheet::SEQUENCE_KIND;
 use sheet::first_of;
-use sheet::read;
-use sheet::record_of;
+use sheet::payload;
+use sheet::record_or;
 use sheet::refuse;
 
 // Judges the answers of a sheet to its sequence and writes the marks of certifying into the lent
@@ -22,15 +20,18 @@ pub fn judge(sheet: &[u8], marks: &mut [u8]) -> Answer
     let answers = true;
     let loaded = load_sequence(sheet, answers, marks.len());
     let earlier = loaded.check;
-    let r = record_of(sheet, ANSWERS_KIND);
-    let xs = read(sheet, SEQUENCE_KIND);
-    let ys = read(sheet, ANSWERS_KIND);
-    let ten = refuse(10, r.start, xs.len() < ys.len());
+    let records = loaded.records;
+    let sequence = records.sequence;
+    let given = records.answers;
+    let r = record_or(given);
+    let xs = payload(sheet, sequence);
+    let ys = payload(sheet, given);
+    let ten = refuse(10, r.start as usize, xs.len() < ys.len());
     let check = first_of(earlier, ten);
     if let Check::Refused { number, place } = check {
         return Answer::Refused { number, place };
     }
-    let certified = certify(sheet, marks);
+    let certified = certify_loaded(sheet, loaded, marks);
     match certified {
         Certification::Certified { recognised: _ } => compare(loaded.machine, xs, ys),
         Certification::Open {

@@ -7,12 +7,14 @@ use mathlib.Core.List.{List}
 use lib.ListN.{length, getD}
 use Rattle.sheet.specs.declared.check.Check.{Check}
 use Rattle.sheet.specs.declared.check.Check.the-variants.{Clear}
+use Rattle.sheet.specs.declared.record.Record.{Record}
+use Rattle.sheet.specs.declared.record.Found.{Found}
 use Rattle.sheet.specs.declared.reader.Needs.{Needs}
 use Rattle.sheet.specs.Check.{refusal_with_if_, _else_, firstCause, first}
 use Rattle.sheet.specs.Check.Laws.{cause-none}
 use Rattle.sheet.specs.Format.{header, standard}
-use Rattle.sheet.specs.Reader.{when, needed}
-use Rattle.sheet.specs.Reader.Laws.{sheet-short}
+use Rattle.sheet.specs.Reader.{when, foundIn, recordsIn, recordOr, recordOf}
+use Rattle.sheet.specs.Reader.Laws.{record-is}
 use Rattle.facts.specs.Bytes.{Bytes}
 use Rattle.machine.specs.declared.machine.Machine.{Machine}
 use Rattle.machine.specs.Machine.{Mealy, noAnswer, meaning}
@@ -20,13 +22,13 @@ use Rattle.machine.specs.Machine.Laws.{meaning-commands}
 use Rattle.machine.specs.Causes.{outside, cause3, byteCause, commandsCause, held, tableCauses, machineCauses}
 use Rattle.machine.specs.Causes.{loadCauses}
 use Rattle.machine.specs.Causes.Laws.{cause4-is, cause12-is, commands-cause-is, table-causes-are}
-use Rattle.machine.specs.Causes.Lists.{clear-sheet, clear-machine, held-is}
+use Rattle.machine.specs.Causes.Lists.{clear-machine, held-is}
 use Rattle.machine.specs.declared.loading.Loaded.{Loaded}
 use Rattle.machine.specs.Loading.{LoadedBy, NeededRequires}
 
 -- ---- a payload
 -- causes 5 and 7
-pub commands-are : (number most k at : ℕ) (w : List ℕ) {o : Bool} {a b c : Check} → o ≡ outside 1 most (length w)
+pub commands-are : (number most k at : ℕ) (w : List ℕ) {o : Bool} {a b c : Check} → o ≡ outside most (length w)
     → a ≡ (refusal number with at if o) → b ≡ first (length w) (byteCause number (at + header) w 0 1 k)
     → c ≡ (a else b) → c ≡ commandsCause number most k at w
 commands-are number most k at w oe ae be ce =
@@ -71,14 +73,20 @@ needed-made causes t me ae we ce = ce ∙ (rw (me, ae, we, t) refl)
 
 -- what the checks of word and sequence need
 pub needed-required : (n : Needs) (s : List ℕ) → firstCause (machineCauses n s) ≡ Clear → {M : Mealy} → M ≡ held s
-    → NeededRequires s M
-needed-required n s e me = record {
-  short = sheet-short standard (needed standard n) s (clear-sheet n s e);
-  machine = me ∙ held-is n s e;
-}
+    → (ks : List ℕ) {f : Found} → f ≡ foundIn standard ks s → NeededRequires s M ks f
+needed-required n s e me ks fe = record { machine = me ∙ held-is n s e; found = fe }
+
+-- where the record of a role starts
+pub start-is : (ks s : List ℕ) {f : Found} → f ≡ foundIn standard ks s → {r : Record} → r ≡ recordOr f
+    → r .start ≡ recordOf standard ks s .start
+start-is ks s e h = ap (λ (r : Record). r .start) (h ∙ record-is standard ks s e)
 
 -- all that loading promises
 pub loaded-by : (n : Needs) (s : List ℕ) (l : Loaded) → l .check ≡ firstCause (loadCauses n s)
-    → meaning (l .machine) ≡ held s → LoadedBy (loadCauses n s) s l
-loaded-by n s l ce he =
-    record { check = ce; machine = λ e. he ∙ held-is n s (clear-machine n s (sym ce ∙ e)); holds = he }
+    → meaning (l .machine) ≡ held s → l .records ≡ recordsIn standard s → LoadedBy (loadCauses n s) s l
+loaded-by n s l ce he re = record {
+  check = ce;
+  machine = λ e. he ∙ held-is n s (clear-machine n s (sym ce ∙ e));
+  holds = he;
+  records = re;
+}

@@ -14,16 +14,16 @@ use Rattle.sheet.specs.Check.{refusal_with_if_, _else_, first}
 use Rattle.sheet.specs.Format.{offset, standard, Format}
 use Rattle.sheet.specs.Reader.{sheetCauses, when, needed, machinePayload, wordIn, sequenceIn, machineRecord}
 use Rattle.sheet.specs.Reader.{wordRecord, sequenceRecord}
-use Rattle.machine.specs.Limits.{mostStates, mostCommands, mostMachine, mostWord, mostSequence}
+use Rattle.machine.specs.Limits.{least, mostStates, mostCommands, mostMachine, mostWord, mostSequence}
 use Rattle.machine.specs.Machine.{Mealy, noAnswer, pairAt, machineOf, tabled, answers}
 pub mod Laws
 pub mod Lists
 pub mod Bounds
 pub mod Separation
 
--- whether x is below the least or above the most
-abbrev pub outside : ℕ → ℕ → ℕ → Bool
-outside least most x = ltb x least || ltb most x
+-- whether x is outside its limits (§2.2): below the least or above the most
+abbrev pub outside : ℕ → ℕ → Bool
+outside most x = ltb x least || ltb most x
 
 -- machine shape (§4.2), at the start of the record: n or k is outside its limits, or the payload's length is wrong
 unfoldable pub cause3 : Format → ℕ → List ℕ → Check
@@ -31,7 +31,7 @@ cause3 F at p =
     let n = getD p 0 0 in
     let k = getD p 1 0 in
     refusal 3 with at
-    if (outside 1 mostStates n || outside 1 mostCommands k || not (eqb (length p) (F .table + 2 * (n * k))))
+    if (outside mostStates n || outside mostCommands k || not (eqb (length p) (F .table + 2 * (n * k))))
 
 -- next state (§4.2), at its offset: the first byte for a next state that is not below n
 unfoldable pub cause4 : Format → ℕ → List ℕ → Check
@@ -57,7 +57,7 @@ byteCause number base p from stride bound i =
 -- the first command that is not below k
 unfoldable pub commandsCause : ℕ → ℕ → ℕ → ℕ → List ℕ → Check
 commandsCause number most k at w =
-    (refusal number with at if outside 1 most (length w))
+    (refusal number with at if outside most (length w))
     else first (length w) (λ i. refusal number with offset at i if leb k (getD w i 0))
 
 -- cause 5, word (§4.2)

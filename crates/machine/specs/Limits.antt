@@ -1,10 +1,14 @@
--- The upper limits of §2.2; the lower one is 1 for each, in `Proper`, `Commands` and the causes. The code names them
--- once, as constants of the type Machine, and `Machine::limits` shows that both are the same.
+-- The limits of §2.2. The code names them once, as constants of the type Machine, and `Machine::limits` shows that both
+-- are the same.
 use Prim.Native.Nat.{ℕ, _+_, _*_, _≤_}
 use mathlib.Core.Path.{_≡_, refl}
 use native.Mathlib.Nat.{mul-le-mul}
 use Rattle.sheet.specs.Format.{Format, standard, longest, header}
 use Rattle.machine.specs.declared.machine.Limits.{Limits}
+
+-- the least of each: states, commands, commands of a word and of a sequence
+abbrev pub least : ℕ
+least = 1
 
 -- the most states, n
 abbrev pub mostStates : ℕ
@@ -30,9 +34,15 @@ mostEntries = mostStates * mostCommands
 abbrev pub mostMachine : Format → ℕ
 mostMachine F = F .table + 2 * mostEntries
 
--- the four limits as one value, for the contract of `Machine::limits`
+-- the limits as one value, for the contract of `Machine::limits`
 abbrev pub limits : Limits
-limits = record { states = mostStates; commands = mostCommands; word = mostWord; sequence = mostSequence }
+limits = record {
+  least = least;
+  states = mostStates;
+  commands = mostCommands;
+  word = mostWord;
+  sequence = mostSequence;
+}
 
 -- the longest sheet is that of the largest machine, word, sequence and answers (§2.1)
 pub longest-is : longest

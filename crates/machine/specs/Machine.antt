@@ -6,7 +6,7 @@ use mathlib.Core.List.{List, [], _∷_}
 use lib.ListN.{length, getD, take}
 use Rattle.facts.specs.Lists.{Below}
 use Rattle.sheet.specs.Format.{Format}
-use Rattle.machine.specs.Limits.{mostStates, mostCommands, mostWord}
+use Rattle.machine.specs.Limits.{least, mostStates, mostCommands, mostWord}
 use Rattle.machine.specs.declared.machine.Machine.{Machine}
 pub mod Laws
 
@@ -74,9 +74,9 @@ Separates M w = (i j : ℕ) → i < M .n → j < M .n → answers M i w ≡ answ
 
 -- a machine within the limits (§2.2), whose start and next states are states
 pub record Proper (M : Mealy) : Type 0 where
-  pub some-states : 1 ≤ M .n
+  pub some-states : least ≤ M .n
   pub few-states : M .n ≤ mostStates
-  pub some-commands : 1 ≤ M .k
+  pub some-commands : least ≤ M .k
   pub few-commands : M .k ≤ mostCommands
   pub starts : M .start < M .n
   pub stays : (s c : ℕ) → s < M .n → c < M .k → M .next s c < M .n
@@ -85,9 +85,9 @@ pub record Proper (M : Mealy) : Type 0 where
 abbrev pub AlwaysAnswers : Mealy → Type 0
 AlwaysAnswers M = (s c : ℕ) → s < M .n → c < M .k → M .answer s c ≡ noAnswer → ⊥
 
--- a word or a sequence within its limits (§2.2): 1 to most commands, each below k
+-- a word or a sequence within its limits (§2.2): least to most commands, each below k
 pub record Commands (most k : ℕ) (w : List ℕ) : Type 0 where
-  pub some : 1 ≤ length w
+  pub some : least ≤ length w
   pub few : length w ≤ most
   pub low : Below k w
 

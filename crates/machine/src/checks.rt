@@ -18,10 +18,11 @@ use sheet::byte;
 use sheet::first_of;
 use sheet::refuse;
 
-fn outside(least: usize, most: usize, x: usize) -> bool
-    ensures { λ r. ⌜ r ≡ outsideOf least most x ⌝ }
+// Whether a number is outside its limits.
+fn outside(most: usize, x: usize) -> bool
+    ensures { λ r. ⌜ r ≡ outsideOf most x ⌝ }
 {
-    (x < least) | (most < x)
+    (x < Machine::LEAST) | (most < x)
 }
 
 // The first of count bytes of a part, at from and then every stride, that is bound or more. The
@@ -59,8 +60,8 @@ fn shape(at: u32, p: &[u8]) -> Check
 {
     let n = byte(p, 0) as usize;
     let k = byte(p, 1) as usize;
-    let states = outside(1, Machine::STATES, n);
-    let commands = outside(1, Machine::COMMANDS, k);
+    let states = outside(Machine::STATES, n);
+    let commands = outside(Machine::COMMANDS, k);
     refuse(
         3,
         at as usize,
@@ -95,7 +96,7 @@ fn commands(number: u8, most: usize, k: u8, at: u32, w: &[u8]) -> Check
     ensures { λ c. ⌜ c ≡ commandsCause number most k at (now (w .entry)) ⌝ }
 {
     let start = at as usize;
-    let length = refuse(number, start, outside(1, most, w.len()));
+    let length = refuse(number, start, outside(most, w.len()));
     let high = scan(number, start + HEADER, w, 0, 1, w.len(), k);
     first_of(length, high)
 }

@@ -22,6 +22,7 @@ pub struct Machine {
 
 // The limits as values.
 pub struct Limits {
+    pub least: usize,
     pub states: usize,
     pub commands: usize,
     pub word: usize,
@@ -29,7 +30,10 @@ pub struct Limits {
 }
 
 impl Machine {
-    // The most states, commands, commands in a word and commands in a sequence.
+    // The least of each: states, commands, commands in a word and commands in a sequence.
+    pub const LEAST: usize = 1;
+
+    // The most of each.
     pub const STATES: usize = 10;
 
     pub const COMMANDS: usize = 8;
@@ -72,6 +76,7 @@ impl Machine {
         ensures { λ r. ⌜ r ≡ theLimits ⌝ }
     {
         Limits {
+            least: Machine::LEAST,
             states: Machine::STATES,
             commands: Machine::COMMANDS,
             word: Machine::WORD,

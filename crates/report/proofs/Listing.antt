@@ -8,6 +8,9 @@ use native.Mathlib.Numerals.{add-one}
 use lib.ListN.{length, getD, take, length-take}
 use lib.Seq.{take-suc, take-all, take-append-seam}
 use Rattle.facts.specs.Decimal.{bytes}
+use Rattle.sheet.specs.declared.record.Found.{Found as FoundRecord}
+use Rattle.sheet.specs.Format.{standard}
+use Rattle.sheet.specs.Reader.{foundIn}
 use Rattle.machine.specs.Causes.Lists.{payload-short, clear-machine}
 use Rattle.word.specs.declared.answer.Answer.{Answer}
 use Rattle.word.specs.declared.answer.Answer.the-variants.{Found, Nothing, Refused as RefusedAnswer}
@@ -109,10 +112,10 @@ output-of s (missing c h a o) =
     searched-clear s c ∙ ap (foundOutput s) o ∙ sym (ap (outputOf s (wordBeside s)) a)
 
 -- what a found word shows of the sheet and of the array
-pub record HoldsFound (s word : List ℕ) (n : ℕ) : Type 0 where
+pub record HoldsFound (s : List ℕ) (f : FoundRecord) (word : List ℕ) (n : ℕ) : Type 0 where
   pub inside : n ≤ length word
   pub sized : n ≡ length (take n word)
-  pub required : WordRequires s (take n word)
+  pub required : WordRequires s f (take n word)
 
 module _ (s : List ℕ) {r : Searched} (h : Searches s r) where
   pub searched-output : {a : Answer} → r .answer ≡ a → searched s ≡ outputOf s (r .word) a
@@ -120,8 +123,9 @@ module _ (s : List ℕ) {r : Searched} (h : Searches s r) where
       output-of s (searching-outcome s)
       ∙ ap₂ (outputOf s) (sym (h .word)) (sym (h .answer .is) ∙ e)
 
-  pub found-holds : {n : ℕ} → r .answer ≡ Found n → HoldsFound s (r .word) n
-  found-holds {n} e =
+  pub found-holds : {n : ℕ} {f : FoundRecord} → r .answer ≡ Found n → f ≡ foundIn standard (standard .machine) s
+      → HoldsFound s f (r .word) n
+  found-holds {n} {f} e is =
       let a = found-answered s (sym (h .answer .is) ∙ e) in
       let sized : n ≡ length (take n (r .word)) =
       sym (a .long) ∙ ap length (sym (ap (take n) (h .word) ∙ a .beside)) in
@@ -130,6 +134,7 @@ module _ (s : List ℕ) {r : Searched} (h : Searches s r) where
         inside = omega (arith, sized, length-take n (r .word));
         sized = sized;
         required = record {
+          found = is;
           machine = payload-short searchNeeds s (clear-machine searchNeeds s (a .clear));
           few = omega (arith, sized, few);
         };

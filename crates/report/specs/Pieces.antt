@@ -1,9 +1,11 @@
 -- What the program's functions that put a line or a sheet together promise each other.
 use Prim.Native.Nat.{ℕ, _+_, _≤_}
+use mathlib.Core.Path.{_≡_}
 use mathlib.Core.List.{List}
 use lib.ListN.{length}
 use Rattle.sheet.specs.Format.{standard}
-use Rattle.sheet.specs.Reader.{machinePayload}
+use Rattle.sheet.specs.declared.record.Found.{Found}
+use Rattle.sheet.specs.Reader.{foundIn, machinePayload}
 use Rattle.sheet.specs.Writing.{Puts}
 use Rattle.machine.specs.Limits.{mostMachine}
 use Rattle.word.specs.Search.{mostSought}
@@ -18,8 +20,9 @@ Prints xs before after size = Puts before 0 xs after size
 abbrev pub listRoom : ℕ
 listRoom = mostDigits + 1
 
--- what writing a word into a sheet needs: the machine's payload and the word are no longer than they can be, so that
--- all of it has room
-pub record WordRequires (s w : List ℕ) : Type 0 where
+-- what writing a word into a sheet needs: the record is that of the sheet's machine, and the machine's payload and the
+-- word are no longer than they can be, so that all of it has room
+pub record WordRequires (s : List ℕ) (f : Found) (w : List ℕ) : Type 0 where
+  pub found : f ≡ foundIn standard (standard .machine) s
   pub machine : length (machinePayload s) ≤ mostMachine standard
   pub few : length w ≤ mostSought

@@ -3,13 +3,15 @@ ghost use Prim.Native.Nat.{_+_, _*_, _≤_};
 ghost use mathlib.Core.List.{_++_};
 ghost use lib.ListN.{length};
 ghost use Rattle.facts.specs.Decimal.{decimal};
-ghost use Rattle.sheet.specs.Format.{header};
+ghost use Rattle.sheet.specs.Format.{standard, longest, header, newKind};
 ghost use Rattle.sheet.specs.Writing.{recordBytes, Puts};
 ghost use Rattle.report.specs.Digits.{mostDigits};
 ghost use Rattle.report.specs.Phrases.{longestPhrase, phrase};
 ghost use Rattle.report.specs.Lines.{labelled, spaced, listed};
 ghost use Rattle.report.specs.Pieces.{listRoom};
 use crate::phrases::phrase_of;
+use sheet::Role;
+use sheet::new_kind;
 
 // The most digits of a 64-bit number.
 const DIGITS: usize = 20;
@@ -94,10 +96,21 @@ pub fn put_phrase(number: u8, at: usize, out: &mut [u8]) -> usize
     put(&bytes[..size], next, out)
 }
 
-// A record: its header, then its payload.
+// A record: its header, then its payload, which is no longer than a sheet.
 pub fn put_record(kind: u16, payload: &[u8], at: usize, out: &mut [u8]) -> usize
+    requires { ⌜ length (now payload) ≤ longest ⌝ }
     requires { ⌜ at + header + length (now payload) ≤ length (now out) ⌝ }
     ensures { λ r. ⌜ Puts (now (out .entry)) at (recordBytes kind (now (payload .entry))) (now (out .exit)) r ⌝ }
 {
     sheet::put_record(kind, payload, at, out)
+}
+
+// A new record of a role likewise.
+pub fn put_role(role: Role, payload: &[u8], at: usize, out: &mut [u8]) -> usize
+    requires { ⌜ length (now payload) ≤ longest ⌝ }
+    requires { ⌜ at + header + length (now payload) ≤ length (now out) ⌝ }
+    ensures { λ r. ⌜
+        Puts (now (out .entry)) at (recordBytes (newKind standard role) (now (payload .entry))) (now (out .exit)) r ⌝ }
+{
+    put_record(new_kind(role), payload, at, out)
 }

@@ -25,18 +25,19 @@ use crate::output::Written;
 use crate::pieces::put;
 use crate::pieces::put_list;
 use crate::pieces::put_record;
-use build::build;
+use crate::pieces::put_role;
+use build::build_with_records;
 use machine::HOUSE_WORD;
 use machine::Machine;
 use machine::house_payload;
 use sheet::Answer;
-use sheet::MACHINE_KIND;
-use sheet::SEQUENCE_KIND;
-use sheet::WORD_KIND;
-use sheet::read;
-use sheet::record_of;
+use sheet::Found;
+use sheet::Role;
+use sheet::new_kind;
+use sheet::payload;
+use sheet::record_or;
 use word::Answer as Search;
-use word::find_word;
+use word::find_word_with_records;
 use writer::Wanted;
 use writer::add_answers;
 use writer::write;
@@ -47,7 +48,8 @@ pub const PART: usize = Machine::SEQUENCE + 1;
 
 // Puts the records of a machine and a word to the start; gives the place behind them.
 fn put_two(kind: u16, machine: &[u8], word: &[u8], out: &mut [u8]) -> usize
-    requires { ⌜ header + length (now machine) + header + length (now word) ≤ length (now out) ⌝ }
+    requires { ⌜ header + length (now machine) + header + length (now word) ≤ longest ⌝ }
+    requires { ⌜ longest ≤ length (now out) ⌝ }
     ensures { λ r. ⌜
         Puts (now (out .entry)) 0
         (joined ((kind, now (machine .entry)) ∷ fresh (standard .word) (now (word .entry)) ∷ []))
@@ -55,17 +57,17 @@ fn put_two(kind: u16, machine: &[u8], word: &[u8], out: &mut [u8]) -> usize
     ensures { λ r. ⌜ r ≡ header + length (now (machine .entry)) + header + length (now (word .entry)) ⌝ }
 {
     let next = put_record(kind, machine, 0, out);
-    put_record(WORD_KIND, word, next, out)
+    put_role(Role::Word, word, next, out)
 }
 
-// A sheet's machine with a word and, behind them, the word's line for standard error.
-fn with_word(sheet: &[u8], w: &[u8], out: &mut [u8; OUTPUT]) -> Written
-    requires { ⌜ WordRequires (now sheet) (now w) ⌝ }
+// A sheet's machine, by its record, with a word and, behind them, the word's line for standard error.
+fn with_word(sheet: &[u8], machine: Found, w: &[u8], out: &mut [u8; OUTPUT]) -> Written
+    requires { ⌜ WordRequires (now sheet) machine (now w) ⌝ }
     ensures { λ r. ⌜
         Writes (foundOutput (now (sheet .entry)) (some (now (w .entry)))) (now (out .entry)) (now (out .exit)) r ⌝ }
 {
-    let r = record_of(sheet, MACHINE_KIND);
-    let size = put_two(r.kind, read(sheet, MACHINE_KIND), w, out);
+    let r = record_or(machine);
+    let size = put_two(r.kind, payload(sheet, machine), w, out);
     let a = put(b"WORD", size, out);
     let b = put_list(w, a, out);
     let end = put(b"\n", b, out);
@@ -84,11 +86,14 @@ fn without_word(out: &mut [u8; OUTPUT]) -> Written
 pub fn word_sheet(sheet: &[u8], out: &mut [u8; OUTPUT]) -> Written
     ensures { λ r. ⌜ Writes (searched (now (sheet .entry))) (now (out .entry)) (now (out .exit)) r ⌝ }
 {
-    let found = find_word(sheet);
-    let answer = found.answer;
-    let word = found.word;
+    let found = find_word_with_records(sheet);
+    let searched = found.searched;
+    let records = found.records;
+    let machine = records.machine;
+    let answer = searched.answer;
+    let word = searched.word;
     match answer {
-        Search::Found { length: n } => with_word(sheet, &word[..n], out),
+        Search::Found { length: n } => with_word(sheet, machine, &word[..n], out),
         Search::Nothing => without_word(out),
         Search::Refused { number, place } => refused(number, place, out),
     }
@@ -102,13 +107,17 @@ fn write_built(sheet: &[u8], out: &mut [u8]) -> Answer
         (now (out .entry)) (now (out .exit)) r ⌝ }
 {
     let mut sequence = [0u8; Machine::SEQUENCE];
-    let answer = build(sheet, &mut sequence);
+    let built = build_with_records(sheet, &mut sequence);
+    let answer = built.answer;
+    let records = built.records;
     match answer {
         Answer::Written { length: n } => {
-            let r = record_of(sheet, MACHINE_KIND);
-            let p = read(sheet, MACHINE_KIND);
-            let next = put_two(r.kind, p, read(sheet, WORD_KIND), out);
-            let size = put_record(SEQUENCE_KIND, &sequence[..n], next, out);
+            let machine = records.machine;
+            let word = records.word;
+            let r = record_or(machine);
+            let p = payload(sheet, machine);
+            let next = put_two(r.kind, p, payload(sheet, word), out);
+            let size = put_role(Role::Sequence, &sequence[..n], next, out);
             Answer::Written { length: size }
         }
         Answer::Refused { number, place } => Answer::Refused { number, place },
@@ -153,8 +162,9 @@ pub fn answers_sheet(sheet: &[u8], answers: &[u8], out: &mut [u8; OUTPUT]) -> Wr
 pub fn house_sheet(out: &mut [u8; OUTPUT]) -> Written
     ensures { λ r. ⌜ Writes houseWritten (now (out .entry)) (now (out .exit)) r ⌝ }
 {
-    let payload = house_payload();
-    let size = put_two(MACHINE_KIND, &payload, &HOUSE_WORD, out);
+    let table = house_payload();
+    let kind = new_kind(Role::Machine);
+    let size = put_two(kind, &table, &HOUSE_WORD, out);
     let answer = Answer::Written { length: size };
     to_streams(answer, out)
 }

@@ -2,13 +2,16 @@
 -- Assumes nothing.
 use Prim.Native.Nat.{ℕ, _+_, _≤_, _<_}
 use mathlib.Core.Path.{_≡_, refl, sym, ap, ap₂, _∙_}
+use mathlib.Core.Logic.{inl, inr}
 use mathlib.Core.List.{List, _++_}
 use native.Mathlib.Omega.{arith}
 use native.Mathlib.Numerals.{add-one}
 use lib.ListN.{length, getD, set, length-append}
 use lib.Seq.{paste, paste-zero, paste-suc, length-paste}
-use Rattle.sheet.specs.Writing.{headerOf, recordBytes, putAt, putEnd}
-use Rattle.sheet.specs.Writing.Laws.{put-puts, puts-put, puts-long, puts-same, puts-append}
+use Rattle.facts.specs.Numbers.{less-or-not}
+use Rattle.sheet.specs.Writing.{headerOf, recordBytes, mostPayload, recordPut, putAt, putEnd}
+use Rattle.sheet.specs.Writing.Laws.{put-not, end-not, put-puts, puts-put, puts-long, puts-same, puts-append}
+use Rattle.sheet.specs.Writing.Laws.{put-nothing, record-held, record-not-held}
 
 -- i bytes are in their places
 pub record Copying (before : List ℕ) (at : ℕ) (xs now : List ℕ) (i : ℕ) : Type 0 where
@@ -41,16 +44,28 @@ copying-done {before} {at} {xs} {now} {i} h l =
     let z : i ≡ length xs = omega (arith, h .inside) in
     h .copied ∙ ap (paste before at xs) z
 
--- ---- a header and then the payload, where both fit
-pub record-put : (before : List ℕ) (at kind : ℕ) (payload : List ℕ) {middle after h : List ℕ} {next end : ℕ}
-    → h ≡ headerOf kind (length payload) → at + length (recordBytes kind payload) ≤ length before
-    → (middle ≡ putAt before at h) × (next ≡ putEnd before at h)
-    → (after ≡ putAt middle next payload) × (end ≡ putEnd middle next payload)
-    → (after ≡ putAt before at (recordBytes kind payload)) × (end ≡ putEnd before at (recordBytes kind payload))
-record-put before at kind payload {middle} {after} {h} {next} {end} e l first second =
-    let long = length-append h payload in
-    let same : h ++ payload ≡ recordBytes kind payload = ap (λ (x : List ℕ). x ++ payload) e in
-    let one = put-puts before at h (omega (arith, ap length same)) (first .0) (first .1) in
-    let fits : next + length payload ≤ length middle = omega (arith, one .ends, puts-long h one, ap length same) in
-    let two = put-puts middle next payload fits (second .0) (second .1) in
-    puts-put (recordBytes kind payload) (puts-same same (puts-append h payload one two))
+-- ---- a header and then the payload, where both fit and the header can hold the length; else nothing
+module _ (before : List ℕ) (at kind : ℕ) (payload : List ℕ) where
+  pub record-put : length payload ≤ mostPayload → at + length (recordBytes kind payload) ≤ length before
+      → {middle after h : List ℕ} {next end : ℕ} → h ≡ headerOf kind (length payload)
+      → (middle ≡ putAt before at h) × (next ≡ putEnd before at h)
+      → (after ≡ putAt middle next payload) × (end ≡ putEnd middle next payload)
+      → (after ≡ putAt before at (recordPut kind payload)) × (end ≡ putEnd before at (recordPut kind payload))
+  record-put held l {middle} {after} {h} {next} {end} e first second =
+      let long = length-append h payload in
+      let same : h ++ payload ≡ recordBytes kind payload = ap (λ (x : List ℕ). x ++ payload) e in
+      let one = put-puts before at h (omega (arith, ap length same)) (first .0) (first .1) in
+      let fits : next + length payload ≤ length middle = omega (arith, one .ends, puts-long h one, ap length same) in
+      let two = put-puts middle next payload fits (second .0) (second .1) in
+      puts-put (recordPut kind payload)
+      (puts-same (same ∙ sym (record-held kind payload held)) (puts-append h payload one two))
+
+  pub record-not-put : (length payload ≤ mostPayload → length before < at + length (recordBytes kind payload))
+      → (before ≡ putAt before at (recordPut kind payload)) × (at ≡ putEnd before at (recordPut kind payload))
+  record-not-put over = elim (less-or-not mostPayload (length payload)) [
+    | inl l ↦ rw (record-not-held kind payload l) (put-nothing before at)
+    | inr l ↦ rw (record-held kind payload l) (
+      sym (put-not before at (recordBytes kind payload) (over l)),
+      sym (end-not before at (recordBytes kind payload) (over l)),
+    )
+  ]

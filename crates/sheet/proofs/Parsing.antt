@@ -1,91 +1,103 @@
--- What the loop of `parse` keeps at its head, and how each way through a turn keeps it.
--- Assumes nothing.
+-- The invariant of the pass over a sheet: how it starts, goes on and ends.
 use Prim.Native.Nat.{ℕ, _+_, _≤_, _<_}
-use mathlib.Core.Path.{_≡_, sym, ap, _∙_, subst₃}
+use mathlib.Core.Path.{_≡_, sym, ap, subst₂, _∙_}
 use mathlib.Core.List.{List}
 use native.Mathlib.Omega.{arith}
 use lib.ListN.{length}
 use Rattle.sheet.specs.declared.check.Check.{Check}
 use Rattle.sheet.specs.declared.check.Check.the-variants.{Clear, Refused}
-use Rattle.sheet.specs.declared.record.Found.{Found}
-use Rattle.sheet.specs.declared.record.Found.the-variants.{Missing}
 use Rattle.sheet.specs.declared.record.Record.{Record}
-use Rattle.sheet.specs.declared.record.Kind.{Kind}
-use Rattle.sheet.specs.Format.{standard, header, recordAt, kindOf, rank, rankAt, end, causeAt, Parsed, ended}
-use Rattle.sheet.specs.Format.{_before_, parse, parsed, ofKind, _or_, find}
+use Rattle.sheet.specs.declared.record.Records.{Records}
+use Rattle.sheet.specs.Format.{standard, header, recordAt, rankIn, end, causeOf, Parsed, longest}
+use Rattle.sheet.specs.Format.{parse, parsed, noRecords, oneRecord, _orEach_, recordsAmong}
 use Rattle.sheet.specs.Format.Laws.{end-is, clear-inside, parsed-is, parse-end, parse-stopped, parse-record}
-use Rattle.sheet.specs.Format.Laws.{or-missing, missing-or, or-assoc, find-none, find-cons}
+use Rattle.sheet.specs.Format.Laws.{each-none, none-each, each-assoc, among-none, among-cons}
+use Rattle.sheet.specs.Reader.{wholeCause, recordsIn}
+use Rattle.sheet.specs.Reader.Laws.{whole-short, records-clear, records-refused}
 
-pub record Head (s ks : List ℕ) (at last : ℕ) (found : Found) : Type 0 where
+-- before a turn: the parsing from here on stops as the whole one does, and the records of each role are those that are
+-- found, or else the ones from here on
+pub record Head (s : List ℕ) (at last : ℕ) (found : Records) : Type 0 where
   pub inside : at ≤ length s
   pub stop : parse standard s at last .stop ≡ parsed standard s .stop
-  pub finds : (found or find ks (parse standard s at last .records)) ≡ find ks (parsed standard s .records)
+  pub finds : (found orEach recordsAmong standard (parse standard s at last .records))
+      ≡ recordsAmong standard (parsed standard s .records)
 
--- what the parse answers
-pub record Answer (s ks : List ℕ) (c : Check) (found : Found) : Type 0 where
-  pub stop : c ≡ parsed standard s .stop
-  pub finds : found ≡ find ks (parsed standard s .records)
+-- what is promised
+abbrev Answer : List ℕ → Check → Records → Type 0
+Answer s c found = (c ≡ wholeCause standard s) × (found ≡ recordsIn standard s)
 
-pub head-start : (s ks : List ℕ) → Head s ks 0 0 Missing
-head-start s ks = record {
+pub head-start : (s : List ℕ) {found : Records} → found ≡ noRecords → Head s 0 0 found
+head-start s e = record {
   inside = omega arith;
   stop = ap (λ (w : Parsed). w .stop) (sym (parsed-is standard s));
-  finds = missing-or (find ks (parse standard s 0 0 .records))
-      ∙ ap (λ (w : Parsed). find ks (w .records)) (sym (parsed-is standard s));
+  finds = ap (λ (f : Records). f orEach recordsAmong standard (parse standard s 0 0 .records)) e
+      ∙ none-each _
+      ∙ ap (λ (w : Parsed). recordsAmong standard (w .records)) (sym (parsed-is standard s));
 }
 
-module _ {s ks : List ℕ} {at last : ℕ} {found : Found} (h : Head s ks at last found) where
-  answer : (w : Parsed) → parse standard s at last ≡ w → find ks (w .records) ≡ Missing → Answer s ks (w .stop) found
-  answer w e none = record {
-    stop = ap (λ (x : Parsed). x .stop) (sym e) ∙ h .stop;
-    finds = sym (or-missing found) ∙ (rw (← none, ← e) (h .finds));
-  }
+module _ {s : List ℕ} {at last : ℕ} {found : Records} (h : Head s at last found) (short : length s ≤ longest) where
+  -- what stops the parsing here is the cause of the whole sheet
+  whole : {w : Parsed} → parse standard s at last ≡ w → w .stop ≡ wholeCause standard s
+  whole e = ap (λ (x : Parsed). x .stop) (sym e) ∙ h .stop ∙ sym (whole-short standard s short)
 
-  pub head-end : length s ≤ at → Answer s ks Clear found
-  head-end l = answer (ended Clear) (parse-end standard s at last l) (find-none ks)
+  pub head-end : length s ≤ at → Answer s Clear found
+  head-end l =
+      let e = parse-end standard s at last l in (
+        whole e,
+        sym (each-none found)
+            ∙ ap (λ (f : Records). found orEach f)
+            (sym (among-none standard) ∙ ap (λ (x : Parsed). recordsAmong standard (x .records)) (sym e))
+            ∙ h .finds
+            ∙ sym (records-clear standard s (sym (whole e))),
+      )
 
-  pub head-stop : at < length s → {c : Check} → c ≡ causeAt standard s at last → {n p : ℕ} → c ≡ Refused n p
-      → Answer s ks c found
-  head-stop l ce {n} {p} e =
-      rw e (answer (ended (Refused n p)) (parse-stopped standard s at last n p l (sym ce ∙ e)) (find-none ks))
-
-  pub head-on : at < length s → causeAt standard s at last ≡ Clear
-      → Head s ks (end (recordAt s at)) (rankAt standard s at) (found or ofKind ks (recordAt s at))
-  head-on l e =
-      let r = recordAt s at in
-      let w = parse standard s (end r) (rankAt standard s at) in
-      let on : parse standard s at last ≡ (r before w) = parse-record standard s at last l e in
-      record {
-        inside = clear-inside standard s at last e;
-        stop = ap (λ (x : Parsed). x .stop) (sym on) ∙ h .stop;
-        finds = or-assoc found (ofKind ks r) (find ks (w .records))
-            ∙ ap (λ (f : Found). found or f)
-            (sym (find-cons ks r (w .records)) ∙ ap (λ (x : Parsed). find ks (x .records)) (sym on))
-            ∙ h .finds;
-      }
+  pub head-stop : at < length s → {r : Record} → r ≡ recordAt s at → {c : Check}
+      → c ≡ causeOf standard (length s) r last → {n p : ℕ} → c ≡ Refused n p
+      → {none : Records} → none ≡ noRecords → Answer s c none
+  head-stop l re ce {n} {p} e ne =
+      let here = ap (λ (x : Record). causeOf standard (length s) x last) (sym re) ∙ sym ce ∙ e in
+      let stop = whole (parse-stopped standard s at last n p l here) in
+      (e ∙ stop, ne ∙ sym (records-refused standard s (sym stop)))
 
 -- the values that a turn of the code computes
-pub record Turn (s ks : List ℕ) (at last : ℕ) (found : Found) (r : Record) (g f : Found) (kd : Kind)
+pub record Turn (s : List ℕ) (at last : ℕ) (found : Records) (r : Record) (c : Check) (f : Records)
     (rk : ℕ) : Type 0 where
   pub more : at < length s
-  pub clear : causeAt standard s at last ≡ Clear
   pub reads : r ≡ recordAt s at
-  pub looks : g ≡ ofKind ks r
-  pub takes : f ≡ (found or g)
-  pub decodes : kd ≡ kindOf standard (r .kind)
-  pub ranks : rk ≡ rank kd
+  pub checks : c ≡ causeOf standard (length s) r last
+  pub clear : c ≡ Clear
+  pub takes : f ≡ (found orEach oneRecord standard r)
+  pub ranks : rk ≡ rankIn standard r
 
-module _ {s ks : List ℕ} {at last : ℕ} {found : Found} {r : Record} {g f : Found} {kd : Kind} {rk : ℕ}
-    (h : Head s ks at last found) (t : Turn s ks at last found r g f kd rk) where
+module _ {s : List ℕ} {at last : ℕ} {found : Records} {r : Record} {c : Check} {f : Records} {rk : ℕ}
+    (h : Head s at last found) (t : Turn s at last found r c f rk) where
+  here : causeOf standard (length s) (recordAt s at) last ≡ Clear
+  here = ap (λ (x : Record). causeOf standard (length s) x last) (sym (t .reads)) ∙ sym (t .checks) ∙ t .clear
+
+  ends : end (recordAt s at) ≡ at + header + r .size
+  ends = end-is s at r (t .reads)
+
   pub turn-inside : at + header + r .size ≤ length s
-  turn-inside = omega (arith, clear-inside standard s at last (t .clear), end-is s at r (t .reads))
+  turn-inside = omega (arith, clear-inside standard s at last here, ends)
 
-  pub turn-next : Head s ks (at + header + r .size) rk f
+  ranked : rankIn standard (recordAt s at) ≡ rk
+  ranked = ap (rankIn standard) (sym (t .reads)) ∙ sym (t .ranks)
+
+  pub turn-next : Head s (at + header + r .size) rk f
   turn-next =
-      subst₃ (λ (a b : ℕ) (x : Found). Head s ks a b x) (end-is s at r (t .reads))
-      (ap (λ (x : Record). rank (kindOf standard (x .kind))) (sym (t .reads)) ∙ ap rank (sym (t .decodes))
-      ∙ sym (t .ranks))
-      (ap (λ (x : Record). found or ofKind ks x) (sym (t .reads))
-      ∙ ap (λ (x : Found). found or x) (sym (t .looks))
-      ∙ sym (t .takes))
-      (head-on h (t .more) (t .clear))
+      let x = recordAt s at in
+      let w = parse standard s (end x) (rankIn standard x) in
+      let on = parse-record standard s at last (t .more) here in
+      subst₂ (λ (a b : ℕ). Head s a b f) ends ranked
+      (record {
+        inside = clear-inside standard s at last here;
+        stop = ap (λ (v : Parsed). v .stop) (sym on) ∙ h .stop;
+        finds = ap (λ (g : Records). g orEach recordsAmong standard (w .records))
+            (t .takes ∙ ap (λ (y : Record). found orEach oneRecord standard y) (t .reads))
+            ∙ each-assoc found (oneRecord standard x) (recordsAmong standard (w .records))
+            ∙ ap (λ (g : Records). found orEach g)
+            (sym (among-cons standard x (w .records))
+            ∙ ap (λ (v : Parsed). recordsAmong standard (v .records)) (sym on))
+            ∙ h .finds;
+      })

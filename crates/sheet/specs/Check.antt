@@ -2,6 +2,7 @@
 -- with the refusal's number and its place. The laws stand in Check.Laws; Check.Bounds has what holds of number and
 -- place wherever a check refuses.
 use Prim.Native.Nat.{ℕ, zero, suc}
+use mathlib.Core.Path.{_≡_}
 use mathlib.Core.Bool.{Bool, true, false}
 use mathlib.Core.List.{List, [], _∷_}
 use Rattle.sheet.specs.declared.check.Check.{Check}
@@ -25,6 +26,11 @@ Clear else d = d
 unfoldable pub firstCause : List Check → Check
 firstCause [] = Clear
 firstCause (c ∷ cs) = c else firstCause cs
+
+-- none of a list of causes is present
+abbrev pub AllClear : List Check → Type 0
+AllClear [] = Unit {0}
+AllClear (c ∷ cs) = (c ≡ Clear) × AllClear cs
 
 -- the first present of f 0, f 1, .., f (n - 1), for causes of §4.2 of which the first byte or the lowest state counts
 unfoldable pub first : ℕ → (ℕ → Check) → Check

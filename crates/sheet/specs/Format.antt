@@ -9,10 +9,11 @@ use Rattle.facts.specs.Lists.{among}
 use Rattle.sheet.specs.declared.check.Check.{Check}
 use Rattle.sheet.specs.declared.check.Check.the-variants.{Clear, Refused}
 use Rattle.sheet.specs.declared.record.Record.{Record}
-use Rattle.sheet.specs.declared.record.Kind.{Kind}
-use Rattle.sheet.specs.declared.record.Kind.the-variants.{Machine, Word, Sequence, Answers, Unknown}
+use Rattle.sheet.specs.declared.format.Role.{Role}
+use Rattle.sheet.specs.declared.format.Role.the-variants.{Machine, Word, Sequence, Answers, Unknown}
 use Rattle.sheet.specs.declared.record.Found.{Found}
 use Rattle.sheet.specs.declared.record.Found.the-variants.{At, Missing}
+use Rattle.sheet.specs.declared.record.Records.{Records}
 use Rattle.sheet.specs.Check.{refusal_with_if_, _else_}
 pub mod Laws
 
@@ -64,36 +65,52 @@ unfoldable pub end : Record → ℕ
 end r = offset (r .start) (r .size)
 
 -- what a kind's number means (§2.2): the role, or Unknown for a number that the format does not have
-unfoldable pub kindOf : Format → ℕ → Kind
-kindOf F k =
+unfoldable pub roleOf : Format → ℕ → Role
+roleOf F k =
     cond (among k (F .machine)) Machine
     (cond (among k (F .word)) Word
     (cond (among k (F .sequence)) Sequence
     (cond (among k (F .answers)) Answers Unknown)))
 
+-- the kinds of a role (§2.2)
+abbrev pub kindsOf : Format → Role → List ℕ
+kindsOf F Machine = F .machine
+kindsOf F Word = F .word
+kindsOf F Sequence = F .sequence
+kindsOf F Answers = F .answers
+kindsOf F Unknown = []
+
+-- the kind of a record of a role that is written: the first of the role's kinds
+abbrev pub newKind : Format → Role → ℕ
+newKind F role = getD (kindsOf F role) 0 0
+
 -- the number by which kinds rise in a sheet (§2.1), by their role; an unknown kind has 0, so that it is above none
-abbrev pub rank : Kind → ℕ
+abbrev pub rank : Role → ℕ
 rank Unknown = 0
 rank Machine = 1
 rank Word = 2
 rank Sequence = 3
 rank Answers = 4
 
--- the rank of the record that starts at an offset
-abbrev pub rankAt : Format → List ℕ → ℕ → ℕ
-rankAt F s at = rank (kindOf F (recordAt s at .kind))
+-- the rank of a record
+abbrev pub rankIn : Format → Record → ℕ
+rankIn F r = rank (roleOf F (r .kind))
 
--- cause 1 at a record (§4.2): the sheet does not hold all of its header and payload
-unfoldable pub cause1 : List ℕ → ℕ → Check
-cause1 s at = refusal 1 with at if (ltb (length s) (at + header) || ltb (length s) (end (recordAt s at)))
+-- cause 1 at a record (§4.2): a sheet of so many bytes does not hold all of its header and payload
+unfoldable pub cause1 : ℕ → Record → Check
+cause1 bytes r = refusal 1 with r .start if (ltb bytes (r .start + header) || ltb bytes (end r))
 
 -- cause 2 at a record (§4.2): its kind is unknown, or not above that of the record before, whose rank is last
-unfoldable pub cause2 : Format → List ℕ → ℕ → ℕ → Check
-cause2 F s at last = refusal 2 with at if leb (rankAt F s at) last
+unfoldable pub cause2 : Format → Record → ℕ → Check
+cause2 F r last = refusal 2 with r .start if leb (rankIn F r) last
 
 -- the check of a record: cause 1, then cause 2 (§4.1)
-unfoldable pub causeAt : Format → List ℕ → ℕ → ℕ → Check
-causeAt F s at last = cause1 s at else cause2 F s at last
+unfoldable pub causeOf : Format → ℕ → Record → ℕ → Check
+causeOf F bytes r last = cause1 bytes r else cause2 F r last
+
+-- that of the record that starts at an offset
+abbrev pub causeAt : Format → List ℕ → ℕ → ℕ → Check
+causeAt F s at last = causeOf F (length s) (recordAt s at) last
 
 -- the records from the front without cause 1 or 2 (§4.1), and what stopped the parsing: Clear at the sheet's end
 pub record Parsed : Type 0 where
@@ -120,7 +137,7 @@ parseStep true Clear r w = r before w
 unfoldable pub parseFrom : ℕ → Format → List ℕ → ℕ → ℕ → Parsed
 parseFrom zero F s at last = ended Clear
 parseFrom (suc f) F s at last =
-    let w : Parsed = parseFrom f F s (end (recordAt s at)) (rankAt F s at) in
+    let w : Parsed = parseFrom f F s (end (recordAt s at)) (rankIn F (recordAt s at)) in
     parseStep (ltb at (length s)) (causeAt F s at last) (recordAt s at) w
 
 -- the parsing from an offset on (§4.1). A record has 6 bytes or more, so the number of bytes left is bound enough
@@ -145,3 +162,51 @@ Missing or g = g
 unfoldable pub find : List ℕ → List Record → Found
 find ks [] = Missing
 find ks (r ∷ rs) = ofKind ks r or find ks rs
+
+-- ---- the record of each role
+-- what is found of each, by its kinds
+abbrev pub recordsBy : Format → (List ℕ → Found) → Records
+recordsBy F f = record {
+  machine = f (F .machine);
+  word = f (F .word);
+  sequence = f (F .sequence);
+  answers = f (F .answers);
+}
+
+-- none
+abbrev pub noRecords : Records
+noRecords = recordsBy standard (λ ks. Missing)
+
+-- one record, as that of the role which has its kind
+abbrev pub oneRecord : Format → Record → Records
+oneRecord F r = recordsBy F (λ ks. ofKind ks r)
+
+-- the first of each role in a list of records
+abbrev pub recordsAmong : Format → List Record → Records
+recordsAmong F rs = recordsBy F (λ ks. find ks rs)
+
+infixr 15 _orEach_
+-- the first that is found of each role
+abbrev pub _orEach_ : Records → Records → Records
+a orEach b = record {
+  machine = a .machine or b .machine;
+  word = a .word or b .word;
+  sequence = a .sequence or b .sequence;
+  answers = a .answers or b .answers;
+}
+
+-- the one of a role
+abbrev pub ofRole : Records → Role → Found
+ofRole a Machine = a .machine
+ofRole a Word = a .word
+ofRole a Sequence = a .sequence
+ofRole a Answers = a .answers
+ofRole a Unknown = Missing
+
+-- one record, as that of a role
+abbrev pub inRole : Record → Role → Records
+inRole r Machine = record { machine = At r; word = Missing; sequence = Missing; answers = Missing }
+inRole r Word = record { machine = Missing; word = At r; sequence = Missing; answers = Missing }
+inRole r Sequence = record { machine = Missing; word = Missing; sequence = At r; answers = Missing }
+inRole r Answers = record { machine = Missing; word = Missing; sequence = Missing; answers = At r }
+inRole r Unknown = noRecords

@@ -10,7 +10,7 @@ use lib.ListN.{length, getD}
 use Rattle.facts.specs.Lists.{among, Each}
 use Rattle.sheet.specs.declared.record.Record.{Record}
 use Rattle.sheet.specs.declared.record.Found.the-variants.{At}
-use Rattle.sheet.specs.Format.{Format, header, end, kindOf, rank, parsed, find}
+use Rattle.sheet.specs.Format.{Format, header, end, roleOf, rank, parsed, find}
 use Rattle.sheet.specs.Reader.{isMissing, payloadPart, partBytes, recordOf, content}
 use Rattle.sheet.specs.Writing.{recordBytes}
 pub mod Laws
@@ -37,7 +37,7 @@ placed at (r ∷ rs) =
 abbrev pub InOrder : Format → ℕ → List (ℕ × List ℕ) → Type 0
 InOrder F last [] = Unit {0}
 InOrder F last (r ∷ rs) =
-    (last < rank (kindOf F (r .0))) × (r .0 < 65536) × (length (r .1) < 2 ^ 32) × InOrder F (rank (kindOf F (r .0))) rs
+    (last < rank (roleOf F (r .0))) × (r .0 < 65536) × (length (r .1) < 2 ^ 32) × InOrder F (rank (roleOf F (r .0))) rs
 
 -- the payload of the first of these records that is of one of the kinds; none where there is no such record
 abbrev pub payloadOf : List ℕ → List (ℕ × List ℕ) → List ℕ
@@ -54,9 +54,13 @@ abbrev pub hasAll : List (List ℕ) → List (ℕ × List ℕ) → Bool
 hasAll [] rs = true
 hasAll (ks ∷ roles) rs = has ks rs && hasAll roles rs
 
--- what a sheet holds: kind and payload of each record up to where the parsing stops
+-- kind and payload of each of some records of a sheet
+abbrev pub heldBy : List ℕ → List Record → List (ℕ × List ℕ)
+heldBy s qs = map (λ r. (r .kind, partBytes (payloadPart (At r)) s)) qs
+
+-- what a sheet holds: those of each record up to where the parsing stops
 abbrev pub contents : Format → List ℕ → List (ℕ × List ℕ)
-contents F s = map (λ r. (r .kind, partBytes (payloadPart (At r)) s)) (parsed F s .records)
+contents F s = heldBy s (parsed F s .records)
 
 -- the record of a role as a sheet has it, where reading it is not refused
 abbrev pub recordIn : Format → List ℕ → List ℕ → ℕ × List ℕ
@@ -69,7 +73,7 @@ rolesOf F = F .machine ∷ F .word ∷ F .sequence ∷ F .answers ∷ []
 -- roles whose ranks follow each other, that of the first being the next above last
 abbrev pub Successive : Format → ℕ → List (List ℕ) → Type 0
 Successive F last [] = Unit {0}
-Successive F last (ks ∷ roles) = Each (λ k. rank (kindOf F k) ≡ last + 1) ks × Successive F (last + 1) roles
+Successive F last (ks ∷ roles) = Each (λ k. rank (roleOf F k) ≡ last + 1) ks × Successive F (last + 1) roles
 
 -- a sheet that has no record of any of these roles, up to where its parsing stops
 abbrev pub Lacks : Format → List ℕ → List (List ℕ) → Type 0

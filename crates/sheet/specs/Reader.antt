@@ -2,9 +2,9 @@
 -- The laws stand in Reader.Laws, bounds on places in Reader.Bounds.
 use Prim.Native.Nat.{ℕ, _+_, _≤_}
 use mathlib.Core.Path.{_≡_}
-use mathlib.Core.Bool.{Bool, true, false}
+use mathlib.Core.Bool.{Bool, true, false, cond, _&&_, _||_}
 use mathlib.Core.List.{List, [], _∷_, _++_, map}
-use lib.Dec.{ltb}
+use lib.Dec.{leb, ltb}
 use lib.ListN.{length, take, drop}
 use denote.Ref.{RefT, now}
 use Rattle.facts.specs.Lists.{among}
@@ -13,10 +13,12 @@ use Rattle.sheet.specs.declared.check.Check.the-variants.{Clear, Refused
 use Rattle.sheet.specs.declared.record.Record.{Record}
 use Rattle.sheet.specs.declared.record.Found.{Found}
 use Rattle.sheet.specs.declared.record.Found.the-variants.{At, Missing}
+use Rattle.sheet.specs.declared.record.Records.{Records}
 use Rattle.sheet.specs.declared.reader.Part.{Part}
 use Rattle.sheet.specs.declared.reader.Needs.{Needs}
-use Rattle.sheet.specs.Check.{refusal_with_if_, firstCause}
-use Rattle.sheet.specs.Format.{Format, standard, header, end, parsed, find}
+use Rattle.sheet.specs.declared.parse.Reading.{Reading}
+use Rattle.sheet.specs.Check.{refusal_with_if_, _else_, firstCause}
+use Rattle.sheet.specs.Format.{Format, standard, header, end, parsed, find, recordsBy}
 pub mod Laws
 pub mod Bounds
 
@@ -43,10 +45,6 @@ abbrev pub when : {A : Type 0} → Bool → List A → List A
 when true xs = xs
 when false xs = []
 
--- cause 2 of a role where it is needed and missing, else Clear
-unfoldable pub whenMissing : Format → List ℕ → List ℕ → Bool → Check
-whenMissing F s ks b = firstCause (map (missing F s) (when b (ks ∷ [])))
-
 -- the roles that a service on a machine needs (§2.3): the machine always, the others where the flags say so
 abbrev pub needed : Format → Needs → List (List ℕ)
 needed F needs =
@@ -58,7 +56,43 @@ needed F needs =
 unfoldable pub refusalOf : Format → List ℕ → List ℕ → Check
 refusalOf F ks s = firstCause (sheetCauses F (ks ∷ []) s)
 
--- the record that was found; where none was, cause 2 is present and this record is not used
+-- ---- what one pass over a sheet gives
+-- causes 1 and 2 but for what is missing: the length, then the records (§4.1)
+abbrev pub wholeCause : Format → List ℕ → Check
+wholeCause F s = tooLong F s else parsed F s .stop
+
+-- what is found where nothing is refused
+abbrev pub foundUnless : Check → Found → Found
+foundUnless Clear f = f
+foundUnless (Refused n p) f = Missing
+
+-- the record of one of the kinds that reading a sheet finds (§2.4): none where the sheet is too long or the parsing
+-- is stopped
+unfoldable pub foundIn : Format → List ℕ → List ℕ → Found
+foundIn F ks s = foundUnless (wholeCause F s) (find ks (parsed F s .records))
+
+-- that of each role
+abbrev pub recordsIn : Format → List ℕ → Records
+recordsIn F s = recordsBy F (λ ks. foundIn F ks s)
+
+-- whether the record of one of these roles is missing
+abbrev pub lacks : (List ℕ → Found) → List (List ℕ) → Bool
+lacks found [] = false
+lacks found (ks ∷ roles) = isMissing (found ks) || lacks found roles
+
+-- whether that of one that a service needs is
+abbrev pub lacksNeeded : Needs → Records → Bool
+lacksNeeded n f =
+    isMissing (f .machine)
+    || ((n .word && isMissing (f .word))
+    || ((n .sequence && isMissing (f .sequence)) || (n .answers && isMissing (f .answers))))
+
+-- all that a service reads a sheet for: causes 1 and 2 for the roles that it needs, and the record of each role
+abbrev pub readingOf : Format → Needs → List ℕ → Reading
+readingOf F n s = record { check = firstCause (sheetCauses F (needed F n) s); records = recordsIn F s }
+
+-- ---- the record and the part of a role
+-- the record that was found; where none was, cause 1 or 2 is present and this record is not used
 abbrev pub recordOr : Found → Record
 recordOr (At r) = r
 recordOr Missing = record { start = 0; size = 0; kind = 0 }
@@ -66,21 +100,26 @@ recordOr Missing = record { start = 0; size = 0; kind = 0 }
 -- the record of one of the kinds in a sheet: the places of the causes of its payload are its start or offsets in it
 -- (§4.2)
 unfoldable pub recordOf : Format → List ℕ → List ℕ → Record
-recordOf F ks s = recordOr (find ks (parsed F s .records))
+recordOf F ks s = recordOr (foundIn F ks s)
 
 -- where a record's payload lies, after its header (§2.1); the empty part at the sheet's start where there is no record
 abbrev pub payloadPart : Found → Part
 payloadPart (At r) = record { from = r .start + header; size = r .size }
 payloadPart Missing = record { from = 0; size = 0 }
 
--- the wanted record's payload; on a refusal the empty part at the sheet's start (§2.4)
-abbrev pub partWhen : Check → Found → Part
-partWhen Clear f = payloadPart f
-partWhen (Refused n p) f = payloadPart Missing
-
--- where the part lies that reading gives (§2.4)
+-- where the part lies that reading gives (§2.4): the wanted record's payload; on a refusal the empty part at the
+-- sheet's start
 unfoldable pub part : Format → List ℕ → List ℕ → Part
-part F ks s = partWhen (refusalOf F ks s) (find ks (parsed F s .records))
+part F ks s = payloadPart (foundIn F ks s)
+
+-- a record where the sheet holds all of it; it does where reading the sheet found it: part-within, in Reader.Laws
+abbrev pub within : List ℕ → Found → Found
+within s (At r) = cond (leb (end r) (length s)) (At r) Missing
+within s Missing = Missing
+
+-- where its payload lies then
+unfoldable pub partWithin : List ℕ → Found → Part
+partWithin s f = payloadPart (within s f)
 
 -- the bytes of a part of a sheet
 unfoldable pub partBytes : Part → List ℕ → List ℕ

@@ -24,6 +24,14 @@ headerOf kind size =
 abbrev pub recordBytes : ℕ → List ℕ → List ℕ
 recordBytes kind payload = headerOf kind (length payload) ++ payload
 
+-- the most bytes of a payload: what the 4 bytes of its length can hold (§2.1)
+abbrev pub mostPayload : ℕ
+mostPayload = 4294967295
+
+-- the bytes of a record that is put into a buffer: none where its header cannot hold the payload's length
+unfoldable pub recordPut : ℕ → List ℕ → List ℕ
+recordPut kind payload = cond (leb (length payload) mostPayload) (recordBytes kind payload) []
+
 -- a buffer after bytes were put at an offset: where all of them fit they are there and every other byte is as it was,
 -- else nothing is changed
 unfoldable pub putAt : List ℕ → ℕ → List ℕ → List ℕ

@@ -1,46 +1,54 @@
-// Parsing a sheet: its records from the front.
+// The one pass over a sheet: its records from the front.
 ghost use mathlib.Core.Path.{_≡_};
-ghost use mathlib.Core.List.{[], _∷_};
-ghost use Rattle.sheet.specs.Format.{standard, parsed, find};
+ghost use Prim.Native.Nat.{_≤_};
+ghost use lib.ListN.{length};
+ghost use Rattle.sheet.specs.Format.{standard, longest};
+ghost use Rattle.sheet.specs.Reader.{wholeCause, recordsIn};
 use crate::check::Check;
-use crate::record::Found;
+use crate::format::role_of;
 use crate::record::HEADER;
-use crate::record::check_at;
-use crate::record::first_found;
-use crate::record::kind_of;
-use crate::record::of_kind;
+use crate::record::Records;
+use crate::record::check_record;
+use crate::record::no_records;
 use crate::record::rank;
 use crate::record::record_at;
+use crate::record::with_record;
 
-// What stopped the parsing, Clear at the sheet's end, and the record of one kind.
-pub struct Parsed {
-    pub stop: Check,
-    pub found: Found,
+// What one pass over a sheet gives: causes 1 and 2, and the record of each role, none where the
+// sheet is too long or a record has a cause.
+pub struct Reading {
+    pub check: Check,
+    pub records: Records,
 }
 
-// Parses the whole sheet and looks for the record of a kind.
-pub fn parse(s: &[u8], kind: u16) -> Parsed
-    ensures stop { λ r. ⌜ r .stop ≡ parsed standard (now (s .entry)) .stop ⌝ }
-    ensures found { λ r. ⌜ r .found ≡ find (kind ∷ []) (parsed standard (now (s .entry)) .records) ⌝ }
+// Passes over the whole sheet, which is not too long: what is missing is not looked at here.
+pub fn parse(s: &[u8]) -> Reading
+    requires { ⌜ length (now s) ≤ longest ⌝ }
+    ensures check { λ r. ⌜ r .check ≡ wholeCause standard (now (s .entry)) ⌝ }
+    ensures records { λ r. ⌜ r .records ≡ recordsIn standard (now (s .entry)) ⌝ }
 {
     let mut at: usize = 0;
     let mut last: u8 = 0;
-    let mut found = Found::Missing;
+    let mut records = no_records();
     while at < s.len() {
-        let check = check_at(s, at, last);
+        let r = record_at(s, at);
+        let check = check_record(s.len(), r, last);
         if let Check::Refused {
             number: _,
             place: _,
         } = check {
-            return Parsed { stop: check, found };
+            return Reading {
+                check,
+                records: no_records(),
+            };
         }
-        let r = record_at(s, at);
-        found = first_found(found, of_kind(r, kind));
-        last = rank(kind_of(r.kind));
-        at = at + HEADER + r.size;
+        records = with_record(records, r);
+        last = rank(role_of(r.kind));
+        let size = r.size as usize;
+        at = at + HEADER + size;
     }
-    Parsed {
-        stop: Check::Clear,
-        found,
+    Reading {
+        check: Check::Clear,
+        records,
     }
 }

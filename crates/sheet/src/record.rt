@@ -1,49 +1,38 @@
-// One record of a sheet: its header, its kind, and causes 1 and 2 at it.
+// One record of a sheet: its header, causes 1 and 2 at it, and its place among the records by role.
 ghost use mathlib.Core.Path.{_≡_};
-ghost use mathlib.Core.List.{[], _∷_};
-ghost use Prim.Native.Nat.{_<_, _≤_, _^_};
-ghost use lib.ListN.{length, getD};
-ghost use Rattle.sheet.specs.Format.{standard, recordAt, kindOf, cause1, cause2, causeAt, ofKind, _or_};
+ghost use Prim.Native.Nat.{_<_, _^_};
+ghost use lib.ListN.{getD};
+ghost use Rattle.sheet.specs.Format.{standard, recordAt, cause1, cause2, causeOf, _or_};
+ghost use Rattle.sheet.specs.Format.{noRecords, oneRecord, _orEach_, ofRole};
 ghost use Rattle.sheet.specs.Format.{rank as rankOf};
 use crate::check::Check;
 use crate::check::first_of;
 use crate::check::refuse;
+use crate::format::Role;
+use crate::format::role_of;
 
 // The bytes of a record's header: 4 of payload length, 2 of kind.
 pub const HEADER: usize = 6;
 
-// How many bytes of the machine's payload come before its table.
-pub const TABLE: usize = 2;
-
-// The numbers of the kinds.
-pub const MACHINE_KIND: u16 = 1;
-
-pub const WORD_KIND: u16 = 2;
-
-pub const SEQUENCE_KIND: u16 = 3;
-
-pub const ANSWERS_KIND: u16 = 4;
-
 // A record: where its header starts, its payload's length, and its kind's number.
 pub struct Record {
-    pub start: usize,
-    pub size: usize,
+    pub start: u32,
+    pub size: u32,
     pub kind: u16,
-}
-
-// What a kind's number stands for.
-pub enum Kind {
-    Machine,
-    Word,
-    Sequence,
-    Answers,
-    Unknown,
 }
 
 // The record that was looked for, or that there is none.
 pub enum Found {
     At(Record),
     Missing,
+}
+
+// The record of each role, as far as there is one.
+pub struct Records {
+    pub machine: Found,
+    pub word: Found,
+    pub sequence: Found,
+    pub answers: Found,
 }
 
 // The byte at a place, 0 past the end.
@@ -63,9 +52,8 @@ fn wide(s: &[u8], i: usize) -> usize
 
 // The record whose header starts at a place.
 pub fn record_at(s: &[u8], at: usize) -> Record
-    requires { ⌜ at ≤ length (now s) ⌝ }
-    ensures value { λ r. ⌜ r ≡ recordAt (now (s .entry)) at ⌝ }
-    ensures small { λ r. ⌜ r .size < 2 ^ 32 ⌝ }
+    requires { ⌜ at < 2 ^ 32 ⌝ }
+    ensures { λ r. ⌜ r ≡ recordAt (now (s .entry)) at ⌝ }
 {
     let size = wide(s, at)
         + 256 * wide(s, at + 1)
@@ -73,84 +61,121 @@ pub fn record_at(s: &[u8], at: usize) -> Record
         + 16777216 * wide(s, at + 3);
     let kind = wide(s, at + 4) + 256 * wide(s, at + 5);
     Record {
-        start: at,
-        size,
+        start: at as u32,
+        size: size as u32,
         kind: kind as u16,
     }
 }
 
-// Decodes a kind's number.
-pub fn kind_of(kind: u16) -> Kind
-    ensures { λ r. ⌜ r ≡ kindOf standard kind ⌝ }
+// The place of a role in the rising order, 0 for an unknown one.
+pub fn rank(role: Role) -> u8
+    ensures { λ r. ⌜ r ≡ rankOf role ⌝ }
 {
-    match kind {
-        MACHINE_KIND => Kind::Machine,
-        WORD_KIND => Kind::Word,
-        SEQUENCE_KIND => Kind::Sequence,
-        ANSWERS_KIND => Kind::Answers,
-        _ => Kind::Unknown,
+    match role {
+        Role::Unknown => 0,
+        Role::Machine => 1,
+        Role::Word => 2,
+        Role::Sequence => 3,
+        Role::Answers => 4,
     }
 }
 
-// The place of a kind in the rising order, 0 for an unknown one.
-pub fn rank(kind: Kind) -> u8
-    ensures { λ r. ⌜ r ≡ rankOf kind ⌝ }
+// Cause 1: the record's header or payload runs past the end of a sheet of so many bytes.
+fn cut(bytes: usize, r: Record) -> Check
+    ensures { λ c. ⌜ c ≡ cause1 bytes r ⌝ }
 {
-    match kind {
-        Kind::Unknown => 0,
-        Kind::Machine => 1,
-        Kind::Word => 2,
-        Kind::Sequence => 3,
-        Kind::Answers => 4,
-    }
-}
-
-// Cause 1: the record's header or payload runs past the sheet's end.
-fn cut(s: &[u8], at: usize) -> Check
-    requires { ⌜ at ≤ length (now s) ⌝ }
-    ensures { λ r. ⌜ r ≡ cause1 (now (s .entry)) at ⌝ }
-{
-    let r = record_at(s, at);
-    let body = at + HEADER;
-    refuse(1, at, (s.len() < body) | (s.len() < body + r.size))
+    let start = r.start as usize;
+    let size = r.size as usize;
+    let body = start + HEADER;
+    refuse(1, start, (bytes < body) | (bytes < body + size))
 }
 
 // Cause 2: the record's kind is unknown or not above the one before, whose rank is last.
-fn misplaced(s: &[u8], at: usize, last: u8) -> Check
-    requires { ⌜ at ≤ length (now s) ⌝ }
-    ensures { λ r. ⌜ r ≡ cause2 standard (now (s .entry)) at last ⌝ }
+fn misplaced(r: Record, last: u8) -> Check
+    ensures { λ c. ⌜ c ≡ cause2 standard r last ⌝ }
 {
-    let r = record_at(s, at);
-    refuse(2, at, rank(kind_of(r.kind)) <= last)
+    let start = r.start as usize;
+    refuse(2, start, rank(role_of(r.kind)) <= last)
 }
 
 // Causes 1 and 2 at a record, 1 before 2.
-pub fn check_at(s: &[u8], at: usize, last: u8) -> Check
-    requires { ⌜ at ≤ length (now s) ⌝ }
-    ensures { λ r. ⌜ r ≡ causeAt standard (now (s .entry)) at last ⌝ }
+pub fn check_record(bytes: usize, r: Record, last: u8) -> Check
+    ensures { λ c. ⌜ c ≡ causeOf standard bytes r last ⌝ }
 {
-    let one = cut(s, at);
-    let two = misplaced(s, at, last);
+    let one = cut(bytes, r);
+    let two = misplaced(r, last);
     first_of(one, two)
 }
 
-// The record where it is of the kind.
-pub fn of_kind(r: Record, kind: u16) -> Found
-    ensures { λ f. ⌜ f ≡ ofKind (kind ∷ []) r ⌝ }
-{
-    if r.kind == kind {
-        Found::At(r)
-    } else {
-        Found::Missing
-    }
-}
-
 // The first that is found.
-pub fn first_found(a: Found, b: Found) -> Found
+fn first_found(a: Found, b: Found) -> Found
     ensures { λ f. ⌜ f ≡ (a or b) ⌝ }
 {
     match a {
         Found::At(_) => a,
         Found::Missing => b,
+    }
+}
+
+// No record of any role.
+pub fn no_records() -> Records
+    ensures { λ f. ⌜ f ≡ noRecords ⌝ }
+{
+    Records {
+        machine: Found::Missing,
+        word: Found::Missing,
+        sequence: Found::Missing,
+        answers: Found::Missing,
+    }
+}
+
+// What is found with one record more: it is that of its role where the role has none yet.
+pub fn with_record(found: Records, r: Record) -> Records
+    ensures { λ f. ⌜ f ≡ (found orEach oneRecord standard r) ⌝ }
+{
+    let role = role_of(r.kind);
+    let machine = found.machine;
+    let word = found.word;
+    let sequence = found.sequence;
+    let answers = found.answers;
+    match role {
+        Role::Machine => Records {
+            machine: first_found(machine, Found::At(r)),
+            word,
+            sequence,
+            answers,
+        },
+        Role::Word => Records {
+            machine,
+            word: first_found(word, Found::At(r)),
+            sequence,
+            answers,
+        },
+        Role::Sequence => Records {
+            machine,
+            word,
+            sequence: first_found(sequence, Found::At(r)),
+            answers,
+        },
+        Role::Answers => Records {
+            machine,
+            word,
+            sequence,
+            answers: first_found(answers, Found::At(r)),
+        },
+        Role::Unknown => found,
+    }
+}
+
+// The record of a role.
+pub fn of_role(records: Records, role: Role) -> Found
+    ensures { λ f. ⌜ f ≡ ofRole records role ⌝ }
+{
+    match role {
+        Role::Machine => records.machine,
+        Role::Word => records.word,
+        Role::Sequence => records.sequence,
+        Role::Answers => records.answers,
+        Role::Unknown => Found::Missing,
     }
 }

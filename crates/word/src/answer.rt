@@ -1,4 +1,5 @@
 // What the search answers.
+use sheet::Records;
 
 // The most commands of a word that is sought.
 pub const MOST_SOUGHT: usize = 6;
@@ -15,4 +16,10 @@ pub enum Answer {
 pub struct Searched {
     pub answer: Answer,
     pub word: [u8; MOST_SOUGHT],
+}
+
+// What was found for a sheet, and the sheet's records, both of one pass over it.
+pub struct WithRecords {
+    pub searched: Searched,
+    pub records: Records,
 }

@@ -7,4 +7,6 @@ mod service;
 pub use answer::Answer;
 pub use answer::MOST_SOUGHT;
 pub use answer::Searched;
+pub use answer::WithRecords;
 pub use service::find_word;
+pub use service::find_word_with_records;

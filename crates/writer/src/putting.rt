@@ -6,12 +6,9 @@ ghost use Rattle.sheet.specs.Format.{longest};
 ghost use Rattle.sheet.specs.Writing.{Puts};
 ghost use Rattle.writer.specs.Parts.{partsOf, sheetOf};
 use crate::wanted::Wanted;
-use sheet::ANSWERS_KIND;
 use sheet::HEADER;
-use sheet::MACHINE_KIND;
-use sheet::SEQUENCE_KIND;
-use sheet::WORD_KIND;
-use sheet::put_record;
+use sheet::Role;
+use sheet::put_role;
 
 // How many bytes the sheet has, of parts that are no longer than they may be.
 pub fn length_of(
@@ -34,7 +31,7 @@ pub fn length_of(
     }
 }
 
-// Puts the sheet to the start of a buffer that has room for it; gives the place behind it.
+// Puts that sheet to the start of a buffer that has room for it; gives the place behind it.
 pub fn put_parts(
     wanted: Wanted,
     machine: &[u8],
@@ -43,6 +40,7 @@ pub fn put_parts(
     answers: &[u8],
     buffer: &mut [u8],
 ) -> usize
+    requires { ⌜ length (sheetOf wanted (partsOf (now machine) (now word) (now sequence) (now answers))) ≤ longest ⌝ }
     requires { ⌜
         length (sheetOf wanted (partsOf (now machine) (now word) (now sequence) (now answers)))
         ≤ length (now buffer) ⌝ }
@@ -52,14 +50,14 @@ pub fn put_parts(
         (now (answers .entry))))
         (now (buffer .exit)) r ⌝ }
 {
-    let a = put_record(MACHINE_KIND, machine, 0, buffer);
-    let b = put_record(WORD_KIND, word, a, buffer);
+    let a = put_role(Role::Machine, machine, 0, buffer);
+    let b = put_role(Role::Word, word, a, buffer);
     match wanted {
         Wanted::Word => b,
-        Wanted::Sequence => put_record(SEQUENCE_KIND, sequence, b, buffer),
+        Wanted::Sequence => put_role(Role::Sequence, sequence, b, buffer),
         Wanted::Answers => {
-            let c = put_record(SEQUENCE_KIND, sequence, b, buffer);
-            put_record(ANSWERS_KIND, answers, c, buffer)
+            let c = put_role(Role::Sequence, sequence, b, buffer);
+            put_role(Role::Answers, answers, c, buffer)
         }
     }
 }

@@ -7,12 +7,9 @@ use crate::putting::put_parts;
 use crate::wanted::Wanted;
 use sheet::Answer;
 use sheet::Check;
-use sheet::MACHINE_KIND;
 use sheet::Needs;
-use sheet::SEQUENCE_KIND;
-use sheet::WORD_KIND;
-use sheet::checks;
-use sheet::read;
+use sheet::payload;
+use sheet::read_sheet;
 use sheet::room_check;
 
 // Writes the sheet of the wanted parts into the lent buffer. The other parts have no influence. On a
@@ -54,12 +51,17 @@ pub fn add_answers(sheet: &[u8], answers: &[u8], buffer: &mut [u8]) -> Answer
         sequence: true,
         answers: false,
     };
-    let check = checks(sheet, needs);
+    let reading = read_sheet(sheet, needs);
+    let check = reading.check;
     if let Check::Refused { number, place } = check {
         return Answer::Refused { number, place };
     }
-    let machine = read(sheet, MACHINE_KIND);
-    let word = read(sheet, WORD_KIND);
-    let sequence = read(sheet, SEQUENCE_KIND);
+    let records = reading.records;
+    let first = records.machine;
+    let second = records.word;
+    let third = records.sequence;
+    let machine = payload(sheet, first);
+    let word = payload(sheet, second);
+    let sequence = payload(sheet, third);
     write(Wanted::Answers, machine, word, sequence, answers, buffer)
 }

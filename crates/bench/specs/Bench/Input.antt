@@ -6,16 +6,15 @@ use mathlib.Core.Path.{_≡_, refl, sym, ap, _∙_}
 use mathlib.Core.Bool.{Bool, true, false}
 use mathlib.Core.List.{List, [], _∷_, map}
 use native.Mathlib.Omega.{arith}
-use borrow.Author.Tests.{lt-ltb}
 use lib.ListN.{length, take, length-map}
 use lib.Seq.{take-all, length-take-le}
 use Rattle.sheet.specs.declared.check.Check.the-variants.{Refused}
 use Rattle.sheet.specs.declared.reader.Needs.{Needs}
 use Rattle.sheet.specs.Check.{firstCause}
-use Rattle.sheet.specs.Check.Laws.{present, refusal-stays}
+use Rattle.sheet.specs.Check.Laws.{refusal-stays}
 use Rattle.sheet.specs.Format.{longest, standard}
 use Rattle.sheet.specs.Reader.{refusalOf, sheetCauses, needed}
-use Rattle.sheet.specs.Reader.Laws.{refusal-is, checks-are}
+use Rattle.sheet.specs.Reader.Laws.{long-refused}
 use Rattle.machine.specs.Limits.{mostSequence}
 use Rattle.machine.specs.Causes.{loadCauses}
 use Rattle.machine.specs.Causes.Lists.{machine-causes-are, load-causes-are}
@@ -57,10 +56,11 @@ long Desk = onOutput (refusalLine 1 longest)
 
 module _ (s : List ℕ) (l : longest < length s) where
   read-long : (ks : List ℕ) → refusalOf standard ks s ≡ Refused 1 longest
-  read-long ks = refusal-is standard ks s ∙ refusal-stays _ (present 1 longest (lt-ltb longest (length s) l))
+  unfolding refusalOf
+  read-long ks = long-refused standard (ks ∷ []) s l
 
   checks-long : (n : Needs) → firstCause (sheetCauses standard (needed standard n) s) ≡ Refused 1 longest
-  checks-long n = checks-are standard n s ∙ refusal-stays _ (read-long (standard .machine))
+  checks-long n = long-refused standard (needed standard n) s l
 
   load-long : (n : Needs) → firstCause (loadCauses n s) ≡ Refused 1 longest
   load-long n = load-causes-are n s ∙ refusal-stays _ (machine-causes-are n s ∙ refusal-stays _ (checks-long n))

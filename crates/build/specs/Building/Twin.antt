@@ -15,9 +15,9 @@ use Rattle.sheet.specs.declared.check.Check.the-variants.{Clear, Refused as Ref
 use Rattle.sheet.specs.declared.writing.Answer.the-variants.{Written, Refused}
 use Rattle.sheet.specs.Check.{refusal_with_if_, _else_, firstCause, first}
 use Rattle.sheet.specs.Check.Laws.{absent, else-clear}
-use Rattle.sheet.specs.Format.{recordAt, end, kindOf, cause1, cause2, causeAt, parseStep, parseFrom, parse}
+use Rattle.sheet.specs.Format.{recordAt, end, roleOf, cause1, cause2, causeOf, parseStep, parseFrom, parse}
 use Rattle.sheet.specs.Format.{parsed, ofKind, _or_, find, standard}
-use Rattle.sheet.specs.Reader.{sheetCauses, refusalOf, recordOf, part, partBytes, content, wordIn}
+use Rattle.sheet.specs.Reader.{sheetCauses, refusalOf, foundIn, recordOf, part, partBytes, content, wordIn}
 use Rattle.sheet.specs.Writing.{headerOf, written}
 use Rattle.sheet.specs.Promise.Laws.{wrote, by-cause, outcome-writing, written-leaves}
 use Rattle.sheet.specs.Joining.{joined, fresh}
@@ -71,9 +71,9 @@ record Computed : Type 0 where
   single-clear : (answer : ℕ) → (answer ≡ noAnswer → ⊥) → firstCause (connectedCauses (singleSheet answer)) ≡ Clear
 
 computed : Computed
-unfolding joined headerOf refusal_with_if_ _else_ firstCause first recordAt end kindOf cause1 cause2 causeAt
-    parseStep parseFrom parse parsed ofKind _or_ find sheetCauses refusalOf recordOf part partBytes content machineOf
-    run answers cause3 cause4 cause12 commandsCause cause6 machineIn tableCauses machineCauses wordCauses loadCauses
+unfolding joined headerOf refusal_with_if_ _else_ firstCause first recordAt end roleOf cause1 cause2 causeOf
+    parseStep parseFrom parse parsed ofKind _or_ find sheetCauses refusalOf foundIn recordOf part partBytes content
+    machineOf run answers cause3 cause4 cause12 commandsCause cause6 machineIn tableCauses machineCauses wordCauses loadCauses
     guard orElse firstOf firstString firstPath transfer following cause8 connectedCauses T nthState firstBlocks
     opening approach test stateTests tests sequence twin single
 computed = record {

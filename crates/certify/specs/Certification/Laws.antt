@@ -32,7 +32,7 @@ use Rattle.certify.specs.Marks.Laws.{any-found, any-holds, marked-true, 
 use Rattle.certify.specs.Marks.Agreement.{marked-recognised, recognised-marked}
 use Rattle.certify.specs.Certification.{sequenceNeeds, markBytes, markingCauses, certifyCauses}
 use Rattle.certify.specs.Certification.{verified, entryCause, openCause, openIn, answerOf, outcome, certification}
-use Rattle.certify.specs.Certification.{kept, marksAfter}
+use Rattle.certify.specs.Certification.{kept, marksAfter, Certifiable}
 
 -- ---- verified entries, by any marks
 -- an entry verified by marks, with its place
@@ -244,17 +244,21 @@ module _ (answers : Bool) (room : ℕ) (s : List ℕ) (e : firstCause (markingCa
   room-enough = clear-room _ _ (both-clear _ _ (sym (marking-causes-are answers room s) ∙ e) .1)
 
 -- the same of what was loaded: the machine is within its limits, the sequence of its commands, and the marks fit
-module _ (answers : Bool) (room : ℕ) (s : List ℕ) {l : Loaded} (h : LoadedBy (markingCauses answers room s) s l)
-    (e : l .check ≡ Clear) where
-  pub marking-proper : Proper (meaning (l .machine))
-  marking-proper =
-      rw (h .machine e) (load-proper (sequenceNeeds answers) s (load-clear answers room s (sym (h .check) ∙ e)))
+module _ (room : ℕ) (s : List ℕ) {l : Loaded} (h : Certifiable s room l) where
+  pub certifiable-proper : Proper (meaning (l .machine))
+  certifiable-proper = rw (h .machine) (load-proper (sequenceNeeds false) s (load-clear false room s (h .clear)))
 
-  pub marking-commands : Commands mostSequence (meaning (l .machine) .k) (sequenceIn s)
-  marking-commands = rw (h .machine e) (marked-commands answers room s (sym (h .check) ∙ e))
+  pub certifiable-commands : Commands mostSequence (meaning (l .machine) .k) (sequenceIn s)
+  certifiable-commands = rw (h .machine) (marked-commands false room s (h .clear))
 
-  pub marking-fits : markBytes (sequenceIn s) ≤ room
-  marking-fits = room-enough answers room s (sym (h .check) ∙ e)
+  pub certifiable-fits : markBytes (sequenceIn s) ≤ room
+  certifiable-fits = room-enough false room s (h .clear)
+
+-- and what is loaded with nothing refused is so
+pub loaded-certifiable : (answers : Bool) (room : ℕ) (s : List ℕ) {l : Loaded}
+    → LoadedBy (markingCauses answers room s) s l → l .check ≡ Clear → firstCause (certifyCauses room s) ≡ Clear
+    → Certifiable s room l
+loaded-certifiable answers room s h e clear = record { clear = clear; machine = h .machine e; records = h .records }
 
 -- certifying refuses no sheet that a service which needs the answers takes
 pub certify-without-answers : (room : ℕ) (s : List ℕ) → firstCause (markingCauses true room s) ≡ Clear

@@ -76,7 +76,7 @@ module _ (s : List ℕ) (short : length s ≤ longest) where
   unfolding commandsCause
   commands-small number most k ks low =
       place-else Small
-      (refusal number with recordOf standard ks s .start if outside 1 most (length (content standard ks s)))
+      (refusal number with recordOf standard ks s .start if outside most (length (content standard ks s)))
       (first (length (content standard ks s))
       (λ i. refusal number with offset (recordOf standard ks s .start) i if leb k (getD (content standard ks s) i 0)))
       (place-cause Small number (recordOf standard ks s .start) _

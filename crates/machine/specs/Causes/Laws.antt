@@ -1,10 +1,10 @@
 -- The laws of causes 3, 4, 12, 5, 7 and 10: each as the code looks for it, and what it shows where it is clear.
-use Prim.Native.Nat.{ℕ, _+_, _*_, _<_, _≤_}
+use Prim.Native.Nat.{ℕ, _+_, _*_, _/_, _%_, _<_, _≤_}
 use mathlib.Core.Path.{_≡_, refl, sym, ap, ap₂, _∙_, fun-ext}
 use mathlib.Core.Bool.{Bool, false, not, _||_}
 use mathlib.Core.Logic.{inl, inr}
 use mathlib.Core.List.{List, [], _∷_}
-use native.Mathlib.Nat.{zero-add, one-mul}
+use native.Mathlib.Nat.{zero-add, one-mul, div-add-mod', div-lt-iff-lt-mul, mod-lt}
 use native.Mathlib.Omega.{arith}
 use borrow.Author.Tests.{ltb-false, leb-false, eqb-true, eqb-false, not-false, lt-ltb, le-ltb, lt-leb, le-leb, eq-eqb}
 use borrow.Author.Tests.{ne-eqb}
@@ -17,17 +17,17 @@ use Rattle.sheet.specs.declared.check.Check.{Check}
 use Rattle.sheet.specs.declared.check.Check.the-variants.{Clear, Refused}
 use Rattle.sheet.specs.Check.{refusal_with_if_, _else_, first, firstCause}
 use Rattle.sheet.specs.Check.Laws.{absent, present, clear-absent, not-clear, else-clear, refusal-stays, both-clear}
-use Rattle.sheet.specs.Check.Laws.{first-clear, first-clear-at}
+use Rattle.sheet.specs.Check.Laws.{clear-all, all-clear, first-clear, first-clear-at}
 use Rattle.sheet.specs.Check.Laws.{first-same, cause-cons, cause-two}
 use Rattle.sheet.specs.Format.{Format, header, offset}
 use Rattle.facts.specs.Bytes.{Bytes}
-use Rattle.machine.specs.Limits.{mostStates, mostCommands, mostEntries, mostMachine, entries-few}
+use Rattle.machine.specs.Limits.{least, mostStates, mostCommands, mostEntries, mostMachine, entries-few}
 use Rattle.machine.specs.Machine.{noAnswer, pairAt, Commands}
 use Rattle.machine.specs.Causes.{outside, cause3, cause4, cause12, byteCause, commandsCause, cause10, tableCauses}
 
 -- cause 3, of the bytes and tests as the code has them
 pub cause3-is : (F : Format) (at : ℕ) (p : List ℕ) {n k : ℕ} → n ≡ getD p 0 0 → k ≡ getD p 1 0 → {a b : Bool}
-    → a ≡ outside 1 mostStates n → b ≡ outside 1 mostCommands k
+    → a ≡ outside mostStates n → b ≡ outside mostCommands k
     → (refusal 3 with at if (a || b || not (eqb (length p) (F .table + 2 * (n * k))))) ≡ cause3 F at p
 unfolding cause3
 cause3-is F at p {n} {k} ne ke {a} {b} ae be = rw (ae, be, ne, ke)
@@ -65,25 +65,25 @@ cause12-is F at p bytes =
 
 -- causes 5 and 7 look at every byte
 pub commands-cause-is : (number most k : ℕ) (at : ℕ) (w : List ℕ)
-    → ((refusal number with at if outside 1 most (length w))
+    → ((refusal number with at if outside most (length w))
     else first (length w) (byteCause number (at + header) w 0 1 k))
     ≡ commandsCause number most k at w
 unfolding commandsCause byteCause
 commands-cause-is number most k at w =
-    ap (λ (f : ℕ → Check). (refusal number with at if outside 1 most (length w)) else first (length w) f)
+    ap (λ (f : ℕ → Check). (refusal number with at if outside most (length w)) else first (length w) f)
     (fun-ext (λ i. simp (zero-add, one-mul)))
 
 -- ---- what a clear check shows
-not-outside : (least most x : ℕ) → outside least most x ≡ false → (least ≤ x) × (x ≤ most)
-not-outside least most x e =
+not-outside : (most x : ℕ) → outside most x ≡ false → (least ≤ x) × (x ≤ most)
+not-outside most x e =
     let h = neither (ltb x least) (ltb most x) e in
     (ltb-false _ _ (h .0), ltb-false _ _ (h .1))
 
 -- the shape of a machine's payload
 pub record Shape (F : Format) (p : List ℕ) : Type 0 where
-  pub some-states : 1 ≤ getD p 0 0
+  pub some-states : least ≤ getD p 0 0
   pub few-states : getD p 0 0 ≤ mostStates
-  pub some-commands : 1 ≤ getD p 1 0
+  pub some-commands : least ≤ getD p 1 0
   pub few-commands : getD p 1 0 ≤ mostCommands
   pub long : length p ≡ F .table + 2 * (getD p 0 0 * getD p 1 0)
 
@@ -93,15 +93,27 @@ clear-shape F at p e =
     let n = getD p 0 0 in
     let k = getD p 1 0 in
     let sized = not (eqb (length p) (F .table + 2 * (n * k))) in
-    let all = neither (outside 1 mostStates n || outside 1 mostCommands k) sized (clear-absent 3 at _ e) in
-    let two = neither (outside 1 mostStates n) (outside 1 mostCommands k) (all .0) in
+    let all = neither (outside mostStates n || outside mostCommands k) sized (clear-absent 3 at _ e) in
+    let two = neither (outside mostStates n) (outside mostCommands k) (all .0) in
     record {
-      some-states = not-outside 1 mostStates n (two .0) .0;
-      few-states = not-outside 1 mostStates n (two .0) .1;
-      some-commands = not-outside 1 mostCommands k (two .1) .0;
-      few-commands = not-outside 1 mostCommands k (two .1) .1;
+      some-states = not-outside mostStates n (two .0) .0;
+      few-states = not-outside mostStates n (two .0) .1;
+      some-commands = not-outside mostCommands k (two .1) .0;
+      few-commands = not-outside mostCommands k (two .1) .1;
       long = eqb-true _ _ (not-false _ (all .1));
     }
+
+-- the other direction
+pub shape-clear : (F : Format) (at : ℕ) (p : List ℕ) → Shape F p → cause3 F at p ≡ Clear
+unfolding cause3
+shape-clear F at p h =
+    absent 3 at (rw (
+      le-ltb _ _ (h .some-states),
+      le-ltb _ _ (h .few-states),
+      le-ltb _ _ (h .some-commands),
+      le-ltb _ _ (h .few-commands),
+      eq-eqb _ _ (h .long),
+    ) refl)
 
 -- a machine with few states and commands has few entries
 pub shape-entries : (F : Format) (p : List ℕ) → Shape F p → getD p 0 0 * getD p 1 0 ≤ mostEntries
@@ -114,6 +126,17 @@ entry-absent : (n k number : ℕ) (place : ℕ → ℕ) (test : ℕ → Bool)
 entry-absent n k number place test e s c sl cl =
     clear-absent number (place (s * k + c)) _
     (first-clear-at (n * k) (s * k + c) _ e (digits-lt {q = s} {m = n} {r = c} {c = k} sl cl))
+
+-- the other direction: entry e is that of state e / k and command e % k
+absent-entries : (n k number : ℕ) (place : ℕ → ℕ) (test : ℕ → Bool) → 1 ≤ k
+    → ((s c : ℕ) → s < n → c < k → test (s * k + c) ≡ false)
+    → first (n * k) (λ e. refusal number with place e if test e) ≡ Clear
+absent-entries n k number place test some h =
+    first-clear (n * k) _
+    (λ e l.
+    absent number (place e)
+    (ap test (sym (div-add-mod' e k))
+    ∙ h (e / k) (e % k) (div-lt-iff-lt-mul {k = k} {x = e} {y = n} some .1 l) (mod-lt e {m = k} some)))
 
 -- the causes of a table, written out
 pub table-causes-are : (F : Format) (at : ℕ) (p : List ℕ)
@@ -133,18 +156,17 @@ first-anywhere n number place other test e =
 -- whether a table has a cause does not depend on where it stands
 pub table-anywhere : (F : Format) (at to : ℕ) (p : List ℕ) → firstCause (tableCauses F at p) ≡ Clear
     → firstCause (tableCauses F to p) ≡ Clear
-unfolding cause3 cause4 cause12
+unfolding tableCauses cause3 cause4 cause12
 table-anywhere F at to p e =
     let entries = getD p 0 0 * getD p 1 0 in
-    let three = both-clear _ _ (sym (table-causes-are F at p) ∙ e) in
-    let four = both-clear _ _ (three .1) in
-    table-causes-are F to p
-    ∙ ap₂ _else_ (absent 3 to (clear-absent 3 at _ (three .0)))
-    (ap₂ _else_
-    (first-anywhere entries 4 (λ e. offset at (pairAt F e)) (λ e. offset to (pairAt F e)) _ (four .0))
-    (first-anywhere entries 12 (λ e. offset at (pairAt F e + 1)) (λ e. offset to (pairAt F e + 1)) _ (four .1))
-    ∙ else-clear Clear)
-    ∙ else-clear Clear
+    let h = clear-all (tableCauses F at p) e in
+    all-clear (tableCauses F to p) (
+      absent 3 to (clear-absent 3 at _ (h .0)),
+      (
+        first-anywhere entries 4 (λ e. offset at (pairAt F e)) (λ e. offset to (pairAt F e)) _ (h .1 .0),
+        (first-anywhere entries 12 (λ e. offset at (pairAt F e + 1)) (λ e. offset to (pairAt F e + 1)) _ (h .1 .1 .0), tt),
+      ),
+    )
 
 pub clear-next : (F : Format) (at : ℕ) (p : List ℕ) → cause4 F at p ≡ Clear → (s c : ℕ) → s < getD p 0 0
     → c < getD p 1 0
@@ -163,14 +185,31 @@ clear-answers F at p e s c sl cl =
     eqb-false _ _ (entry-absent (getD p 0 0) (getD p 1 0) 12 (λ i. offset at (pairAt F i + 1))
     (λ i. eqb (getD p (pairAt F i + 1) 0) noAnswer) e s c sl cl)
 
+-- the other directions
+pub next-clear : (F : Format) (at : ℕ) (p : List ℕ) → 1 ≤ getD p 1 0
+    → ((s c : ℕ) → s < getD p 0 0 → c < getD p 1 0 → getD p (pairAt F (s * getD p 1 0 + c)) 0 < getD p 0 0)
+    → cause4 F at p ≡ Clear
+unfolding cause4
+next-clear F at p some h =
+    absent-entries (getD p 0 0) (getD p 1 0) 4 (λ i. offset at (pairAt F i))
+    (λ i. leb (getD p 0 0) (getD p (pairAt F i) 0)) some (λ s c sl cl. lt-leb _ _ (h s c sl cl))
+
+pub answers-clear : (F : Format) (at : ℕ) (p : List ℕ) → 1 ≤ getD p 1 0
+    → ((s c : ℕ) → s < getD p 0 0 → c < getD p 1 0 → getD p (pairAt F (s * getD p 1 0 + c) + 1) 0 ≡ noAnswer → ⊥)
+    → cause12 F at p ≡ Clear
+unfolding cause12
+answers-clear F at p some h =
+    absent-entries (getD p 0 0) (getD p 1 0) 12 (λ i. offset at (pairAt F i + 1))
+    (λ i. eqb (getD p (pairAt F i + 1) 0) noAnswer) some (λ s c sl cl. ne-eqb _ _ (h s c sl cl))
+
 -- the commands of a word or a sequence
 pub clear-commands : (number most k : ℕ) (at : ℕ) (w : List ℕ) → commandsCause number most k at w ≡ Clear
     → Commands most k w
 unfolding commandsCause
 clear-commands number most k at w e =
-    let long = outside 1 most (length w) in
+    let long = outside most (length w) in
     let both = both-clear (refusal number with at if long) _ e in
-    let l = not-outside 1 most (length w) (clear-absent number at long (both .0)) in
+    let l = not-outside most (length w) (clear-absent number at long (both .0)) in
     record {
       some = l .0;
       few = l .1;

@@ -1,6 +1,6 @@
--- The laws of the lists of causes: what a payload shows where its own are clear, in both directions for a word and a
--- sequence; the causes of loading written out, and what a sheet shows where they are clear.
-use Prim.Native.Nat.{ℕ, _≤_, _<_}
+-- The laws of the lists of causes: what a payload shows where its own are clear, in both directions; the causes of
+-- loading written out, and what a sheet shows where they are clear.
+use Prim.Native.Nat.{ℕ, _+_, _*_, _≤_, _<_}
 use mathlib.Core.Path.{_≡_, refl, sym, ap, ap₂, _∙_}
 use mathlib.Core.Bool.{Bool, true, false}
 use mathlib.Core.List.{List, _++_, List·Memᴰ}
@@ -10,9 +10,9 @@ use lib.Seq.{take-all}
 use Rattle.sheet.specs.declared.check.Check.{Check}
 use Rattle.sheet.specs.declared.check.Check.the-variants.{Clear, Refused}
 use Rattle.sheet.specs.declared.reader.Needs.{Needs}
-use Rattle.sheet.specs.Check.{_else_, firstCause}
+use Rattle.sheet.specs.Check.{_else_, firstCause, AllClear}
 use Rattle.sheet.specs.Check.Laws.{else-clear, refusal-stays, both-clear, cause-none, cause-one, cause-two}
-use Rattle.sheet.specs.Check.Laws.{cause-append}
+use Rattle.sheet.specs.Check.Laws.{cause-append, clear-all, all-clear}
 use Rattle.sheet.specs.Format.{Format, standard}
 use Rattle.sheet.specs.Reader.{sheetCauses, when, needed, Reads, machinePayload, wordIn, sequenceIn, machineRecord}
 use Rattle.sheet.specs.Reader.{wordRecord, sequenceRecord}
@@ -22,16 +22,18 @@ use Rattle.machine.specs.Machine.{Mealy, machineOf, Proper, AlwaysAnswer
 use Rattle.machine.specs.Causes.{cause3, cause4, cause12, cause5, cause7, cause6, machineIn, held, tableCauses}
 use Rattle.machine.specs.Causes.{wordCauses, sequenceCauses, tableCausesIn, wordCausesIn, sequenceCausesIn}
 use Rattle.machine.specs.Causes.{machineCauses, loadCauses}
-use Rattle.machine.specs.Causes.Laws.{Shape, clear-shape, shape-entries, clear-next, clear-answers}
+use Rattle.machine.specs.Causes.Laws.{Shape, clear-shape, shape-clear, shape-entries, clear-next, next-clear}
+use Rattle.machine.specs.Causes.Laws.{clear-answers, answers-clear}
 use Rattle.machine.specs.Causes.Laws.{clear-commands, table-causes-are, commands-clear, shape-long, commands-long}
 use Rattle.machine.specs.Causes.Separation.{clear-separates, separates-clear}
 
 -- ---- a machine's payload
 module _ (F : Format) (at : ℕ) (p : List ℕ) (e : firstCause (tableCauses F at p) ≡ Clear) where
-  table-clear : (cause3 F at p ≡ Clear) × ((cause4 F at p else cause12 F at p) ≡ Clear)
-  table-clear = both-clear _ _ (sym (table-causes-are F at p) ∙ e)
+  table-clear : AllClear (tableCauses F at p)
+  table-clear = clear-all (tableCauses F at p) e
 
   pub table-shape : Shape F p
+  unfolding tableCauses
   table-shape = clear-shape F at p (table-clear .0)
 
   -- it has at most the bytes of the largest machine, so that its machine is the one that is loaded
@@ -43,19 +45,40 @@ module _ (F : Format) (at : ℕ) (p : List ℕ) (e : firstCause (tableCauses F a
 
   -- its machine is within the limits, and each of its entries specifies an answer
   pub table-proper : Proper (machineOf F p)
-  unfolding machineOf
+  unfolding machineOf tableCauses
   table-proper = record {
     some-states = table-shape .some-states;
     few-states = table-shape .few-states;
     some-commands = table-shape .some-commands;
     few-commands = table-shape .few-commands;
     starts = table-shape .some-states;
-    stays = clear-next F at p (both-clear _ _ (table-clear .1) .0);
+    stays = clear-next F at p (table-clear .1 .0);
   }
 
   pub table-answers : AlwaysAnswers (machineOf F p)
-  unfolding machineOf
-  table-answers = clear-answers F at p (both-clear _ _ (table-clear .1) .1)
+  unfolding machineOf tableCauses
+  table-answers = clear-answers F at p (table-clear .1 .1 .0)
+
+-- the other direction: no cause of a payload of the right length whose machine is so
+pub proper-clear : (F : Format) (at : ℕ) (p : List ℕ)
+    → length p ≡ F .table + 2 * (machineOf F p .n * machineOf F p .k)
+    → Proper (machineOf F p) → AlwaysAnswers (machineOf F p) → firstCause (tableCauses F at p) ≡ Clear
+unfolding machineOf tableCauses
+proper-clear F at p long h answers =
+    let shape : Shape F p = record {
+      some-states = h .some-states;
+      few-states = h .few-states;
+      some-commands = h .some-commands;
+      few-commands = h .few-commands;
+      long = long;
+    } in
+    all-clear (tableCauses F at p) (
+      shape-clear F at p shape,
+      (
+        next-clear F at p (h .some-commands) (h .stays),
+        (answers-clear F at p (h .some-commands) answers, tt),
+      ),
+    )
 
 pub table-long : (F : Format) (at : ℕ) (p : List ℕ) → mostMachine F < length p
     → firstCause (tableCauses F at p) ≡ Refused 3 at

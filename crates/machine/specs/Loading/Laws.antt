@@ -20,9 +20,10 @@ loaded-proper n s h e = rw (h .machine e) (load-proper n s (sym (h .check) ∙ e
 -- a list that goes on where the other is clear
 pub loaded-more : (causes more : List Check) (s : List ℕ) {l : Loaded} → LoadedBy causes s l → (d : Check)
     → firstCause more ≡ (firstCause causes else d) → {c : Check} → c ≡ (l .check else d)
-    → LoadedBy more s (record { check = c; machine = l .machine })
+    → LoadedBy more s (record { check = c; machine = l .machine; records = l .records })
 loaded-more causes more s {l} h d e ce = record {
   check = ce ∙ ap (λ (x : Check). x else d) (h .check) ∙ sym e;
   machine = λ t. h .machine (both-clear (l .check) d (sym ce ∙ t) .0);
   holds = h .holds;
+  records = h .records;
 }

@@ -1,7 +1,7 @@
 -- The laws of checks: how a cause, two checks in a row, a list of causes and a first cause answer.
 use Prim.Native.Nat.{ℕ, zero, suc, _+_, _*_, _≤_, _<_}
 use mathlib.Core.Path.{_≡_, refl, sym, ap, _∙_}
-use mathlib.Core.Bool.{Bool, true, false}
+use mathlib.Core.Bool.{Bool, true, false, _||_}
 use mathlib.Core.List.{List, [], _∷_, _++_}
 use native.Mathlib.Omega.{arith}
 use native.Mathlib.Nat.{le-of-suc-le-suc, eq-or-lt-of-le, not-suc-le-zero, add-zero, add-suc, zero-mul, suc-mul}
@@ -9,7 +9,7 @@ use native.Mathlib.Numerals.{add-one}
 use mathlib.Core.Logic.{_⊎_, inl, inr}
 use Rattle.sheet.specs.declared.check.Check.{Check}
 use Rattle.sheet.specs.declared.check.Check.the-variants.{Clear, Refused}
-use Rattle.sheet.specs.Check.{refusal_with_if_, _else_, firstCause, first}
+use Rattle.sheet.specs.Check.{refusal_with_if_, _else_, firstCause, AllClear, first}
 
 -- a refusal is not clear
 pub clear-refused : {A : Type 0} {n p : ℕ} {c : Check} → c ≡ Clear → c ≡ Refused n p → A
@@ -56,6 +56,13 @@ pub goes-on : (c d : Check) {e k : Check} → e ≡ (c else d) → k ≡ c → k
 unfolding _else_
 goes-on c d ee ke h = rw (ee, ← ke, h) refl
 
+-- two causes with one number and place
+pub either-there : (n p : ℕ) (a b : Bool)
+    → ((refusal n with p if a) else (refusal n with p if b)) ≡ (refusal n with p if (a || b))
+unfolding refusal_with_if_ _else_
+either-there n p true b = refl
+either-there n p false b = refl
+
 pub else-end : (c : Check) → (c else Clear) ≡ c
 unfolding _else_
 else-end Clear = refl
@@ -93,6 +100,17 @@ cause-one c = else-end c
 
 pub cause-two : (c d : Check) → firstCause (c ∷ d ∷ []) ≡ (c else d)
 cause-two c d = cause-cons c (d ∷ []) ∙ ap (λ (x : Check). c else x) (cause-one d)
+
+-- none is the first where none is present, and the other way round
+pub clear-all : (cs : List Check) → firstCause cs ≡ Clear → AllClear cs
+clear-all [] e = tt
+clear-all (c ∷ cs) e =
+    let both = both-clear c (firstCause cs) (sym (cause-cons c cs) ∙ e) in
+    (both .0, clear-all cs (both .1))
+
+pub all-clear : (cs : List Check) → AllClear cs → firstCause cs ≡ Clear
+all-clear [] h = cause-none
+all-clear (c ∷ cs) h = rw (cause-cons c cs, h .0, all-clear cs (h .1)) (else-clear Clear)
 
 pub cause-append : (cs ds : List Check) → firstCause (cs ++ ds) ≡ (firstCause cs else firstCause ds)
 unfolding firstCause _else_

@@ -13,15 +13,16 @@ use Rattle.facts.specs.Lists.{among, Each, each-among}
 use Rattle.facts.specs.Bytes.{Bytes}
 use Rattle.sheet.specs.declared.check.Check.the-variants.{Clear}
 use Rattle.sheet.specs.declared.record.Record.{Record}
-use Rattle.sheet.specs.declared.record.Kind.{Kind}
-use Rattle.sheet.specs.declared.record.Kind.the-variants.{Machine, Word, Sequence, Answers, Unknown}
+use Rattle.sheet.specs.declared.format.Role.{Role}
+use Rattle.sheet.specs.declared.format.Role.the-variants.{Machine, Word, Sequence, Answers, Unknown}
+use Rattle.sheet.specs.declared.record.Found.{Found}
 use Rattle.sheet.specs.declared.record.Found.the-variants.{At}
 use Rattle.sheet.specs.Check.{firstCause}
-use Rattle.sheet.specs.Check.Laws.{clear-absent, both-clear, cause-cons}
-use Rattle.sheet.specs.Format.{Format, standard, header, end, kindOf, rank, parsed, ofKind, _or_, find}
+use Rattle.sheet.specs.Check.Laws.{clear-absent, else-clear, both-clear, cause-cons}
+use Rattle.sheet.specs.Format.{Format, standard, header, end, roleOf, rank, parsed, ofKind, _or_, find}
 use Rattle.sheet.specs.Format.Laws.{none-found}
-use Rattle.sheet.specs.Reader.{isMissing, missing, sheetCauses, recordOf, content}
-use Rattle.sheet.specs.Reader.Laws.{at-found, causes-clear, sheet-short}
+use Rattle.sheet.specs.Reader.{isMissing, missing, sheetCauses, recordOr, recordOf, content}
+use Rattle.sheet.specs.Reader.Laws.{at-found, found-clear, causes-clear, sheet-short}
 use Rattle.sheet.specs.Joining.{joined, placed, InOrder, payloadOf, contents, recordIn, rolesOf, Successive}
 use Rattle.sheet.specs.Joining.{bytesOf, has, Lacks, Adjacent, lastEnd}
 use Rattle.sheet.specs.Joining.Laws.{joined-none, joined-one, joined-long, joined-append, missing-placed}
@@ -37,7 +38,7 @@ pub record Front (F : Format) (s : List ℕ) (at last : ℕ) (roles : List (List
   pub ends : lastEnd F s at roles ≡ at + length (joined (map (recordIn F s) roles))
 
 -- ---- the roles behind the first ones
-rank-four : (k : Kind) → rank k ≤ 4
+rank-four : (k : Role) → rank k ≤ 4
 rank-four Machine = omega arith
 rank-four Word = omega arith
 rank-four Sequence = omega arith
@@ -45,9 +46,9 @@ rank-four Answers = omega arith
 rank-four Unknown = omega arith
 
 -- a known kind is one of those of the role that has its rank
-ranked : (F : Format) (k : ℕ) → 0 < rank (kindOf F k)
-    → among k (getD (rolesOf F) (rank (kindOf F k) - 1) []) ≡ true
-unfolding kindOf
+ranked : (F : Format) (k : ℕ) → 0 < rank (roleOf F k)
+    → among k (getD (rolesOf F) (rank (roleOf F k) - 1) []) ≡ true
+unfolding roleOf
 ranked F k l = elim (true-or-false (among k (F .machine))) [
   | inl e ↦ rw (e, e)
   | inr a ↦ (elim (true-or-false (among k (F .word))) [
@@ -91,29 +92,29 @@ module _ (F : Format) (s : List ℕ) where
 
   -- that of a role of rank n is the first of them, or one of the others
   first-or : (at : ℕ) (c : ℕ × List ℕ) (cs : List (ℕ × List ℕ)) (n : ℕ) (ks : List ℕ)
-      → Each (λ k. rank (kindOf F k) ≡ n) ks → Here at (c ∷ cs) ks
-      → ((rank (kindOf F (c .0)) ≡ n) × (recordOf F ks s ≡ new at c) × (recordIn F s ks ≡ c))
+      → Each (λ k. rank (roleOf F k) ≡ n) ks → Here at (c ∷ cs) ks
+      → ((rank (roleOf F (c .0)) ≡ n) × (recordOf F ks s ≡ new at c) × (recordIn F s ks ≡ c))
       ⊎ Here (end (new at c)) cs ks
   unfolding find ofKind _or_ end
   first-or at c cs n ks u h = elim (true-or-false (among (c .0) ks)) [
     | inl e ↦ (let is : recordOf F ks s ≡ new at c = cc (rw e at (h .0)) in
         let same : recordIn F s ks ≡ c = ap₂ (λ (r : Record) (xs : List ℕ). (r .kind, xs)) is (sym (rw e at (h .1))) in
-        inl (each-among (λ k. rank (kindOf F k) ≡ n) (c .0) ks u e, is, same))
+        inl (each-among (λ k. rank (roleOf F k) ≡ n) (c .0) ks u e, is, same))
     | inr e ↦ inr (rw e at (h .0), rw e at (h .1))
   ]
 
   -- its rank is above that before
-  later : (cs : List (ℕ × List ℕ)) (at last n : ℕ) (ks : List ℕ) → Each (λ k. rank (kindOf F k) ≡ n) ks
+  later : (cs : List (ℕ × List ℕ)) (at last n : ℕ) (ks : List ℕ) → Each (λ k. rank (roleOf F k) ≡ n) ks
       → InOrder F last cs → Here at cs ks → last < n
   later [] at last n ks u h t = none-found ks (t .0)
   later (c ∷ cs) at last n ks u h t = elim (first-or at c cs n ks u t) [
     | inl x ↦ omega (arith, x .0, h .0)
-    | inr y ↦ omega (arith, later cs (end (new at c)) (rank (kindOf F (c .0))) n ks u (h .3) y, h .0)
+    | inr y ↦ omega (arith, later cs (end (new at c)) (rank (roleOf F (c .0))) n ks u (h .3) y, h .0)
   ]
 
   -- behind a record of a lower rank all are found that were
   found-behind : (at : ℕ) (c : ℕ × List ℕ) (cs : List (ℕ × List ℕ)) (n : ℕ) (roles : List (List ℕ))
-      → rank (kindOf F (c .0)) ≤ n → Successive F n roles → AllHere at (c ∷ cs) roles
+      → rank (roleOf F (c .0)) ≤ n → Successive F n roles → AllHere at (c ∷ cs) roles
       → AllHere (end (new at c)) cs roles
   found-behind at c cs n [] l u t = tt
   found-behind at c cs n (ks ∷ roles) l u t =
@@ -150,7 +151,7 @@ module _ (F : Format) (s : List ℕ) where
           ends = rw (x .2, x .1) (omega (arith, joined-long c (map (recordIn F s) roles), more .ends));
         })
     | inr y ↦ (let z : ⊥ =
-        omega (arith, later cs (end (new at c)) (rank (kindOf F (c .0))) (last + 1) ks (u .0) (h .3) y, h .0) in
+        omega (arith, later cs (end (new at c)) (rank (roleOf F (c .0))) (last + 1) ks (u .0) (h .3) y, h .0) in
         absurd z)
   ]
 
@@ -165,7 +166,10 @@ module _ (F : Format) (s : List ℕ) (bytes : Bytes s) (roles : List (List ℕ))
   all-here [] e = tt
   all-here (ks ∷ qs) e =
       let h = both-clear (missing F s ks) (firstCause (map (missing F s) qs)) (sym (cause-cons _ _) ∙ e) in
-      let found = at-found (find ks (parsed F s .records)) (clear-absent 2 (length s) _ (h .0)) in
+      let w = causes-clear F roles s clear in
+      let found-is = found-clear F ks s (rw (w .0, w .1) (else-clear Clear)) in
+      let found = at-found (find ks (parsed F s .records)) (clear-absent 2 (length s) _ (h .0))
+      ∙ ap (λ (f : Found). At (recordOr f)) (sym found-is) in
       let is = whole F s bytes stop in
       let short = subst (λ (t : List ℕ). length t ≤ F .longest) is (sheet-short F roles s clear) in
       let reads = content-joined F (contents F s) (contents-in-order F s bytes stop) short ks in
@@ -198,7 +202,7 @@ module _ (F : Format) (s : List ℕ) (bytes : Bytes s) (roles : List (List ℕ))
   others-none lacks [] e = refl
   others-none lacks (c ∷ cs) e =
       let above : InOrder F (0 + length roles) (c ∷ cs) = subst (InOrder F (0 + length roles)) e (front .order) in
-      let r = rank (kindOf F (c .0)) in
+      let r = rank (roleOf F (c .0)) in
       let ks = getD (rolesOf F) (r - 1) [] in
       let there : has ks (contents F s) ≡ true =
       ap (has ks) (front .is ∙ ap (λ (q : List (ℕ × List ℕ)). map (recordIn F s) roles ++ q) e)
@@ -206,7 +210,7 @@ module _ (F : Format) (s : List ℕ) (bytes : Bytes s) (roles : List (List ℕ))
       let found : isMissing (find ks (parsed F s .records)) ≡ false =
       ap (λ (q : List Record). isMissing (find ks q)) (sym (contents-placed F s bytes stop))
       ∙ missing-placed ks (contents F s) 0 ∙ ap not there in
-      let low : r - 1 < length (rolesOf F) = omega (arith, above .0, rank-four (kindOf F (c .0))) in
+      let low : r - 1 < length (rolesOf F) = omega (arith, above .0, rank-four (roleOf F (c .0))) in
       let missed = lacking F s (rolesOf F) (length roles) (r - 1) lacks (omega (arith, above .0)) low in
       absurd (true≢false (sym missed ∙ found))
 

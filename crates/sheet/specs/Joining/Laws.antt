@@ -12,20 +12,19 @@ use Rattle.facts.specs.Tests.{true-or-false, both-true}
 use Rattle.facts.specs.Lists.{among, among-one}
 use Rattle.sheet.specs.declared.check.Check.the-variants.{Clear}
 use Rattle.sheet.specs.declared.record.Found.{Found}
-use Rattle.sheet.specs.declared.record.Found.the-variants.{At, Missing}
 use Rattle.sheet.specs.declared.reader.Part.{Part}
 use Rattle.sheet.specs.Check.{refusal_with_if_, firstCause}
 use Rattle.sheet.specs.Check.Laws.{absent, else-clear, cause-none, cause-cons, cause-one}
-use Rattle.sheet.specs.Format.{Format, standard, header, recordAt, end, kindOf, rank, Parsed, _before_, parse}
+use Rattle.sheet.specs.Format.{Format, standard, header, recordAt, end, roleOf, rank, Parsed, _before_, parse}
 use Rattle.sheet.specs.Format.{parsed, ofKind, _or_, find}
 use Rattle.sheet.specs.Format.Laws.{parse-end, parse-as, parsed-is}
-use Rattle.sheet.specs.Reader.{isMissing, missing, sheetCauses, refusalOf, recordOr, recordOf, payloadPart}
-use Rattle.sheet.specs.Reader.{partWhen, part, partBytes, content, Reads}
-use Rattle.sheet.specs.Reader.Laws.{needed-clear, clear-reads}
+use Rattle.sheet.specs.Reader.{tooLong, isMissing, missing, sheetCauses, refusalOf, foundIn, recordOr, recordOf}
+use Rattle.sheet.specs.Reader.{payloadPart, part, partBytes, content, Reads}
+use Rattle.sheet.specs.Reader.Laws.{found-clear, needed-clear, clear-reads}
 use Rattle.sheet.specs.Writing.{headerOf, Puts}
 use Rattle.sheet.specs.Writing.Laws.{header-size, record-size, header-reads, puts-same, puts-append}
 use Rattle.sheet.specs.Joining.{bytesOf, joined, placed, InOrder, payloadOf, has, hasAll, recordIn, rolesOf}
-use Rattle.sheet.specs.Joining.{Successive, fresh}
+use Rattle.sheet.specs.Joining.{Successive, fresh, heldBy, contents}
 
 -- ---- the bytes
 -- no records have no bytes
@@ -105,6 +104,16 @@ payload-placed ks (r ∷ rs) pre at e = elim (true-or-false (among (r .0) ks)) [
       (payload-placed ks rs (pre ++ bytesOf r) (at + header + length (r .1)) (behind pre r (joined rs) at e))
 ]
 
+-- the kinds and payloads of placed records are those that were placed
+held-placed : (rs : List (ℕ × List ℕ)) (pre : List ℕ) (at : ℕ) → length pre ≡ at
+    → heldBy (pre ++ joined rs) (placed at rs) ≡ rs
+unfolding partBytes joined
+held-placed [] pre at e = refl
+held-placed (r ∷ rs) pre at e =
+    ap₂ _∷_ (ap (λ (p : List ℕ). (r .0, p)) (payload-there pre r (joined rs) at e))
+    (rw (← append-assoc pre (bytesOf r) (joined rs))
+    (held-placed rs (pre ++ bytesOf r) (at + header + length (r .1)) (behind pre r (joined rs) at e)))
+
 module _ (F : Format) where
   -- ---- the parsing, behind any bytes
   parse-joined : (rs : List (ℕ × List ℕ)) (pre : List ℕ) (at last : ℕ) → length pre ≡ at → InOrder F last rs
@@ -117,30 +126,41 @@ module _ (F : Format) where
       let next : length (pre ++ bytesOf r) ≡ at + header + length (r .1) = behind pre r (joined rs) at e in
       let long : length (pre ++ bytesOf r) + length (joined rs) ≡ length s =
       sym (length-append (pre ++ bytesOf r) (joined rs)) ∙ ap length same in
-      parse-as F s at last (record-there pre r (joined rs) at e (h .1) (h .2)) (omega arith) (omega arith) (h .0)
+      parse-as F s at last (record-there pre r (joined rs) at e (h .1) (h .2)) (omega arith) (h .0)
       ∙ ap (λ (w : Parsed). record { start = at; size = length (r .1); kind = r .0 } before w)
-      (rw (← same) (parse-joined rs (pre ++ bytesOf r) _ (rank (kindOf F (r .0))) next (h .3)))
+      (rw (← same) (parse-joined rs (pre ++ bytesOf r) _ (rank (roleOf F (r .0))) next (h .3)))
 
   module _ (rs : List (ℕ × List ℕ)) (order : InOrder F 0 rs) where
     -- joined records parse as they were placed, and nothing stops the parsing
     pub parsed-joined : parsed F (joined rs) ≡ record { records = placed 0 rs; stop = Clear }
     parsed-joined = parsed-is F (joined rs) ∙ parse-joined rs [] 0 0 refl order
 
+    -- so they are what the sheet holds
+    pub contents-joined : contents F (joined rs) ≡ rs
+    contents-joined = ap (λ (w : Parsed). heldBy (joined rs) (w .records)) parsed-joined ∙ held-placed rs [] 0 refl
+
     find-joined : (ks : List ℕ) → find ks (parsed F (joined rs) .records) ≡ find ks (placed 0 rs)
     find-joined ks = ap (λ (w : Parsed). find ks (w .records)) parsed-joined
 
-    -- the record of a role is the placed one
-    pub record-joined : (ks : List ℕ) → recordOf F ks (joined rs) ≡ recordOr (find ks (placed 0 rs))
-    unfolding recordOf
-    record-joined ks = ap recordOr (find-joined ks)
-
     module _ (short : length (joined rs) ≤ F .longest) where
+      fits : tooLong F (joined rs) ≡ Clear
+      fits = absent 1 (F .longest) (le-ltb (F .longest) (length (joined rs)) short)
+
+      -- nothing but a missing record is refused, so what reading finds of a role is the placed record
+      pub found-joined : (ks : List ℕ) → foundIn F ks (joined rs) ≡ find ks (placed 0 rs)
+      found-joined ks =
+          found-clear F ks (joined rs) (rw (fits, ap (λ (w : Parsed). w .stop) parsed-joined) (else-clear Clear))
+          ∙ find-joined ks
+
+      pub record-joined : (ks : List ℕ) → recordOf F ks (joined rs) ≡ recordOr (find ks (placed 0 rs))
+      unfolding recordOf
+      record-joined ks = ap recordOr (found-joined ks)
+
       -- the causes are those of the roles that have no record
       causes-are : (roles : List (List ℕ))
           → firstCause (sheetCauses F roles (joined rs)) ≡ firstCause (map (missing F (joined rs)) roles)
       unfolding sheetCauses
       causes-are roles =
-          let fits = absent 1 (F .longest) (le-ltb (F .longest) (length (joined rs)) short) in
           let stop = ap (λ (w : Parsed). w .stop) parsed-joined in
           rw (cause-cons, fits, else-clear, cause-cons, stop, else-clear)
 
@@ -155,12 +175,8 @@ module _ (F : Format) where
 
       -- what is read of a role is the payload of the placed record
       pub part-joined : (ks : List ℕ) → part F ks (joined rs) ≡ payloadPart (find ks (placed 0 rs))
-      unfolding part refusal_with_if_
-      part-joined ks = ap₂ partWhen (refusal-joined ks) (find-joined ks) ∙ go (find ks (placed 0 rs))
-        where
-          go : (f : Found) → partWhen (refusal 2 with length (joined rs) if isMissing f) f ≡ payloadPart f
-          go (At r) = refl
-          go Missing = refl
+      unfolding part
+      part-joined ks = ap payloadPart (found-joined ks)
 
       -- that is, its bytes
       pub content-joined : (ks : List ℕ) → content F ks (joined rs) ≡ payloadOf ks rs
@@ -184,7 +200,7 @@ module _ (F : Format) where
 -- ---- the roles of the format that the services take
 -- their ranks follow each other
 pub standard-roles : Successive standard 0 (rolesOf standard)
-unfolding kindOf
+unfolding roleOf
 standard-roles = ((refl, tt), ((refl, tt), ((refl, tt), ((refl, tt), tt))))
 
 -- ---- the record of a role that has one kind

@@ -1,7 +1,7 @@
 -- A sheet without causes 1 and 2 is the joining of what it holds.
 use Prim.Native.Nat.{ℕ, _+_, _^_, _≤_, _<_}
 use mathlib.Core.Path.{_≡_, refl}
-use mathlib.Core.List.{List, _∷_, _++_, map, append-assoc}
+use mathlib.Core.List.{List, _∷_, _++_, append-assoc}
 use native.Mathlib.Omega.{arith}
 use native.Mathlib.Numerals.{add-one}
 use lib.ListN.{length, getD, take, drop, length-drop, take-append-drop, drop-of-length-le}
@@ -9,23 +9,18 @@ use lib.Seq.{drop-cons, drop-drop, length-take-le}
 use Rattle.facts.specs.Bytes.{Bytes, of-two-bytes, of-four-bytes}
 use Rattle.sheet.specs.declared.check.Check.the-variants.{Clear}
 use Rattle.sheet.specs.declared.record.Record.{Record}
-use Rattle.sheet.specs.declared.record.Found.the-variants.{At}
 use Rattle.sheet.specs.Check.Laws.{clear-refused}
-use Rattle.sheet.specs.Format.{Format, header, recordAt, end, kindOf, rank, parse, parsed}
+use Rattle.sheet.specs.Format.{Format, header, recordAt, end, roleOf, rank, parse, parsed}
 use Rattle.sheet.specs.Format.Laws.{end-after, clear-inside, clear-rank, parse-induction}
-use Rattle.sheet.specs.Reader.{payloadPart, partBytes}
+use Rattle.sheet.specs.Reader.{partBytes}
 use Rattle.sheet.specs.Writing.{headerOf}
-use Rattle.sheet.specs.Joining.{joined, placed, InOrder, contents}
-
--- kind and payload of records of a sheet
-abbrev held : List ℕ → List Record → List (ℕ × List ℕ)
-held s qs = map (λ r. (r .kind, partBytes (payloadPart (At r)) s)) qs
+use Rattle.sheet.specs.Joining.{joined, placed, InOrder, heldBy, contents}
 
 -- what a sheet holds from an offset on, behind a record of rank last
 record Holds (F : Format) (s : List ℕ) (at last : ℕ) (qs : List Record) : Type 0 where
-  pub bytes : drop at s ≡ joined (held s qs)
-  pub order : InOrder F last (held s qs)
-  pub places : placed at (held s qs) ≡ qs
+  pub bytes : drop at s ≡ joined (heldBy s qs)
+  pub order : InOrder F last (heldBy s qs)
+  pub places : placed at (heldBy s qs) ≡ qs
 
 -- a record whose header stands in a sheet, each number in its bytes
 record Headed (s : List ℕ) (r : Record) : Type 0 where
@@ -59,7 +54,7 @@ module _ (s : List ℕ) (bytes : Bytes s) where
 
 -- a record, and what the sheet holds behind it
 one-more : (F : Format) (s : List ℕ) (last : ℕ) (r : Record) (qs : List Record) → Headed s r → end r ≤ length s
-    → last < rank (kindOf F (r .kind)) → Holds F s (end r) (rank (kindOf F (r .kind))) qs
+    → last < rank (roleOf F (r .kind)) → Holds F s (end r) (rank (roleOf F (r .kind))) qs
     → Holds F s (r .start) last (r ∷ qs)
 unfolding joined partBytes end
 one-more F s last r qs head inside above h =

@@ -1,25 +1,25 @@
 -- The places of causes 1 and 2 lie inside the longest sheet, and so do the offsets in the payloads of a sheet that has
 -- neither. Reading a sheet of bytes gives bytes.
-use Prim.Native.Nat.{ℕ, _+_, _≤_, _<_}
+use Prim.Native.Nat.{ℕ, _≤_, _<_}
 use mathlib.Core.Path.{_≡_, refl, sym, ap}
 use mathlib.Core.List.{List, [], _∷_, map}
 use native.Mathlib.Omega.{arith}
 use lib.ListN.{length, length-take}
 use borrow.Author.Tests.{ltb-false}
 use Rattle.facts.specs.Bytes.{Bytes, bytes-part}
-use Rattle.sheet.specs.declared.check.Check.{Check}
-use Rattle.sheet.specs.declared.check.Check.the-variants.{Clear, Refused}
+use Rattle.sheet.specs.declared.check.Check.the-variants.{Clear}
 use Rattle.sheet.specs.declared.record.Found.{Found}
 use Rattle.sheet.specs.declared.record.Found.the-variants.{At, Missing}
 use Rattle.sheet.specs.Check.{firstCause}
 use Rattle.sheet.specs.Check.Laws.{clear-absent}
 use Rattle.sheet.specs.Check.Bounds.{WhereRefused, place-clear, place-of, place-cause, place-else, place-cons}
 use Rattle.sheet.specs.Check.Bounds.{place-map}
-use Rattle.sheet.specs.Format.{Format, standard, longest, offset, cause1, cause2, causeAt, Parsed, parsed, find}
-use Rattle.sheet.specs.Format.Laws.{parsed-is, parse-induction}
+use Rattle.sheet.specs.Format.{Format, standard, longest, recordAt, offset, cause1, cause2, causeOf, causeAt}
+use Rattle.sheet.specs.Format.{Parsed, parsed, find}
+use Rattle.sheet.specs.Format.Laws.{start-at, end-size, parsed-is, parse-induction}
 use Rattle.sheet.specs.Reader.{tooLong, isMissing, missing, sheetCauses, refusalOf, recordOr, recordOf}
-use Rattle.sheet.specs.Reader.{payloadPart, partWhen, part, partBytes, content}
-use Rattle.sheet.specs.Reader.Laws.{payload-inside, record-inside, sheet-short}
+use Rattle.sheet.specs.Reader.{foundIn, payloadPart, within, part, partBytes, content}
+use Rattle.sheet.specs.Reader.Laws.{within-inside, found-within, record-inside, sheet-short}
 
 -- ---- causes 1 and 2
 -- a refusal that the capture rig's number can hold: its number is below the results' classes, which begin with 100, and
@@ -30,11 +30,13 @@ pub record Small (n p : ℕ) : Type 0 where
 
 module _ (s : List ℕ) (short : length s ≤ longest) where
   at-small : (at last : ℕ) → at < length s → WhereRefused Small (causeAt standard s at last)
-  unfolding causeAt cause1 cause2
+  unfolding causeOf cause1 cause2
   at-small at last l =
-      place-else Small (cause1 s at) (cause2 standard s at last)
-      (place-cause Small 1 at _ (λ t. record { number = omega arith; place = omega arith }))
-      (λ q. place-cause Small 2 at _ (λ t. record { number = omega arith; place = omega arith }))
+      let r = recordAt s at in
+      let start = start-at s at in
+      place-else Small (cause1 (length s) r) (cause2 standard r last)
+      (place-cause Small 1 (r .start) _ (λ t. record { number = omega arith; place = omega arith }))
+      (λ q. place-cause Small 2 (r .start) _ (λ t. record { number = omega arith; place = omega arith }))
 
   stop-small : WhereRefused Small (parsed standard s .stop)
   stop-small =
@@ -64,20 +66,18 @@ unfolding refusalOf
 read-short ks s e = omega (arith, record-inside standard ks s, sheet-short standard (ks ∷ []) s e)
 
 -- ---- offsets in what reading gives
-offset-of : (s : List ℕ) (c : Check) (f : Found) → payloadPart f .from + payloadPart f .size ≤ length s → (i : ℕ)
-    → i < length (partBytes (partWhen c f) s) → offset (recordOr f .start) i < length s
+offset-of : (s : List ℕ) (f : Found) → within s f ≡ f → (i : ℕ) → i < length (partBytes (payloadPart f) s)
+    → offset (recordOr f .start) i < length s
 unfolding partBytes
-offset-of s Clear (At r) h i l = let k = simp length-take at l in omega arith
-offset-of s Clear Missing h i l = let z : ⊥ = omega arith in absurd z
-offset-of s (Refused n p) f h i l = let z : ⊥ = omega arith in absurd z
+offset-of s (At r) h i l = let k = simp length-take at l in omega (arith, end-size r, within-inside s r h)
+offset-of s Missing h i l = let z : ⊥ = omega arith in absurd z
 
 -- they lie inside the sheet
 pub offset-inside : (F : Format) (ks s : List ℕ) (i : ℕ) → i < length (content F ks s)
     → offset (recordOf F ks s .start) i < length s
 unfolding recordOf content part
 offset-inside F ks s i l =
-    offset-of s (refusalOf F ks s) (find ks (parsed F s .records))
-    (payload-inside F s ks (find ks (parsed F s .records)) refl) i l
+    offset-of s (foundIn F ks s) (found-within F ks s (foundIn F ks s) refl) i l
 
 -- ---- bytes
 pub content-bytes : (F : Format) (ks s : List ℕ) → Bytes s → Bytes (content F ks s)

@@ -1,13 +1,14 @@
 -- The laws of checks 1 and 2 of a whole sheet and of the reader.
 use Prim.Native.Nat.{ℕ, _+_, _≤_, _<_}
-use mathlib.Core.Path.{_≡_, refl, sym, ap, _∙_}
-use mathlib.Core.Bool.{Bool, true, false, true≢false, _&&_}
+use mathlib.Core.Path.{_≡_, refl, sym, ap, ap₂, _∙_}
+use mathlib.Core.Bool.{Bool, true, false, true≢false, _&&_, _||_, or-false}
 use mathlib.Core.Logic.{inl, inr}
-use mathlib.Core.List.{List, [], _∷_, _++_, map, map-append, List·Memᴰ, List·Memᴰ·head, List·Memᴰ·tail}
+use mathlib.Core.List.{List, [], _∷_, _++_, map, map-append, append-nil, List·Memᴰ, List·Memᴰ·head, List·Memᴰ·tail}
 use mathlib.Core.List.{Memᴰ·append-left, List·Memᴰ·cases-cons, List·Memᴰ·not-nil}
 use native.Mathlib.Omega.{arith}
 use lib.ListN.{length, length-take}
-use borrow.Author.Tests.{eqb-true, ltb-false}
+use lib.Dec.{leb}
+use borrow.Author.Tests.{eqb-true, ltb-false, lt-ltb, le-ltb, leb-true, le-leb}
 use Rattle.facts.specs.Tests.{true-or-false}
 use Rattle.facts.specs.Lists.{among, among-one}
 use Rattle.sheet.specs.declared.check.Check.{Check}
@@ -15,69 +16,88 @@ use Rattle.sheet.specs.declared.check.Check.the-variants.{Clear, Refused
 use Rattle.sheet.specs.declared.record.Record.{Record}
 use Rattle.sheet.specs.declared.record.Found.{Found}
 use Rattle.sheet.specs.declared.record.Found.the-variants.{At, Missing}
-use Rattle.sheet.specs.declared.reader.Part.{Part}
 use Rattle.sheet.specs.declared.reader.Needs.{Needs}
+use Rattle.sheet.specs.declared.parse.Reading.{Reading}
 use Rattle.sheet.specs.Check.{refusal_with_if_, _else_, firstCause}
-use Rattle.sheet.specs.Check.Laws.{absent, present, clear-absent, else-clear, both-clear, cause-none, cause-cons}
-use Rattle.sheet.specs.Check.Laws.{cause-one, cause-two, cause-append}
-use Rattle.sheet.specs.Format.{Format, recordAt, end, kindOf, rank, causeAt, Parsed, parsed, find}
+use Rattle.sheet.specs.Check.Laws.{absent, present, clear-absent, else-clear, else-assoc, both-clear, refusal-stays}
+use Rattle.sheet.specs.Check.Laws.{clear-refused, either-there, cause-none, cause-cons, cause-one, cause-append}
+use Rattle.sheet.specs.Format.{Format, standard, recordAt, end, roleOf, rank, causeAt, Parsed, parsed, find}
+use Rattle.sheet.specs.Format.{recordsBy, noRecords, recordsAmong, ofRole}
 use Rattle.sheet.specs.Format.Laws.{clear-inside, clear-rank, parsed-is, parse-induction, none-found, found-cons}
-use Rattle.sheet.specs.Reader.{tooLong, isMissing, missing, sheetCauses, when, whenMissing, needed, refusalOf}
-use Rattle.sheet.specs.Reader.{recordOr, recordOf, payloadPart, partWhen, part, partBytes, content, seen, handed}
-use Rattle.sheet.specs.Reader.{Reads}
+use Rattle.sheet.specs.Format.Laws.{missing-found as not-found, end-size, by-kind}
+use Rattle.sheet.specs.Reader.{tooLong, isMissing, missing, sheetCauses, when, needed, refusalOf, lacks}
+use Rattle.sheet.specs.Reader.{wholeCause, foundIn, recordsIn, lacksNeeded}
+use Rattle.sheet.specs.Reader.{recordOr, recordOf, payloadPart, part, within, partWithin, partBytes, content}
+use Rattle.sheet.specs.Reader.{seen, handed, Reads}
 use denote.Ref.{RefT, now}
+
+-- a record that the sheet holds
+pub within-inside : (s : List ℕ) (r : Record) → within s (At r) ≡ At r → end r ≤ length s
+within-inside s r h = elim (true-or-false (leb (end r) (length s))) [
+  | inl e ↦ leb-true _ _ e
+  | inr e ↦ not-found (rw e refl) h
+]
 
 -- what is not missing is found
 pub at-found : (f : Found) → isMissing f ≡ false → f ≡ At (recordOr f)
 at-found (At r) e = refl
 at-found Missing e = absurd (true≢false e)
 
+pub missing-is : (f : Found) → isMissing f ≡ true → f ≡ Missing
+missing-is (At r) e = absurd (true≢false (sym e))
+missing-is Missing e = refl
+
+pub reading-same : {a b : Reading} → a .check ≡ b .check → a .records ≡ b .records → a ≡ b
+reading-same c r = λ i. record { check = c i; records = r i }
+
 module _ (F : Format) where
-  -- ---- the causes, written out
-  pub refusal-is : (ks s : List ℕ) → refusalOf F ks s ≡ (tooLong F s else (parsed F s .stop else missing F s ks))
-  unfolding refusalOf sheetCauses
-  refusal-is ks s = rw (cause-cons, cause-two)
-
-  pub when-missing : (s ks : List ℕ) (b : Bool)
-      → (refusal 2 with length s if (b && isMissing (find ks (parsed F s .records)))) ≡ whenMissing F s ks b
-  unfolding whenMissing
-  when-missing s ks true = sym (cause-one (missing F s ks))
-  when-missing s ks false = absent 2 (length s) refl ∙ sym cause-none
-
-  -- more needed roles come after
-  pub causes-more : (roles more : List (List ℕ)) (s : List ℕ) → firstCause (sheetCauses F (roles ++ more) s)
-      ≡ (firstCause (sheetCauses F roles s) else firstCause (map (missing F s) more))
+  -- ---- the causes, for any list of needed roles: the length and the records, then what is missing
+  pub causes-are : (roles : List (List ℕ)) (s : List ℕ)
+      → firstCause (sheetCauses F roles s) ≡ (wholeCause F s else firstCause (map (missing F s) roles))
   unfolding sheetCauses
-  causes-more roles more s =
-      rw (map-append, ← cause-append (tooLong F s ∷ parsed F s .stop ∷ map (missing F s) roles) (map _ more))
+  causes-are roles s =
+      cause-cons _ _ ∙ ap (λ (c : Check). tooLong F s else c) (cause-cons _ _) ∙ sym (else-assoc _ _ _)
 
-  pub checks-are : (n : Needs) (s : List ℕ) → firstCause (sheetCauses F (needed F n) s)
-      ≡ (refusalOf F (F .machine) s else (whenMissing F s (F .word) (n .word)
-      else (whenMissing F s (F .sequence) (n .sequence) else whenMissing F s (F .answers) (n .answers))))
-  unfolding refusalOf whenMissing
-  checks-are n s =
-      let word = when (n .word) (F .word ∷ []) in
-      let sequence = when (n .sequence) (F .sequence ∷ []) in
-      let answers = when (n .answers) (F .answers ∷ []) in
-      rw (
-        causes-more (F .machine ∷ []) (word ++ (sequence ++ answers)) s,
-        map-append (missing F s) word (sequence ++ answers),
-        cause-append (map (missing F s) word),
-        map-append (missing F s) sequence answers,
-        cause-append (map (missing F s) sequence),
-      )
+  pub refusal-is : (ks s : List ℕ) → refusalOf F ks s ≡ (wholeCause F s else missing F s ks)
+  unfolding refusalOf
+  refusal-is ks s = causes-are (ks ∷ []) s ∙ ap (λ (c : Check). wholeCause F s else c) (cause-one _)
+
+  -- the length of a sheet that is not too long plays no role
+  pub whole-short : (s : List ℕ) → length s ≤ F .longest → wholeCause F s ≡ parsed F s .stop
+  whole-short s l = rw (absent 1 (F .longest) (le-ltb (F .longest) (length s) l)) (else-clear _)
+
+  -- a sheet that is too long is refused so, whatever is needed
+  pub long-refused : (roles : List (List ℕ)) (s : List ℕ) → F .longest < length s
+      → firstCause (sheetCauses F roles s) ≡ Refused 1 (F .longest)
+  unfolding sheetCauses
+  long-refused roles s l =
+      cause-cons _ _ ∙ refusal-stays _ (present 1 (F .longest) (lt-ltb (F .longest) (length s) l))
+
+  -- what refuses nothing with more roles needed refuses nothing with fewer
+  pub fewer-clear : (roles more : List (List ℕ)) (s : List ℕ) → firstCause (sheetCauses F (roles ++ more) s) ≡ Clear
+      → firstCause (sheetCauses F roles s) ≡ Clear
+  fewer-clear roles more s e =
+      let all = both-clear _ _ (sym (causes-are (roles ++ more) s) ∙ e) in
+      let fewer =
+      both-clear (firstCause (map (missing F s) roles)) _
+      (sym (cause-append (map (missing F s) roles) (map (missing F s) more))
+      ∙ ap firstCause (sym (map-append (missing F s) roles more)) ∙ all .1) in
+      rw (causes-are roles s, all .0, fewer .0) (else-clear Clear)
 
   -- a service that does not need the answers refuses no sheet that one that does takes
   pub needed-without-answers : (w q : Bool) (s : List ℕ)
       → firstCause (sheetCauses F (needed F (record { word = w; sequence = q; answers = true })) s) ≡ Clear
       → firstCause (sheetCauses F (needed F (record { word = w; sequence = q; answers = false })) s) ≡ Clear
   needed-without-answers w q s e =
-      let one = both-clear _ _ (sym (checks-are (record { word = w; sequence = q; answers = true }) s) ∙ e) in
-      let two = both-clear _ _ (one .1) in
-      let three = both-clear _ _ (two .1) in
-      let not-needed : whenMissing F s (F .answers) false ≡ Clear = rw (← when-missing s (F .answers) false, absent) in
-      rw (checks-are (record { word = w; sequence = q; answers = false }) s, one .0, two .0, three .0, not-needed)
-      (simp else-clear)
+      fewer-clear (needed F (record { word = w; sequence = q; answers = false })) (F .answers ∷ []) s
+      (ap (λ (roles : List (List ℕ)). firstCause (sheetCauses F roles s)) (last w q) ∙ e)
+    where
+      last : (w q : Bool) → needed F (record { word = w; sequence = q; answers = false }) ++ (F .answers ∷ [])
+          ≡ needed F (record { word = w; sequence = q; answers = true })
+      last true true = refl
+      last true false = refl
+      last false true = refl
+      last false false = refl
 
   -- ---- what holds of a record that is found
   -- what holds of every record that has no cause 1 or 2 holds of the one that is found, and that one is of the kinds
@@ -103,68 +123,155 @@ module _ (F : Format) where
   found-kind s ks r e = found-has s (λ (x : Record). end x ≤ length s) (clear-inside F s) ks r e .1
 
   pub found-known : (s ks : List ℕ) (r : Record) → find ks (parsed F s .records) ≡ At r
-      → 0 < rank (kindOf F (r .kind))
+      → 0 < rank (roleOf F (r .kind))
   found-known s ks r e =
-      found-has s (λ (x : Record). 0 < rank (kindOf F (x .kind))) (λ at last q. omega (arith, clear-rank F s at last q))
+      found-has s (λ (x : Record). 0 < rank (roleOf F (x .kind))) (λ at last q. omega (arith, clear-rank F s at last q))
       ks r e .0
 
   -- a wanted kind that no sheet can have is missing from every sheet: refusal 2 at the sheet's length, where
   -- nothing comes before it
-  pub unknown-missing : (s : List ℕ) (k : ℕ) → rank (kindOf F k) ≡ 0 → missing F s (k ∷ []) ≡ Refused 2 (length s)
-  unknown-missing s k h = elim (true-or-false (isMissing (find (k ∷ []) (parsed F s .records)))) [
-    | inl e ↦ present 2 (length s) e
+  unknown-none : (s : List ℕ) (k : ℕ) → rank (roleOf F k) ≡ 0 → isMissing (find (k ∷ []) (parsed F s .records)) ≡ true
+  unknown-none s k h = elim (true-or-false (isMissing (find (k ∷ []) (parsed F s .records)))) [
+    | inl e ↦ e
     | inr e ↦ (let q = at-found _ e in
         let same = eqb-true _ k (sym (among-one _ k) ∙ found-kind s (k ∷ []) _ q) in
         absurd (omega (arith, rw same at (found-known s (k ∷ []) _ q))))
   ]
 
-  pub unknown-refused : (s : List ℕ) (k : ℕ) → rank (kindOf F k) ≡ 0
-      → refusalOf F (k ∷ []) s ≡ (tooLong F s else (parsed F s .stop else Refused 2 (length s)))
+  pub unknown-missing : (s : List ℕ) (k : ℕ) → rank (roleOf F k) ≡ 0 → missing F s (k ∷ []) ≡ Refused 2 (length s)
+  unknown-missing s k h = present 2 (length s) (unknown-none s k h)
+
+  pub unknown-refused : (s : List ℕ) (k : ℕ) → rank (roleOf F k) ≡ 0
+      → refusalOf F (k ∷ []) s ≡ (wholeCause F s else Refused 2 (length s))
   unknown-refused s k h = rw (refusal-is, unknown-missing s k h)
 
+  -- ---- what one pass finds
+  pub found-clear : (ks s : List ℕ) → wholeCause F s ≡ Clear → foundIn F ks s ≡ find ks (parsed F s .records)
+  unfolding foundIn
+  found-clear ks s e = rw e
+
+  pub found-refused : (ks s : List ℕ) {n p : ℕ} → wholeCause F s ≡ Refused n p → foundIn F ks s ≡ Missing
+  unfolding foundIn
+  found-refused ks s e = rw e
+
+  pub records-clear : (s : List ℕ) → wholeCause F s ≡ Clear → recordsIn F s ≡ recordsAmong F (parsed F s .records)
+  unfolding foundIn
+  records-clear s e = rw e refl
+
+  pub records-refused : (s : List ℕ) {n p : ℕ} → wholeCause F s ≡ Refused n p → recordsIn F s ≡ noRecords
+  unfolding foundIn
+  records-refused s e = rw e refl
+
+  pub unknown-found : (s : List ℕ) (k : ℕ) → rank (roleOf F k) ≡ 0 → foundIn F (k ∷ []) s ≡ Missing
+  unknown-found s k h = go (wholeCause F s) refl
+    where
+      go : (c : Check) → wholeCause F s ≡ c → foundIn F (k ∷ []) s ≡ Missing
+      go Clear e = found-clear (k ∷ []) s e ∙ missing-is _ (unknown-none s k h)
+      go (Refused n p) e = found-refused (k ∷ []) s e
+
+  -- causes 1 and 2 by what is found: what is missing counts only where nothing comes before it
+  missing-found : (s : List ℕ) → wholeCause F s ≡ Clear → (roles : List (List ℕ))
+      → (refusal 2 with length s if lacks (λ ks. foundIn F ks s) roles) ≡ firstCause (map (missing F s) roles)
+  missing-found s e [] = absent 2 (length s) refl ∙ sym cause-none
+  missing-found s e (ks ∷ roles) =
+      sym (either-there 2 (length s) _ _)
+      ∙ ap₂ _else_ (ap (λ (f : Found). refusal 2 with length s if isMissing f) (found-clear ks s e))
+      (missing-found s e roles)
+      ∙ sym (cause-cons _ _)
+
+  pub causes-found : (roles : List (List ℕ)) (s : List ℕ)
+      → (wholeCause F s else (refusal 2 with length s if lacks (λ ks. foundIn F ks s) roles))
+      ≡ firstCause (sheetCauses F roles s)
+  causes-found roles s = go (wholeCause F s) refl ∙ sym (causes-are roles s)
+    where
+      go : (c : Check) → wholeCause F s ≡ c
+          → (wholeCause F s else (refusal 2 with length s if lacks (λ ks. foundIn F ks s) roles))
+          ≡ (wholeCause F s else firstCause (map (missing F s) roles))
+      go Clear e = ap (λ (c : Check). wholeCause F s else c) (missing-found s e roles)
+      go (Refused n p) e = refusal-stays _ e ∙ sym (refusal-stays _ e)
+
+  pub refusal-found : (ks s : List ℕ)
+      → (wholeCause F s else (refusal 2 with length s if isMissing (foundIn F ks s))) ≡ refusalOf F ks s
+  unfolding refusalOf
+  refusal-found ks s =
+      ap (λ (b : Bool). wholeCause F s else (refusal 2 with length s if b)) (sym (or-false _))
+      ∙ causes-found (ks ∷ []) s
+
+  -- the same for the roles that a service needs
+  lacks-when : (f : List ℕ → Found) (b : Bool) (ks : List ℕ) (roles : List (List ℕ))
+      → lacks f (when b (ks ∷ []) ++ roles) ≡ ((b && isMissing (f ks)) || lacks f roles)
+  lacks-when f true ks roles = refl
+  lacks-when f false ks roles = refl
+
+  lacks-needed : (n : Needs) (f : List ℕ → Found) → lacks f (needed F n) ≡ lacksNeeded n (recordsBy F f)
+  lacks-needed n f =
+      rw (
+        lacks-when f (n .word) (F .word) _,
+        lacks-when f (n .sequence) (F .sequence) _,
+        ← append-nil (when (n .answers) (F .answers ∷ [])),
+        lacks-when f (n .answers) (F .answers) [],
+        or-false (n .answers && isMissing (f (F .answers))),
+      )
+
+  pub checks-found : (n : Needs) (s : List ℕ)
+      → (wholeCause F s else (refusal 2 with length s if lacksNeeded n (recordsIn F s)))
+      ≡ firstCause (sheetCauses F (needed F n) s)
+  checks-found n s =
+      ap (λ (b : Bool). wholeCause F s else (refusal 2 with length s if b))
+      (sym (lacks-needed n (λ ks. foundIn F ks s)))
+      ∙ causes-found (needed F n) s
+
   -- ---- the part that reading gives
-  pub payload-inside : (s ks : List ℕ) (f : Found) → f ≡ find ks (parsed F s .records)
-      → payloadPart f .from + payloadPart f .size ≤ length s
-  unfolding end
-  payload-inside s ks (At r) e = omega (arith, found-inside s ks r (sym e))
-  payload-inside s ks Missing e = omega arith
-
-  -- where nothing is refused it is the record's payload, and on a refusal the empty part at the sheet's start
-  pub part-clear : (ks s : List ℕ) {c : Check} {f : Found} → c ≡ refusalOf F ks s → c ≡ Clear
-      → f ≡ find ks (parsed F s .records) → payloadPart f ≡ part F ks s
+  -- on a refusal it is the empty one at the sheet's start, whichever cause is present
+  pub part-refused : (ks s : List ℕ) {n p : ℕ} → refusalOf F ks s ≡ Refused n p → part F ks s ≡ payloadPart Missing
   unfolding part
-  part-clear ks s ce e fe = rw (← ce, e, ← fe)
+  part-refused ks s e = ap payloadPart (go (wholeCause F s) refl)
+    where
+      go : (c : Check) → wholeCause F s ≡ c → foundIn F ks s ≡ Missing
+      go (Refused a b) q = found-refused ks s q
+      go Clear q = elim (true-or-false (isMissing (foundIn F ks s))) [
+        | inl t ↦ missing-is _ t
+        | inr t ↦ clear-refused (sym (refusal-found ks s) ∙ rw (q, absent 2 (length s) t) (else-clear Clear)) e
+      ]
 
-  pub part-refused : (ks s : List ℕ) {c : Check} {n p : ℕ} → c ≡ refusalOf F ks s → c ≡ Refused n p
-      → payloadPart Missing ≡ part F ks s
-  unfolding part
-  part-refused ks s ce e = rw (← ce, e)
+  -- what one pass finds lies inside the sheet
+  pub found-within : (ks s : List ℕ) (f : Found) → foundIn F ks s ≡ f → within s f ≡ f
+  found-within ks s Missing e = refl
+  found-within ks s (At r) e = go (wholeCause F s) refl
+    where
+      go : (c : Check) → wholeCause F s ≡ c → within s (At r) ≡ At r
+      go Clear q = simp (le-leb _ _ (found-inside s ks r (sym (found-clear ks s q) ∙ e)))
+      go (Refused n p) q = not-found (found-refused ks s q) e
 
-  pub record-found : (ks s : List ℕ) {f g : Found} → f ≡ find ks (parsed F s .records) → f ≡ g
-      → recordOr g ≡ recordOf F ks s
+  pub part-within : (ks s : List ℕ) {f : Found} → f ≡ foundIn F ks s → partWithin s f ≡ part F ks s
+  unfolding part partWithin
+  part-within ks s e = ap payloadPart (found-within ks s _ (sym e) ∙ e)
+
+  pub record-is : (ks s : List ℕ) {f : Found} → f ≡ foundIn F ks s → recordOr f ≡ recordOf F ks s
   unfolding recordOf
-  record-found ks s fe e = ap recordOr (sym e ∙ fe)
+  record-is ks s e = ap recordOr e
 
   -- a record starts inside the sheet, and its payload ends there
-  inside-of : (s : List ℕ) (c : Check) (f : Found) → payloadPart f .from + payloadPart f .size ≤ length s
-      → recordOr f .start + length (partBytes (partWhen c f) s) ≤ length s
+  inside-of : (s : List ℕ) (f : Found) → within s f ≡ f
+      → recordOr f .start + length (partBytes (payloadPart f) s) ≤ length s
   unfolding partBytes
-  inside-of s Clear (At r) h = simp length-take (omega arith)
-  inside-of s Clear Missing h = omega arith
-  inside-of s (Refused n p) (At r) h = omega arith
-  inside-of s (Refused n p) Missing h = omega arith
+  inside-of s (At r) h = simp length-take (omega (arith, end-size r, within-inside s r h))
+  inside-of s Missing h = omega arith
 
   pub record-inside : (ks s : List ℕ) → recordOf F ks s .start + length (content F ks s) ≤ length s
   unfolding recordOf content part
-  record-inside ks s =
-      inside-of s (refusalOf F ks s) (find ks (parsed F s .records))
-      (payload-inside s ks (find ks (parsed F s .records)) refl)
+  record-inside ks s = inside-of s (foundIn F ks s) (found-within ks s (foundIn F ks s) refl)
 
   -- the bytes that reading gives
   pub handed-content : (ks : List ℕ) (s w : RefT (List ℕ)) → seen w ≡ handed s (part F ks (now s))
       → now w ≡ content F ks (now s)
   unfolding handed content
   handed-content ks s w e = ap (λ (x : (ℕ × ℕ) × List ℕ). x .1) e
+
+  -- those of a record that one pass found
+  pub payload-content : (ks : List ℕ) (s w : RefT (List ℕ)) {f : Found} → f ≡ foundIn F ks (now s)
+      → seen w ≡ handed s (partWithin (now s) f) → now w ≡ content F ks (now s)
+  payload-content ks s w e h = handed-content ks s w (h ∙ ap (handed s) (part-within ks (now s) e))
 
   -- ---- where checks 1 and 2 are clear
   clear-missing : (s : List ℕ) (roles : List (List ℕ)) (ks : List ℕ) → List·Memᴰ ks roles
@@ -197,15 +304,15 @@ module _ (F : Format) where
 
   -- and reading it is as `Reads` says
   pub clear-reads : (ks s : List ℕ) → refusalOf F ks s ≡ Clear → Reads F ks s
-  unfolding recordOf
+  unfolding recordOf part
   clear-reads ks s e =
-      let clear = both-clear _ _ (both-clear _ _ (sym (refusal-is ks s) ∙ e) .1) .1 in
-      let q = at-found _ (clear-absent 2 (length s) _ clear) in
-      let p = sym (part-clear ks s {c = refusalOf F ks s} refl e (sym q)) in
+      let both = both-clear _ _ (refusal-found ks s ∙ e) in
+      let is = at-found (foundIn F ks s) (clear-absent 2 (length s) _ (both .1)) in
+      let q = sym (found-clear ks s (both .0)) ∙ is in
       record {
         kind = found-kind s ks _ q;
-        from = ap (λ (x : Part). x .from) p;
-        size = ap (λ (x : Part). x .size) p;
+        from = ap (λ (f : Found). payloadPart f .from) is;
+        size = ap (λ (f : Found). payloadPart f .size) is;
         inside = found-inside s ks _ q;
       }
 
@@ -218,3 +325,11 @@ module _ (F : Format) where
 
   pub needed-word : (n : Needs) → n .word ≡ true → List·Memᴰ (F .word) (needed F n)
   needed-word n e = List·Memᴰ·tail (Memᴰ·append-left _ (on-needed (F .word) e))
+
+-- ---- a kind, in the format that the services take: what is found is the record of its role
+pub found-by-kind : (k : ℕ) (s : List ℕ)
+    → foundIn standard (k ∷ []) s ≡ ofRole (recordsIn standard s) (roleOf standard k)
+unfolding roleOf
+found-by-kind k s =
+    by-kind (λ k role. foundIn standard (k ∷ []) s ≡ ofRole (recordsIn standard s) role) refl refl refl refl
+    (λ k a b c d. unknown-found standard s k (rw (a, b, c, d) refl)) k

@@ -2,6 +2,7 @@
 -- and of a record's header: it reads back.
 use Prim.Native.Nat.{ℕ, _+_, _%_, _^_, _≤_, _<_}
 use mathlib.Core.Path.{_≡_, refl, sym, ap, ap₂, subst, _∙_}
+use mathlib.Core.Logic.{inl, inr}
 use mathlib.Core.List.{List, [], _++_}
 use native.Mathlib.Omega.{arith}
 use native.Mathlib.Nat.{add-zero, zero-add}
@@ -9,9 +10,10 @@ use borrow.Author.Tests.{le-leb, lt-leb}
 use lib.ListN.{length, getD, drop, length-append, List·getD-append}
 use lib.Seq.{paste, paste-zero, length-paste, take-length, getD-append-add}
 use Rattle.facts.specs.Bytes.{two-bytes, four-bytes}
+use Rattle.facts.specs.Numbers.{less-or-not}
 use Rattle.facts.specs.Pasting.{paste-both}
 use Rattle.sheet.specs.Format.{header, recordAt}
-use Rattle.sheet.specs.Writing.{headerOf, recordBytes, putAt, putEnd, Puts, written}
+use Rattle.sheet.specs.Writing.{headerOf, recordBytes, mostPayload, recordPut, putAt, putEnd, Puts, written}
 
 -- ---- putting
 module _ (before : List ℕ) (at : ℕ) (xs : List ℕ) where
@@ -77,6 +79,23 @@ pub puts-written : {before after : List ℕ} {end : ℕ} (xs : List ℕ) → Put
     → after ≡ written xs before
 puts-written {before} xs h = h .written ∙ paste-start xs before
 
+-- nothing
+pub put-nothing : (before : List ℕ) (at : ℕ) → (before ≡ putAt before at []) × (at ≡ putEnd before at [])
+put-nothing before at = elim (less-or-not (length before) (at + 0)) [
+  | inl l ↦ (sym (put-not before at [] l), sym (end-not before at [] l))
+  | inr l ↦ puts-put [] (puts-none before at (omega arith))
+]
+
+-- ---- a record that is put: one that its header can hold, and any other
+pub record-held : (kind : ℕ) (payload : List ℕ) → length payload ≤ mostPayload
+    → recordPut kind payload ≡ recordBytes kind payload
+unfolding recordPut
+record-held kind payload l = rw (le-leb (length payload) mostPayload l)
+
+pub record-not-held : (kind : ℕ) (payload : List ℕ) → mostPayload < length payload → recordPut kind payload ≡ []
+unfolding recordPut
+record-not-held kind payload l = rw (lt-leb (length payload) mostPayload l)
+
 -- ---- the header
 pub header-size : (kind size : ℕ) → length (headerOf kind size) ≡ header
 unfolding headerOf
@@ -86,6 +105,16 @@ pub record-size : (kind : ℕ) (payload : List ℕ) → length (recordBytes kind
 record-size kind payload =
     length-append (headerOf kind (length payload)) payload
     ∙ ap (λ (n : ℕ). n + length payload) (header-size kind (length payload))
+
+-- a record that fits, and whose length its header can hold, is put whole
+pub record-puts : (before : List ℕ) (at kind : ℕ) (payload : List ℕ) → length payload ≤ mostPayload
+    → at + header + length payload ≤ length before → {after : List ℕ} {end : ℕ}
+    → (after ≡ putAt before at (recordPut kind payload)) × (end ≡ putEnd before at (recordPut kind payload))
+    → Puts before at (recordBytes kind payload) after end
+record-puts before at kind payload held fits h =
+    let same = record-held kind payload held in
+    put-puts before at (recordBytes kind payload) (omega (arith, record-size kind payload))
+    (h .0 ∙ ap (putAt before at) same) (h .1 ∙ ap (putEnd before at) same)
 
 -- behind any bytes, and with any bytes behind it
 module _ (p xs : List ℕ) (kind size : ℕ) where

@@ -9,9 +9,9 @@ use Rattle.sheet.specs.declared.check.Check.{Check}
 use Rattle.sheet.specs.declared.check.Check.the-variants.{Clear, Refused}
 use Rattle.sheet.specs.Check.{refusal_with_if_, _else_, firstCause, first}
 use Rattle.sheet.specs.Check.Laws.{else-clear, else-end}
-use Rattle.sheet.specs.Format.{recordAt, end, kindOf, cause1, cause2, causeAt, parseStep, parseFrom, parse}
+use Rattle.sheet.specs.Format.{recordAt, end, roleOf, cause1, cause2, causeOf, parseStep, parseFrom, parse}
 use Rattle.sheet.specs.Format.{parsed, ofKind, _or_, find}
-use Rattle.sheet.specs.Reader.{sheetCauses, refusalOf, recordOf, part, partBytes, content, wordIn}
+use Rattle.sheet.specs.Reader.{sheetCauses, refusalOf, foundIn, recordOf, part, partBytes, content, wordIn}
 use Rattle.sheet.specs.Reader.{sequenceIn, answersIn}
 use Rattle.sheet.specs.Writing.{headerOf}
 use Rattle.sheet.specs.Promise.{cause9}
@@ -109,8 +109,8 @@ record Computed : Type 0 where
       → firstCause (judgeCauses room (answersSheet noStateTable (command ∷ []) builtTwin (answer ∷ []))) ≡ Refused 4 8
 
 computed : Computed
-unfolding twinMachine singleMachine joined headerOf refusal_with_if_ _else_ firstCause first recordAt end kindOf
-    cause1 cause2 causeAt parseStep parseFrom parse parsed ofKind _or_ find sheetCauses refusalOf recordOf part
+unfolding twinMachine singleMachine joined headerOf refusal_with_if_ _else_ firstCause first recordAt end roleOf
+    cause1 cause2 causeOf parseStep parseFrom parse parsed ofKind _or_ find sheetCauses refusalOf foundIn recordOf part
     partBytes content machineOf run answers cause3 cause4 cause12 commandsCause cause6 machineIn tableCauses
     machineCauses wordCauses sequenceCauses loadCauses connectedCauses markingCauses cause10 judgeCauses verdict
     difference resultAt agreed stateAt

@@ -56,7 +56,7 @@ module _ (rs : List (ℕ × List ℕ)) (order : InOrder standard 0 rs) (short : 
       → payloadOf ks rs ≡ xs → Gives (joined rs) ks (r .start) xs
   found-gives ks {r} xs e sized is = record {
     clear = refusal-joined standard rs order short ks ∙ absent 2 (length (joined rs)) (ap isMissing e);
-    start = ap (λ (q : Record). q .start) (record-joined standard rs order ks ∙ ap recordOr e);
+    start = ap (λ (q : Record). q .start) (record-joined standard rs order short ks ∙ ap recordOr e);
     position =
         part-joined standard rs order short ks
         ∙ ap payloadPart e

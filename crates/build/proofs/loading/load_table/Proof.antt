@@ -1,7 +1,9 @@
 -- `build::loading::load_table` meets its contract. Assumes nothing.
 use denote.Ref.{now}
+use mathlib.Core.Path.{ap}
+use Rattle.sheet.specs.declared.record.Records.{Records}
 use Rattle.sheet.specs.Check.Laws.{clear-refused}
-use Rattle.sheet.specs.Reader.Laws.{handed-content}
+use Rattle.sheet.specs.Reader.Laws.{payload-content}
 use Rattle.machine.specs.Loading.Laws.{loaded-proper}
 use Rattle.build.specs.Building.{buildNeeds}
 use Rattle.build.proofs.TableLoading.{early-connected, eight-connected}
@@ -18,7 +20,7 @@ enum-told c = search needs
 
 returns : tie.Need-returns
 returns c =
-    let load = c .before .before .before in
+    let load = c .before .before in
     let start = load .before .before .before in (
       early-connected (now (start .args .sheet)) (load .load-sheet .ensures) (c .enum-told .given .1),
       λ e. clear-refused e (c .enum-told .given .1),
@@ -27,13 +29,13 @@ returns c =
 enum-told-2 : tie.Need-enum-told-2
 enum-told-2 c = search needs
 
-read-requires : tie.Need-read-requires
-read-requires c κs = search needs
+payload-requires : tie.Need-payload-requires
+payload-requires c κs = search needs
 
 connect-requires : tie.Need-connect-requires
 connect-requires c κs =
-    let early = c .before .before in
-    let load = early .before .before .before in
+    let early = c .before .before .before .before in
+    let load = early .before .before in
     let start = load .before .before .before in (
       loaded-proper buildNeeds (now (start .args .sheet)) (load .load-sheet .ensures) (early .enum-told2 .given .1),
       start .pre,
@@ -46,10 +48,12 @@ returns-2 : tie.Need-returns-2
 returns-2 c =
     let table = c .before .before in
     let word = table .before .before in
-    let early = word .before in
-    let load = early .before .before .before in
+    let early = word .before .before .before in
+    let load = early .before .before in
     let start = load .before .before .before in
-    let same = handed-content standard _ (start .args .sheet) (word .read .result) (word .read .ensures) in (
+    let same =
+    payload-content standard _ (start .args .sheet) (word .payload .result)
+    (ap (λ (r : Records). r .word) (load .load-sheet .ensures .records)) (word .payload .ensures) in (
       eight-connected (now (start .args .sheet)) (load .load-sheet .ensures) (early .enum-told2 .given .1) same
           (table .connect .ensures .0),
       λ e. rw (← same) (table .connect .ensures .1 e),
@@ -63,7 +67,7 @@ load-table-spec =
     enum-told
     returns
     enum-told-2
-    read-requires
+    payload-requires
     connect-requires
     same-length
     returns-2)

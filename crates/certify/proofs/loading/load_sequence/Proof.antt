@@ -5,8 +5,9 @@ use Prim.Native.Nat.{ℕ}
 use mathlib.Core.Path.{ap, _∙_}
 use mathlib.Core.List.{List}
 use Rattle.sheet.specs.declared.check.Check.{Check}
+use Rattle.sheet.specs.declared.record.Records.{Records}
 use denote.Ref.{now}
-use Rattle.sheet.specs.Reader.Laws.{handed-content}
+use Rattle.sheet.specs.Reader.Laws.{payload-content}
 use Rattle.sheet.specs.Check.{_else_}
 use Rattle.sheet.specs.Reader.{sequenceIn}
 use Rattle.sheet.specs.Promise.{cause9}
@@ -20,8 +21,8 @@ use Rattle.sheet.specs.Format.{standard}
 load-sheet-requires : tie.Need-load-sheet-requires
 load-sheet-requires c κs = search needs
 
-read-requires : tie.Need-read-requires
-read-requires c κs = search needs
+payload-requires : tie.Need-payload-requires
+payload-requires c κs = search needs
 
 add-bytes : tie.Need-add-bytes
 add-bytes c = search needs
@@ -34,20 +35,20 @@ first-of-requires c κs = search needs
 
 returns : tie.Need-returns
 returns c =
-    let start = c .before .before .before .before .before .before in
+    let start = c .before .before .before .before .before .before .before in
     let room = start .args .room in
     let s = now (start .args .sheet) in
-    let loaded = c .before .before .before .before .load-sheet in
+    let loaded = c .before .before .before .before .before .load-sheet in
     loaded-more _ _ s (loaded .ensures) (cause9 room (markBytes (sequenceIn s)))
     (marking-causes-are (start .args .answers) room s)
     (c .first-of .ensures
     ∙ ap (λ (x : Check). loaded .result .check else x)
     (c .before .room-check .ensures
     ∙ ap (λ (xs : List ℕ). cause9 room (markBytes xs))
-    (handed-content standard _ (start .args .sheet) (c .before .before .read .result)
-    (c .before .before .read .ensures))))
+    (payload-content standard _ (start .args .sheet) (c .before .before .payload .result)
+    (ap (λ (r : Records). r .sequence) (loaded .ensures .records)) (c .before .before .payload .ensures))))
 
 pub load-sequence-spec : {M : Type 1} → statement M
 load-sequence-spec =
     tie.close
-    (tie.spec load-sheet-requires read-requires add-bytes room-check-requires first-of-requires returns)
+    (tie.spec load-sheet-requires payload-requires add-bytes room-check-requires first-of-requires returns)

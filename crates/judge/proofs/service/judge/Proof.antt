@@ -3,17 +3,19 @@
 use borrow.Author.Needs.{needs}
 use denote.Ref.{now}
 use Prim.Native.Nat.{ℕ}
-use mathlib.Core.Path.{_≡_, sym, _∙_}
+use mathlib.Core.Path.{_≡_, sym, ap, _∙_}
 use mathlib.Core.Bool.{true}
 use mathlib.Core.List.{List}
 use lib.ListN.{length}
 use Rattle.sheet.specs.declared.check.Check.the-variants.{Clear}
 use Rattle.sheet.specs.Check.{firstCause}
-use Rattle.sheet.specs.Reader.{sequenceIn, answersIn}
-use Rattle.sheet.specs.Reader.Laws.{handed-content}
-use Rattle.certify.specs.Certification.Laws.{marking-proper, marking-commands}
+use Rattle.sheet.specs.declared.record.Records.{Records}
+use Rattle.sheet.specs.Reader.{sequenceIn, answersIn, answersRecord}
+use Rattle.sheet.specs.Reader.Laws.{payload-content, record-is as read-record}
+use Rattle.certify.specs.Certification.{Certifiable}
+use Rattle.certify.specs.Certification.Laws.{certifiable-proper, certifiable-commands, loaded-certifiable}
 use Rattle.judge.specs.Judging.{judgeCauses}
-use Rattle.judge.specs.Judging.Laws.{marking-clear}
+use Rattle.judge.specs.Judging.Laws.{marking-clear, certifying-clear}
 use Rattle.judge.proofs.Answering.{checks-are, few-here, promised, judges-refused, judges-certified, judges-open}
 use Rattle.judge.proofs.Answering.{judges-refused-there}
 use Rattle.judge.proofs.service.judge.Statement.{statement}
@@ -23,14 +25,17 @@ use Rattle.sheet.specs.Format.{standard}
 load-sequence-requires : tie.Need-load-sequence-requires
 load-sequence-requires c κs = search needs
 
-record-of-requires : tie.Need-record-of-requires
-record-of-requires c κs = search needs
+record-or-requires : tie.Need-record-or-requires
+record-or-requires c κs = search needs
 
-read-requires : tie.Need-read-requires
-read-requires c κs = search needs
+payload-requires : tie.Need-payload-requires
+payload-requires c κs = search needs
 
-read-requires-2 : tie.Need-read-requires-2
-read-requires-2 c κs = search needs
+payload-requires-2 : tie.Need-payload-requires-2
+payload-requires-2 c κs = search needs
+
+cast-refuse : tie.Need-cast-refuse
+cast-refuse c = search needs
 
 refuse-requires : tie.Need-refuse-requires
 refuse-requires c κs = search needs
@@ -42,33 +47,54 @@ enum-known-check : tie.Need-enum-known-check
 enum-known-check c = search needs
 
 -- ---- what is known behind the checks
+abbrev loading : tie.After-first-of → tie.After-load-sequence
+loading d = d .before .before .before .before .before .before .before
+
+abbrev start-at : tie.After-first-of → tie.Start
+start-at d = loading d .before .before .before
+
 abbrev sheet : tie.After-first-of → List ℕ
-sheet d = now (d .before .before .before .before .before .before .before .before .args .sheet)
+sheet d = now (start-at d .args .sheet)
 
 abbrev buffer : tie.After-first-of → List ℕ
-buffer d = now (d .before .before .before .before .before .before .before .before .args .marks)
+buffer d = now (start-at d .args .marks)
 
-sequence-is : (d : tie.After-first-of) → now (d .before .before .before .read .result) ≡ sequenceIn (sheet d)
+sequence-is : (d : tie.After-first-of) → now (d .before .before .before .before .payload .result) ≡ sequenceIn (sheet d)
 sequence-is d =
-    handed-content standard _ (d .before .before .before .before .before .before .before .before .args .sheet)
-    (d .before .before .before .read .result) (d .before .before .before .read .ensures)
+    payload-content standard _ (start-at d .args .sheet) (d .before .before .before .before .payload .result)
+    (ap (λ (r : Records). r .sequence) (loading d .load-sequence .ensures .records))
+    (d .before .before .before .before .payload .ensures)
 
-answers-are : (d : tie.After-first-of) → now (d .before .before .read2 .result) ≡ answersIn (sheet d)
+answers-are : (d : tie.After-first-of) → now (d .before .before .before .payload2 .result) ≡ answersIn (sheet d)
 answers-are d =
-    handed-content standard _ (d .before .before .before .before .before .before .before .before .args .sheet)
-    (d .before .before .read2 .result) (d .before .before .read2 .ensures)
+    payload-content standard _ (start-at d .args .sheet) (d .before .before .before .payload2 .result)
+    (ap (λ (r : Records). r .answers) (loading d .load-sequence .ensures .records))
+    (d .before .before .before .payload2 .ensures)
+
+record-is : (d : tie.After-first-of)
+    → d .before .before .before .before .before .record-or .result ≡ answersRecord (sheet d)
+record-is d =
+    d .before .before .before .before .before .record-or .ensures
+    ∙ read-record standard (standard .answers) (sheet d)
+    (ap (λ (r : Records). r .answers) (loading d .load-sequence .ensures .records))
 
 check-is : (d : tie.After-first-of) → d .first-of .result ≡ firstCause (judgeCauses (length (buffer d)) (sheet d))
 check-is d =
-    checks-are (length (buffer d)) (sheet d) (d .before .before .before .before .record-of .ensures) (sequence-is d)
-    (answers-are d) (d .before .before .before .before .before .load-sequence .ensures .check)
+    checks-are (length (buffer d)) (sheet d) (record-is d) (sequence-is d)
+    (answers-are d) (loading d .load-sequence .ensures .check)
     (d .before .refuse .ensures) (d .first-of .ensures)
 
 loaded-clear : (d : tie.After-first-of) → d .first-of .result ≡ Clear
-    → d .before .before .before .before .before .load-sequence .result .check ≡ Clear
+    → loading d .load-sequence .result .check ≡ Clear
 loaded-clear d clear =
-    d .before .before .before .before .before .load-sequence .ensures .check
+    loading d .load-sequence .ensures .check
     ∙ marking-clear (length (buffer d)) (sheet d) (sym (check-is d) ∙ clear)
+
+certifiable : (d : tie.After-first-of) → d .first-of .result ≡ Clear
+    → Certifiable (sheet d) (length (buffer d)) (loading d .load-sequence .result)
+certifiable d clear =
+    loaded-certifiable true _ _ (loading d .load-sequence .ensures) (loaded-clear d clear)
+    (certifying-clear (length (buffer d)) (sheet d) (sym (check-is d) ∙ clear))
 
 returns : tie.Need-returns
 returns c =
@@ -78,8 +104,8 @@ returns c =
 enum-told : tie.Need-enum-told
 enum-told c = search needs
 
-certify-requires : tie.Need-certify-requires
-certify-requires c κs = search needs
+certify-loaded-requires : tie.Need-certify-loaded-requires
+certify-loaded-requires c κs = certifiable (c .before .before .before) (c .before .enum-told .given .1)
 
 enum-told-2 : tie.Need-enum-told-2
 enum-told-2 c = search needs
@@ -88,14 +114,11 @@ compare-requires : tie.Need-compare-requires
 compare-requires c κs =
     let d = c .before .before .before .before .before .before .before .before in
     let clear = c .before .before .before .before .before .before .enum-told .given .1 in
-    let loaded = d .before .before .before .before .before .load-sequence .ensures in
-    let loading-clear = loaded-clear d clear in
+    let h = certifiable d clear in
     record {
-      proper = marking-proper true _ _ loaded loading-clear;
-      commands = rw (sequence-is d) (marking-commands true _ _ loaded loading-clear);
-      few =
-          few-here (length (buffer d)) (sheet d) (d .before .before .before .before .record-of .ensures) (sequence-is d)
-          (answers-are d) (check-is d) clear;
+      proper = certifiable-proper _ _ h;
+      commands = rw (sequence-is d) (certifiable-commands _ _ h);
+      few = few-here (length (buffer d)) (sheet d) (record-is d) (sequence-is d) (answers-are d) (check-is d) clear;
     }
 
 enum-known-certified : tie.Need-enum-known-certified
@@ -112,8 +135,8 @@ returns-2 c =
     let d = c .before .before .before .before .before .before .before .before .before in
     let clear = c .before .before .before .before .before .before .before .enum-told .given .1 in
     promised (judges-certified (sheet d) (buffer d) (check-is d) clear
-    (c .before .before .before .before .before .certify .ensures) (c .before .enum-told2 .given .1)
-    (d .before .before .before .before .before .load-sequence .ensures .machine (loaded-clear d clear)) (sequence-is d)
+    (c .before .before .before .before .before .certify-loaded .ensures) (c .before .enum-told2 .given .1)
+    (loading d .load-sequence .ensures .machine (loaded-clear d clear)) (sequence-is d)
     (answers-are d) (c .compare .ensures))
 
 same-length-2 : tie.Need-same-length-2
@@ -124,7 +147,7 @@ returns-3 c =
     let d = c .before .before .before .before .before .before .before .before .before in
     promised (judges-open (sheet d) (buffer d) (check-is d)
     (c .before .before .before .before .before .before .before .enum-told .given .1)
-    (c .before .before .before .before .before .certify .ensures) (c .before .certified .given .1))
+    (c .before .before .before .before .before .certify-loaded .ensures) (c .before .certified .given .1))
 
 same-length-3 : tie.Need-same-length-3
 same-length-3 c = search needs
@@ -134,22 +157,23 @@ returns-4 c =
     let d = c .before .before .before .before .before .before .before .before .before in
     promised (judges-refused-there (sheet d) (buffer d) (check-is d)
     (c .before .before .before .before .before .before .before .enum-told .given .1)
-    (c .before .before .before .before .before .certify .ensures) (c .before .certified2 .given .1))
+    (c .before .before .before .before .before .certify-loaded .ensures) (c .before .certified2 .given .1))
 
 pub judge-spec : {M : Type 1} → statement M
 judge-spec =
     tie.close
     (tie.spec
     load-sequence-requires
-    record-of-requires
-    read-requires
-    read-requires-2
+    record-or-requires
+    payload-requires
+    payload-requires-2
+    cast-refuse
     refuse-requires
     first-of-requires
     enum-known-check
     returns
     enum-told
-    certify-requires
+    certify-loaded-requires
     enum-told-2
     compare-requires
     enum-known-certified

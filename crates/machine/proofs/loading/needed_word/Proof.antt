@@ -1,17 +1,18 @@
 -- `machine::loading::needed_word` meets its contract: the causes of the word where it is needed. Assumes nothing.
 use borrow.Author.Needs.{needs}
+use denote.Ref.{now}
 use Rattle.sheet.specs.Format.{standard}
-use Rattle.sheet.specs.Reader.Laws.{handed-content}
+use Rattle.sheet.specs.Reader.Laws.{payload-content}
 use Rattle.machine.specs.Causes.{wordCauses}
-use Rattle.machine.proofs.LoadChecks.{needed-made, needed-not}
+use Rattle.machine.proofs.LoadChecks.{start-is, needed-made, needed-not}
 use Rattle.machine.proofs.loading.needed_word.Statement.{statement}
 use Rattle.machine.proofs.loading.needed_word.Tie as tie
 
-start-of-requires : tie.Need-start-of-requires
-start-of-requires c κs = search needs
+record-or-requires : tie.Need-record-or-requires
+record-or-requires c κs = search needs
 
-read-requires : tie.Need-read-requires
-read-requires c κs = search needs
+payload-requires : tie.Need-payload-requires
+payload-requires c κs = search needs
 
 word-check-requires : tie.Need-word-check-requires
 word-check-requires c κs = search needs
@@ -20,8 +21,9 @@ returns : tie.Need-returns
 returns c =
     let start = c .before .before .before .before .before in
     needed-made wordCauses (c .before .before .before .if1 .taken) (start .pre .machine)
-    (c .before .before .start-of .ensures)
-    (handed-content standard _ (start .args .sheet) (c .before .read .result) (c .before .read .ensures))
+    (start-is (standard .word) (now (start .args .sheet)) (start .pre .found) (c .before .before .record-or .ensures))
+    (payload-content standard _ (start .args .sheet) (c .before .payload .result) (start .pre .found)
+    (c .before .payload .ensures))
     (c .word-check .ensures)
 
 returns-2 : tie.Need-returns-2
@@ -29,4 +31,4 @@ returns-2 c = needed-not _ (c .if1 .left)
 
 pub needed-word-spec : {M : Type 1} → statement M
 needed-word-spec =
-    tie.close (tie.spec start-of-requires read-requires word-check-requires returns returns-2)
+    tie.close (tie.spec record-or-requires payload-requires word-check-requires returns returns-2)

@@ -1,9 +1,8 @@
--- `report::pieces::put_record` meets its contract: the record fits. Assumes nothing.
-use borrow.Author.Needs.{needs}
+-- `report::pieces::put_record` meets its contract: the record fits, and its header holds its length. Assumes nothing.
 use native.Mathlib.Omega.{arith}
 use denote.Ref.{now}
-use Rattle.sheet.specs.Writing.{recordBytes}
-use Rattle.sheet.specs.Writing.Laws.{put-puts, record-size}
+use Rattle.sheet.specs.Writing.Laws.{record-puts}
+use borrow.Author.Needs.{needs}
 use Rattle.report.proofs.pieces.put_record.Statement.{statement}
 use Rattle.report.proofs.pieces.put_record.Tie as tie
 
@@ -16,10 +15,8 @@ same-length c = search needs
 returns : tie.Need-returns
 returns c =
     let start = c .before .before .before .before .before .before in
-    let put = c .before .before .put-record .ensures in
-    put-puts (now (start .args .out)) (start .args .at)
-    (recordBytes (start .args .kind) (now (start .args .payload)))
-    (omega (arith, record-size (start .args .kind) (now (start .args .payload)), start .pre)) (put .0) (put .1)
+    record-puts (now (start .args .out)) (start .args .at) (start .args .kind) (now (start .args .payload))
+    (omega (arith, start .pre .0)) (omega (arith, start .pre .1)) (c .before .before .put-record .ensures)
 
 pub put-record-spec : {M : Type 1} → statement M
 put-record-spec = tie.close (tie.spec put-record-requires same-length returns)

@@ -3,7 +3,7 @@
 use borrow.Author.Needs.{needs}
 use native.Mathlib.Omega.{arith}
 use Prim.Native.Nat.{ℕ}
-use mathlib.Core.Path.{refl, ap}
+use mathlib.Core.Path.{refl, ap₂}
 use mathlib.Core.List.{List, [], _∷_}
 use Rattle.sheet.specs.Format.{standard}
 use Rattle.sheet.specs.Joining.{joined, fresh}
@@ -17,6 +17,9 @@ use Rattle.report.proofs.sheets.house_sheet.Tie as tie
 
 house-payload-requires : tie.Need-house-payload-requires
 house-payload-requires c κs = search needs
+
+new-kind-requires : tie.Need-new-kind-requires
+new-kind-requires c κs = search needs
 
 slice-aggregate-put-two : tie.Need-slice-aggregate-put-two
 slice-aggregate-put-two c = search needs
@@ -34,11 +37,11 @@ returns : tie.Need-returns
 unfolding houseSheet
 returns c =
     let unit = c .before .before in
-    let payload = unit .before .before .before .before .house-payload in
+    let kind = unit .before .before .before .before in
     let puts =
     puts-same
-    (ap (λ (p : List ℕ). joined (fresh (standard .machine) p ∷ fresh (standard .word) houseWord ∷ []))
-    (payload .ensures)) (unit .put-two .ensures .0) in
+    (ap₂ (λ (k : ℕ) (p : List ℕ). joined ((k, p) ∷ fresh (standard .word) houseWord ∷ []))
+    (kind .new-kind .ensures) (kind .before .house-payload .ensures)) (unit .put-two .ensures .0) in
     promised _ refl (puts-writes _ refl puts) (λ _. omega (arith, puts .ends, puts .inside)) (c .to-streams .ensures)
 
 pub house-sheet-spec : {M : Type 1} → statement M
@@ -46,6 +49,7 @@ house-sheet-spec =
     tie.close
     (tie.spec
     house-payload-requires
+    new-kind-requires
     slice-aggregate-put-two
     slice-aggregate-put-two-2
     put-two-requires

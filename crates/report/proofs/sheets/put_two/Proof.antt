@@ -11,7 +11,9 @@ use Rattle.report.proofs.sheets.put_two.Statement.{statement}
 use Rattle.report.proofs.sheets.put_two.Tie as tie
 
 put-record-requires : tie.Need-put-record-requires
-put-record-requires c κs = search needs
+put-record-requires c κs =
+    let start = c .before .before .before .before in
+    (omega (arith, start .pre .0), omega (arith, start .pre .0, start .pre .1))
 
 -- the two records
 abbrev start-at : tie.After-put-record → tie.Start
@@ -23,14 +25,17 @@ machine d = (start-at d .args .kind, now (start-at d .args .machine))
 abbrev word : tie.After-put-record → ℕ × List ℕ
 word d = fresh (standard .word) (now (start-at d .args .word))
 
-put-record-requires-2 : tie.Need-put-record-requires-2
-put-record-requires-2 c κs =
-    let d = c .before .before .before in
-    omega (
-      arith,
-      record-ends (machine d) (d .put-record .ensures),
-      start-at d .pre,
-      d .put-record .kept .1 .1 .1 .0,
+put-role-requires : tie.Need-put-role-requires
+put-role-requires c κs =
+    let d = c .before .before .before in (
+      omega (arith, start-at d .pre .0),
+      omega (
+        arith,
+        record-ends (machine d) (d .put-record .ensures),
+        start-at d .pre .0,
+        start-at d .pre .1,
+        d .put-record .kept .1 .1 .1 .0,
+      ),
     )
 
 same-length : tie.Need-same-length
@@ -40,13 +45,13 @@ returns : tie.Need-returns
 returns c =
     let last = c .before .before in
     let d = last .before .before .before .before in (
-      puts-more (machine d) (word d ∷ []) (d .put-record .ensures) (puts-last (word d) (last .put-record2 .ensures)),
+      puts-more (machine d) (word d ∷ []) (d .put-record .ensures) (puts-last (word d) (last .put-role .ensures)),
       omega (
         arith,
         record-ends (machine d) (d .put-record .ensures),
-        record-ends (word d) (last .put-record2 .ensures),
+        record-ends (word d) (last .put-role .ensures),
       ),
     )
 
 pub put-two-spec : {M : Type 1} → statement M
-put-two-spec = tie.close (tie.spec put-record-requires put-record-requires-2 same-length returns)
+put-two-spec = tie.close (tie.spec put-record-requires put-role-requires same-length returns)

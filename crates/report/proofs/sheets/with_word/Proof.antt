@@ -2,14 +2,14 @@
 use borrow.Author.Needs.{needs}
 use native.Mathlib.Omega.{arith}
 use Prim.Native.Nat.{ℕ, _+_, _≤_}
-use mathlib.Core.Path.{_≡_, ap, ap₂}
+use mathlib.Core.Path.{_≡_, ap, ap₂, _∙_}
 use mathlib.Core.List.{List, [], _∷_}
 use lib.ListN.{length}
 use denote.Ref.{now}
 use Rattle.sheet.specs.declared.record.Record.{Record}
 use Rattle.sheet.specs.Format.{standard, header}
 use Rattle.sheet.specs.Reader.{machinePayload}
-use Rattle.sheet.specs.Reader.Laws.{handed-content}
+use Rattle.sheet.specs.Reader.Laws.{payload-content, record-is}
 use Rattle.sheet.specs.Joining.{joined, fresh}
 use Rattle.sheet.specs.Writing.Laws.{puts-same}
 use Rattle.machine.specs.Limits.{mostMachine}
@@ -19,23 +19,27 @@ use Rattle.report.proofs.Listing.{word-written, word-line}
 use Rattle.report.proofs.sheets.with_word.Statement.{statement}
 use Rattle.report.proofs.sheets.with_word.Tie as tie
 
-record-of-requires : tie.Need-record-of-requires
-record-of-requires c κs = search needs
+record-or-requires : tie.Need-record-or-requires
+record-or-requires c κs = search needs
 
-read-requires : tie.Need-read-requires
-read-requires c κs = search needs
+payload-requires : tie.Need-payload-requires
+payload-requires c κs = search needs
 
 -- what is known once the machine's record is read
-abbrev start-at : tie.After-read → tie.Start
+abbrev start-at : tie.After-payload → tie.Start
 start-at d = d .before .before .before .before
 
-payload-is : (d : tie.After-read) → now (d .read .result) ≡ machinePayload (now (start-at d .args .sheet))
-payload-is d = handed-content standard _ (start-at d .args .sheet) (d .read .result) (d .read .ensures)
+payload-is : (d : tie.After-payload) → now (d .payload .result) ≡ machinePayload (now (start-at d .args .sheet))
+payload-is d =
+    payload-content standard _ (start-at d .args .sheet) (d .payload .result) (start-at d .pre .found)
+    (d .payload .ensures)
 
 put-two-requires : tie.Need-put-two-requires
 put-two-requires c κs =
-    let start = start-at (c .before) in
-    omega (arith, ap length (payload-is (c .before)), start .pre .machine, start .pre .few)
+    let start = start-at (c .before) in (
+      omega (arith, ap length (payload-is (c .before)), start .pre .machine, start .pre .few),
+      search needs,
+    )
 
 -- the records leave room for the line
 sized : (u : tie.After-put-two) → u .put-two .result ≤ header + mostMachine standard + (header + mostSought)
@@ -97,15 +101,16 @@ returns c =
     word-written (now (start .args .sheet)) w (now (start .args .out))
     (puts-same
     (ap₂ (λ (kind : ℕ) (p : List ℕ). joined ((kind, p) ∷ fresh (standard .word) w ∷ []))
-    (ap (λ (r : Record). r .kind) (d .before .record-of .ensures)) (payload-is d)) (unit .put-two .ensures .0))
+    (ap (λ (r : Record). r .kind) (d .before .record-or .ensures ∙ record-is standard _ _ (start .pre .found)))
+    (payload-is d)) (unit .put-two .ensures .0))
     (word-line w (word .put .ensures) (list .put-list .ensures .0) (c .put2 .ensures))
 
 pub with-word-spec : {M : Type 1} → statement M
 with-word-spec =
     tie.close
     (tie.spec
-    record-of-requires
-    read-requires
+    record-or-requires
+    payload-requires
     put-two-requires
     slice-aggregate-put
     put-requires

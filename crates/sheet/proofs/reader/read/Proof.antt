@@ -1,31 +1,22 @@
--- `sheet::reader::read` meets its contract: the slice from the part's start to its end is the part, in the sheet's own
--- block. Assumes nothing.
+-- `sheet::reader::read` meets its contract: the part of what is found. Assumes nothing.
 use borrow.Author.Needs.{needs}
-use native.Mathlib.Nat.{add-comm, add-sub-cancel-left}
-use Rattle.sheet.specs.Reader.{handed, partBytes}
+use mathlib.Core.Path.{ap, _∙_}
+use Rattle.sheet.specs.Format.{standard}
+use Rattle.sheet.specs.Reader.{handed}
+use Rattle.sheet.specs.Reader.Laws.{part-within}
 use Rattle.sheet.proofs.reader.read.Statement.{statement}
 use Rattle.sheet.proofs.reader.read.Tie as tie
 
-part-of-requires : tie.Need-part-of-requires
-part-of-requires c κs = search needs
+find-requires : tie.Need-find-requires
+find-requires c κs = search needs
 
-add-end : tie.Need-add-end
-add-end c = search needs
-
-sub-result : tie.Need-sub-result
-sub-result c = search needs
-
-part-result-start : tie.Need-part-result-start
-part-result-start c = search needs
-
-part-result-end : tie.Need-part-result-end
-part-result-end c = search needs
+payload-requires : tie.Need-payload-requires
+payload-requires c κs = search needs
 
 returns : tie.Need-returns
-unfolding handed partBytes
-returns c = rw (add-comm, add-sub-cancel-left, c .before .before .part-of .ensures .0)
+returns c =
+    c .payload .ensures
+    ∙ ap (handed (c .before .before .before .args .sheet)) (part-within standard _ _ (c .before .find .ensures))
 
 pub read-spec : {M : Type 1} → statement M
-read-spec =
-    tie.close
-    (tie.spec part-of-requires add-end sub-result part-result-start part-result-end returns)
+read-spec = tie.close (tie.spec find-requires payload-requires returns)

@@ -1,13 +1,14 @@
--- `sheet::record::cut` meets its contract: its two tests are those of cause 1.
--- Assumes nothing.
+-- `sheet::record::cut` meets its contract: its two tests are those of cause 1. Assumes nothing.
+use Rattle.sheet.specs.Format.{end, cause1}
 use borrow.Author.Needs.{needs}
-use mathlib.Core.Path.{_∙_}
-use Rattle.sheet.specs.Format.Laws.{cause1-is}
 use Rattle.sheet.proofs.record.cut.Statement.{statement}
 use Rattle.sheet.proofs.record.cut.Tie as tie
 
-record-at-requires : tie.Need-record-at-requires
-record-at-requires c κs = search needs
+cast-start : tie.Need-cast-start
+cast-start c = search needs
+
+cast-size : tie.Need-cast-size
+cast-size c = search needs
 
 add-body : tie.Need-add-body
 add-body c = search needs
@@ -19,7 +20,8 @@ refuse-requires : tie.Need-refuse-requires
 refuse-requires c κs = search needs
 
 returns : tie.Need-returns
-returns c = c .refuse .ensures ∙ cause1-is _ _ _ (c .before .before .record-at .ensures .0)
+unfolding end cause1
+returns c = c .refuse .ensures
 
 pub cut-spec : {M : Type 1} → statement M
-cut-spec = tie.close (tie.spec record-at-requires add-body add-refuse refuse-requires returns)
+cut-spec = tie.close (tie.spec cast-start cast-size add-body add-refuse refuse-requires returns)

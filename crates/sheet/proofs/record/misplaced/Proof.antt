@@ -1,16 +1,18 @@
--- `sheet::record::misplaced` meets its contract: its test is that of cause 2.
--- Assumes nothing.
+-- `sheet::record::misplaced` meets its contract: its test is that of cause 2. Assumes nothing.
+use Prim.Native.Nat.{ℕ}
+use mathlib.Core.Path.{ap, _∙_}
+use lib.Dec.{leb}
+use Rattle.sheet.specs.Check.{refusal_with_if_}
+use Rattle.sheet.specs.Format.{rank, cause2}
 use borrow.Author.Needs.{needs}
-use mathlib.Core.Path.{_∙_}
-use Rattle.sheet.specs.Format.{cause2}
 use Rattle.sheet.proofs.record.misplaced.Statement.{statement}
 use Rattle.sheet.proofs.record.misplaced.Tie as tie
 
-record-at-requires : tie.Need-record-at-requires
-record-at-requires c κs = search needs
+cast-start : tie.Need-cast-start
+cast-start c = search needs
 
-kind-of-requires : tie.Need-kind-of-requires
-kind-of-requires c κs = search needs
+role-of-requires : tie.Need-role-of-requires
+role-of-requires c κs = search needs
 
 rank-requires : tie.Need-rank-requires
 rank-requires c κs = search needs
@@ -20,8 +22,12 @@ refuse-requires c κs = search needs
 
 returns : tie.Need-returns
 unfolding cause2
-returns c = c .refuse .ensures ∙ cc
+returns c =
+    let args = c .before .before .before .before .args in
+    c .refuse .ensures
+    ∙ ap (λ (n : ℕ). refusal 2 with args .r .start if leb n (args .last))
+    (c .before .rank .ensures ∙ ap rank (c .before .before .role-of .ensures))
 
 pub misplaced-spec : {M : Type 1} → statement M
 misplaced-spec =
-    tie.close (tie.spec record-at-requires kind-of-requires rank-requires refuse-requires returns)
+    tie.close (tie.spec cast-start role-of-requires rank-requires refuse-requires returns)

@@ -65,9 +65,23 @@ add-kind c = search needs
 cast-t17 : tie.Need-cast-t17
 cast-t17 c = search needs
 
+cast-t18 : tie.Need-cast-t18
+cast-t18 c = search needs
+
+cast-t19 : tie.Need-cast-t19
+cast-t19 c = search needs
+
 returns : tie.Need-returns
 unfolding recordAt
-returns c = (cc, search needs)
+returns c =
+    rw (
+      c .before .before .before .before .before .wide .ensures .0,
+      c .before .before .before .before .wide2 .ensures .0,
+      c .before .before .before .wide3 .ensures .0,
+      c .before .before .wide4 .ensures .0,
+      c .before .wide5 .ensures .0,
+      c .wide6 .ensures .0,
+    )
 
 pub record-at-spec : {M : Type 1} → statement M
 record-at-spec =
@@ -93,4 +107,6 @@ record-at-spec =
     mul-kind
     add-kind
     cast-t17
+    cast-t18
+    cast-t19
     returns)

@@ -12,14 +12,14 @@ parts-at start =
     partsOf (now (start .args .machine)) (now (start .args .word)) (now (start .args .sequence))
     (now (start .args .answers))
 
-abbrev start-at : tie.After-put-record → tie.Start
+abbrev start-at : tie.After-put-role → tie.Start
 start-at d = d .before .before .before .before .before .before .before
 
-put-record-requires : tie.Need-put-record-requires
-put-record-requires c κs = search needs
+put-role-requires : tie.Need-put-role-requires
+put-role-requires c κs = search needs
 
-put-record-requires-2 : tie.Need-put-record-requires-2
-put-record-requires-2 c κs = search needs
+put-role-requires-2 : tie.Need-put-role-requires-2
+put-role-requires-2 c κs = search needs
 
 enum-told : tie.Need-enum-told
 enum-told c = search needs
@@ -27,17 +27,17 @@ enum-told c = search needs
 enum-told-2 : tie.Need-enum-told-2
 enum-told-2 c = search needs
 
-put-record-requires-3 : tie.Need-put-record-requires-3
-put-record-requires-3 c κs = search needs
+put-role-requires-3 : tie.Need-put-role-requires-3
+put-role-requires-3 c κs = search needs
 
 enum-told-3 : tie.Need-enum-told-3
 enum-told-3 c = search needs
 
-put-record-requires-4 : tie.Need-put-record-requires-4
-put-record-requires-4 c κs = search needs
+put-role-requires-4 : tie.Need-put-role-requires-4
+put-role-requires-4 c κs = search needs
 
-put-record-requires-5 : tie.Need-put-record-requires-5
-put-record-requires-5 c κs = search needs
+put-role-requires-5 : tie.Need-put-role-requires-5
+put-role-requires-5 c κs = search needs
 
 same-length : tie.Need-same-length
 same-length c = search needs
@@ -48,7 +48,7 @@ returns c =
     let one = two .before .before .before .before in
     let start = start-at one in
     puts-sheet (parts-at start) (c .enum-told .given .1) (start .pre)
-    (more (one .put-record .ensures) (more (two .put-record2 .ensures) done))
+    (more (one .put-role .ensures) (more (two .put-role2 .ensures) done))
 
 same-length-2 : tie.Need-same-length-2
 same-length-2 c = search needs
@@ -61,7 +61,7 @@ returns-2 c =
     let one = two .before .before .before .before in
     let start = start-at one in
     puts-sheet (parts-at start) (told .enum-told2 .given .1) (start .pre)
-    (more (one .put-record .ensures) (more (two .put-record2 .ensures) (more (three .put-record3 .ensures) done)))
+    (more (one .put-role .ensures) (more (two .put-role2 .ensures) (more (three .put-role3 .ensures) done)))
 
 same-length-3 : tie.Need-same-length-3
 same-length-3 c = search needs
@@ -75,21 +75,21 @@ returns-3 c =
     let one = two .before .before .before .before in
     let start = start-at one in
     puts-sheet (parts-at start) (told .enum-told3 .given .1) (start .pre)
-    (more (one .put-record .ensures) (more (two .put-record2 .ensures)
-    (more (three .put-record4 .ensures) (more (four .put-record5 .ensures) done))))
+    (more (one .put-role .ensures) (more (two .put-role2 .ensures)
+    (more (three .put-role4 .ensures) (more (four .put-role5 .ensures) done))))
 
 pub put-parts-spec : {M : Type 1} → statement M
 put-parts-spec =
     tie.close
     (tie.spec
-    put-record-requires
-    put-record-requires-2
+    put-role-requires
+    put-role-requires-2
     enum-told
     enum-told-2
-    put-record-requires-3
+    put-role-requires-3
     enum-told-3
-    put-record-requires-4
-    put-record-requires-5
+    put-role-requires-4
+    put-role-requires-5
     same-length
     returns
     same-length-2

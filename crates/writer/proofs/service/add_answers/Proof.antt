@@ -1,19 +1,20 @@
 -- `writer::service::add_answers` meets its contract: causes 1 and 2 with nothing written, and else what the writer
 -- promises of the sheet's machine, word and sequence. Assumes nothing.
 use Prim.Native.Nat.{ℕ}
-use mathlib.Core.Path.{_≡_}
+use mathlib.Core.Path.{_≡_, ap}
 use mathlib.Core.List.{List}
 use denote.Ref.{now}
 use borrow.Author.Needs.{needs}
+use Rattle.sheet.specs.declared.parse.Reading.{Reading}
 use Rattle.sheet.specs.Format.{standard}
-use Rattle.sheet.specs.Reader.Laws.{handed-content}
+use Rattle.sheet.specs.Reader.Laws.{payload-content}
 use Rattle.writer.specs.Parts.{partsOf}
 use Rattle.writer.proofs.Answering.{sheet-refused, added}
 use Rattle.writer.proofs.service.add_answers.Statement.{statement}
 use Rattle.writer.proofs.service.add_answers.Tie as tie
 
-checks-requires : tie.Need-checks-requires
-checks-requires c κs = search needs
+read-sheet-requires : tie.Need-read-sheet-requires
+read-sheet-requires c κs = search needs
 
 enum-known-check : tie.Need-enum-known-check
 enum-known-check c = search needs
@@ -22,20 +23,21 @@ returns : tie.Need-returns
 returns c =
     let check = c .before .before .before in
     let start = check .before .before .before .before in
+    let reads = check .read-sheet .ensures in
     sheet-refused (now (start .args .sheet)) (now (start .args .answers)) (now (start .args .buffer))
-    (check .checks .ensures) (c .before .check .given .1)
+    (ap (λ (r : Reading). r .check) reads) (c .before .check .given .1)
 
 enum-told : tie.Need-enum-told
 enum-told c = search needs
 
-read-requires : tie.Need-read-requires
-read-requires c κs = search needs
+payload-requires : tie.Need-payload-requires
+payload-requires c κs = search needs
 
-read-requires-2 : tie.Need-read-requires-2
-read-requires-2 c κs = search needs
+payload-requires-2 : tie.Need-payload-requires-2
+payload-requires-2 c κs = search needs
 
-read-requires-3 : tie.Need-read-requires-3
-read-requires-3 c κs = search needs
+payload-requires-3 : tie.Need-payload-requires-3
+payload-requires-3 c κs = search needs
 
 write-requires : tie.Need-write-requires
 write-requires c κs = search needs
@@ -52,29 +54,33 @@ returns-2 c =
     let three = c .before .before .before .before in
     let two = three .before in
     let one = two .before in
-    let told = one .before in
+    let told = one .before .before in
     let check = told .before .before in
     let start = check .before .before .before .before in
     let sheet = start .args .sheet in
-    added (now sheet) (now (start .args .answers)) (now (start .args .buffer)) (check .checks .ensures)
+    let reads = check .read-sheet .ensures in
+    added (now sheet) (now (start .args .answers)) (now (start .args .buffer)) (ap (λ (r : Reading). r .check) reads)
     (told .enum-told .given .1)
     (parts-same (now (start .args .answers))
-    (handed-content standard _ sheet (one .read .result) (one .read .ensures))
-    (handed-content standard _ sheet (two .read2 .result) (two .read2 .ensures))
-    (handed-content standard _ sheet (three .read3 .result) (three .read3 .ensures)))
+    (payload-content standard _ sheet (one .payload .result) (ap (λ (r : Reading). r .records .machine) reads)
+    (one .payload .ensures))
+    (payload-content standard _ sheet (two .payload2 .result) (ap (λ (r : Reading). r .records .word) reads)
+    (two .payload2 .ensures))
+    (payload-content standard _ sheet (three .payload3 .result) (ap (λ (r : Reading). r .records .sequence) reads)
+    (three .payload3 .ensures)))
     (c .before .before .write .ensures)
 
 pub add-answers-spec : {M : Type 1} → statement M
 add-answers-spec =
     tie.close
     (tie.spec
-    checks-requires
+    read-sheet-requires
     enum-known-check
     returns
     enum-told
-    read-requires
-    read-requires-2
-    read-requires-3
+    payload-requires
+    payload-requires-2
+    payload-requires-3
     write-requires
     same-length
     returns-2)

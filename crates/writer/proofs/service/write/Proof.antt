@@ -61,10 +61,13 @@ put-parts-requires c κs =
     let counted = room .before in
     let told = counted .before in
     let check = told .before .before in
-    let start = check .before .before .before .before .before .before in
-    fits (start .args .wanted) (parts-at start) (now (start .args .buffer)) (check .parts-check .ensures)
-    (told .enum-told .given .1) (counted .length-of .ensures) (room .room-check .ensures)
-    (c .before .enum-told2 .given .1)
+    let start = check .before .before .before .before .before .before in (
+      short (start .args .wanted) (parts-at start) (now (start .args .buffer)) (check .parts-check .ensures)
+          (told .enum-told .given .1),
+      fits (start .args .wanted) (parts-at start) (now (start .args .buffer)) (check .parts-check .ensures)
+          (told .enum-told .given .1) (counted .length-of .ensures) (room .room-check .ensures)
+          (c .before .enum-told2 .given .1),
+    )
 
 same-length : tie.Need-same-length
 same-length c = search needs
