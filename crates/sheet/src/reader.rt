@@ -12,7 +12,6 @@ use crate::check::Check;
 use crate::check::first_of;
 use crate::check::refuse;
 use crate::format::LONGEST;
-use crate::format::role_of;
 use crate::parse::Reading;
 use crate::parse::parse;
 use crate::record::Found;
@@ -20,7 +19,7 @@ use crate::record::HEADER;
 use crate::record::Record;
 use crate::record::Records;
 use crate::record::no_records;
-use crate::record::of_role;
+use crate::record::of_kind;
 
 // A part of a sheet: where it starts and its length.
 pub struct Part {
@@ -151,7 +150,7 @@ fn find(sheet: &[u8], kind: u16) -> Found
 {
     let w = read_whole(sheet);
     let records = w.records;
-    of_role(records, role_of(kind))
+    of_kind(records, kind)
 }
 
 // The refusal's number and place of reading a kind, or that there is none.
@@ -161,7 +160,7 @@ pub fn refusal(sheet: &[u8], kind: u16) -> Check
     let w = read_whole(sheet);
     let whole = w.check;
     let records = w.records;
-    let found = of_role(records, role_of(kind));
+    let found = of_kind(records, kind);
     let lacking = missing_check(sheet.len(), is_missing(found));
     first_of(whole, lacking)
 }

@@ -2,7 +2,7 @@
 ghost use mathlib.Core.Path.{_≡_};
 ghost use Prim.Native.Nat.{_<_, _^_};
 ghost use lib.ListN.{getD};
-ghost use Rattle.sheet.specs.Format.{standard, recordAt, cause1, cause2, causeOf, _or_};
+ghost use Rattle.sheet.specs.Format.{standard, roleOf, recordAt, cause1, cause2, causeOf, _or_};
 ghost use Rattle.sheet.specs.Format.{noRecords, oneRecord, _orEach_, ofRole};
 ghost use Rattle.sheet.specs.Format.{rank as rankOf};
 use crate::check::Check;
@@ -168,7 +168,7 @@ pub fn with_record(found: Records, r: Record) -> Records
 }
 
 // The record of a role.
-pub fn of_role(records: Records, role: Role) -> Found
+fn of_role(records: Records, role: Role) -> Found
     ensures { λ f. ⌜ f ≡ ofRole records role ⌝ }
 {
     match role {
@@ -178,4 +178,11 @@ pub fn of_role(records: Records, role: Role) -> Found
         Role::Answers => records.answers,
         Role::Unknown => Found::Missing,
     }
+}
+
+// The record of the role that a kind has.
+pub fn of_kind(records: Records, kind: u16) -> Found
+    ensures { λ f. ⌜ f ≡ ofRole records (roleOf standard kind) ⌝ }
+{
+    of_role(records, role_of(kind))
 }

@@ -19,7 +19,7 @@ use Rattle.sheet.specs.Reader.{wordRecord, sequenceRecord}
 use Rattle.sheet.specs.Reader.Laws.{needed-without-answers, needed-clear, clear-reads}
 use Rattle.machine.specs.Limits.{mostMachine, mostWord, mostSequence}
 use Rattle.machine.specs.Machine.{Mealy, machineOf, Proper, AlwaysAnswers, Commands, Distinguishes}
-use Rattle.machine.specs.Causes.{cause3, cause4, cause12, cause5, cause7, cause6, machineIn, held, tableCauses}
+use Rattle.machine.specs.Causes.{cause5, cause7, cause6, machineIn, held, tableCauses}
 use Rattle.machine.specs.Causes.{wordCauses, sequenceCauses, tableCausesIn, wordCausesIn, sequenceCausesIn}
 use Rattle.machine.specs.Causes.{machineCauses, loadCauses}
 use Rattle.machine.specs.Causes.Laws.{Shape, clear-shape, shape-clear, shape-entries, clear-next, next-clear}

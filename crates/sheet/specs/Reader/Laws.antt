@@ -15,6 +15,7 @@ use Rattle.sheet.specs.declared.check.Check.{Check}
 use Rattle.sheet.specs.declared.check.Check.the-variants.{Clear, Refused}
 use Rattle.sheet.specs.declared.record.Record.{Record}
 use Rattle.sheet.specs.declared.record.Found.{Found}
+use Rattle.sheet.specs.declared.record.Records.{Records}
 use Rattle.sheet.specs.declared.record.Found.the-variants.{At, Missing}
 use Rattle.sheet.specs.declared.reader.Needs.{Needs}
 use Rattle.sheet.specs.declared.parse.Reading.{Reading}
@@ -24,18 +25,18 @@ use Rattle.sheet.specs.Check.Laws.{clear-refused, either-there, cause-no
 use Rattle.sheet.specs.Format.{Format, standard, recordAt, end, roleOf, rank, causeAt, Parsed, parsed, find}
 use Rattle.sheet.specs.Format.{recordsBy, noRecords, recordsAmong, ofRole}
 use Rattle.sheet.specs.Format.Laws.{clear-inside, clear-rank, parsed-is, parse-induction, none-found, found-cons}
-use Rattle.sheet.specs.Format.Laws.{missing-found as not-found, end-size, by-kind}
+use Rattle.sheet.specs.Format.Laws.{missing-found, end-size, by-kind}
 use Rattle.sheet.specs.Reader.{tooLong, isMissing, missing, sheetCauses, when, needed, refusalOf, lacks}
 use Rattle.sheet.specs.Reader.{wholeCause, foundIn, recordsIn, lacksNeeded}
 use Rattle.sheet.specs.Reader.{recordOr, recordOf, payloadPart, part, within, partWithin, partBytes, content}
-use Rattle.sheet.specs.Reader.{seen, handed, Reads}
+use Rattle.sheet.specs.Reader.{seen, handed, Reads, machinePayload, wordIn, sequenceIn, answersIn}
 use denote.Ref.{RefT, now}
 
 -- a record that the sheet holds
 pub within-inside : (s : List ℕ) (r : Record) → within s (At r) ≡ At r → end r ≤ length s
 within-inside s r h = elim (true-or-false (leb (end r) (length s))) [
   | inl e ↦ leb-true _ _ e
-  | inr e ↦ not-found (rw e refl) h
+  | inr e ↦ missing-found (rw e refl) h
 ]
 
 -- what is not missing is found
@@ -170,13 +171,13 @@ module _ (F : Format) where
       go (Refused n p) e = found-refused (k ∷ []) s e
 
   -- causes 1 and 2 by what is found: what is missing counts only where nothing comes before it
-  missing-found : (s : List ℕ) → wholeCause F s ≡ Clear → (roles : List (List ℕ))
+  lacks-causes : (s : List ℕ) → wholeCause F s ≡ Clear → (roles : List (List ℕ))
       → (refusal 2 with length s if lacks (λ ks. foundIn F ks s) roles) ≡ firstCause (map (missing F s) roles)
-  missing-found s e [] = absent 2 (length s) refl ∙ sym cause-none
-  missing-found s e (ks ∷ roles) =
+  lacks-causes s e [] = absent 2 (length s) refl ∙ sym cause-none
+  lacks-causes s e (ks ∷ roles) =
       sym (either-there 2 (length s) _ _)
       ∙ ap₂ _else_ (ap (λ (f : Found). refusal 2 with length s if isMissing f) (found-clear ks s e))
-      (missing-found s e roles)
+      (lacks-causes s e roles)
       ∙ sym (cause-cons _ _)
 
   pub causes-found : (roles : List (List ℕ)) (s : List ℕ)
@@ -187,7 +188,7 @@ module _ (F : Format) where
       go : (c : Check) → wholeCause F s ≡ c
           → (wholeCause F s else (refusal 2 with length s if lacks (λ ks. foundIn F ks s) roles))
           ≡ (wholeCause F s else firstCause (map (missing F s) roles))
-      go Clear e = ap (λ (c : Check). wholeCause F s else c) (missing-found s e roles)
+      go Clear e = ap (λ (c : Check). wholeCause F s else c) (lacks-causes s e roles)
       go (Refused n p) e = refusal-stays _ e ∙ sym (refusal-stays _ e)
 
   pub refusal-found : (ks s : List ℕ)
@@ -241,7 +242,7 @@ module _ (F : Format) where
     where
       go : (c : Check) → wholeCause F s ≡ c → within s (At r) ≡ At r
       go Clear q = simp (le-leb _ _ (found-inside s ks r (sym (found-clear ks s q) ∙ e)))
-      go (Refused n p) q = not-found (found-refused ks s q) e
+      go (Refused n p) q = missing-found (found-refused ks s q) e
 
   pub part-within : (ks s : List ℕ) {f : Found} → f ≡ foundIn F ks s → partWithin s f ≡ part F ks s
   unfolding part partWithin
@@ -326,7 +327,21 @@ module _ (F : Format) where
   pub needed-word : (n : Needs) → n .word ≡ true → List·Memᴰ (F .word) (needed F n)
   needed-word n e = List·Memᴰ·tail (Memᴰ·append-left _ (on-needed (F .word) e))
 
--- ---- a kind, in the format that the services take: what is found is the record of its role
+-- ---- the parts of a sheet in the format that the services take, by the records that one pass gives
+module _ (s w : RefT (List ℕ)) {rs : Records} (e : rs ≡ recordsIn standard (now s)) where
+  pub machine-read : seen w ≡ handed s (partWithin (now s) (rs .machine)) → now w ≡ machinePayload (now s)
+  machine-read = payload-content standard (standard .machine) s w (ap (λ (r : Records). r .machine) e)
+
+  pub word-read : seen w ≡ handed s (partWithin (now s) (rs .word)) → now w ≡ wordIn (now s)
+  word-read = payload-content standard (standard .word) s w (ap (λ (r : Records). r .word) e)
+
+  pub sequence-read : seen w ≡ handed s (partWithin (now s) (rs .sequence)) → now w ≡ sequenceIn (now s)
+  sequence-read = payload-content standard (standard .sequence) s w (ap (λ (r : Records). r .sequence) e)
+
+  pub answers-read : seen w ≡ handed s (partWithin (now s) (rs .answers)) → now w ≡ answersIn (now s)
+  answers-read = payload-content standard (standard .answers) s w (ap (λ (r : Records). r .answers) e)
+
+-- ---- a kind there: what is found is the record of its role
 pub found-by-kind : (k : ℕ) (s : List ℕ)
     → foundIn standard (k ∷ []) s ≡ ofRole (recordsIn standard s) (roleOf standard k)
 unfolding roleOf

@@ -1,16 +1,13 @@
 -- `build::loading::load_table` meets its contract. Assumes nothing.
 use denote.Ref.{now}
-use mathlib.Core.Path.{ap}
-use Rattle.sheet.specs.declared.record.Records.{Records}
 use Rattle.sheet.specs.Check.Laws.{clear-refused}
-use Rattle.sheet.specs.Reader.Laws.{payload-content}
+use Rattle.sheet.specs.Reader.Laws.{word-read}
 use Rattle.machine.specs.Loading.Laws.{loaded-proper}
 use Rattle.build.specs.Building.{buildNeeds}
 use Rattle.build.proofs.TableLoading.{early-connected, eight-connected}
 use borrow.Author.Needs.{needs}
 use Rattle.build.proofs.loading.load_table.Statement.{statement}
 use Rattle.build.proofs.loading.load_table.Tie as tie
-use Rattle.sheet.specs.Format.{standard}
 
 load-sheet-requires : tie.Need-load-sheet-requires
 load-sheet-requires c κs = search needs
@@ -52,8 +49,7 @@ returns-2 c =
     let load = early .before .before in
     let start = load .before .before .before in
     let same =
-    payload-content standard _ (start .args .sheet) (word .payload .result)
-    (ap (λ (r : Records). r .word) (load .load-sheet .ensures .records)) (word .payload .ensures) in (
+    word-read (start .args .sheet) (word .payload .result) (load .load-sheet .ensures .records) (word .payload .ensures) in (
       eight-connected (now (start .args .sheet)) (load .load-sheet .ensures) (early .enum-told2 .given .1) same
           (table .connect .ensures .0),
       λ e. rw (← same) (table .connect .ensures .1 e),

@@ -3,15 +3,13 @@
 use Prim.Native.Nat.{ℕ}
 use denote.Ref.{RefT, now}
 use mathlib.Core.List.{List}
-use mathlib.Core.Path.{_≡_, ap}
-use Rattle.sheet.specs.declared.record.Records.{Records}
+use mathlib.Core.Path.{_≡_}
 use Rattle.sheet.specs.Reader.{seen, handed, partWithin, wordIn}
-use Rattle.sheet.specs.Reader.Laws.{payload-content}
+use Rattle.sheet.specs.Reader.Laws.{word-read}
 use Rattle.build.proofs.Answering.{front-none, early-refused, write-required, nine-refused, built}
 use borrow.Author.Needs.{needs}
 use Rattle.build.proofs.service.build_with_records.Statement.{statement}
 use Rattle.build.proofs.service.build_with_records.Tie as tie
-use Rattle.sheet.specs.Format.{standard}
 
 slice-aggregate-load-table : tie.Need-slice-aggregate-load-table
 slice-aggregate-load-table c = search needs
@@ -37,8 +35,7 @@ word-is : (load : tie.After-load-table) (w : RefT (List ℕ)) → seen w
     (partWithin (now (load .before .before .before .before .args .sheet)) (load .load-table .result .records .word))
     → now w ≡ wordIn (now (load .before .before .before .before .args .sheet))
 word-is load w e =
-    payload-content standard _ (load .before .before .before .before .args .sheet) w
-    (ap (λ (r : Records). r .word) (load .load-table .ensures .0 .records)) e
+    word-read (load .before .before .before .before .args .sheet) w (load .load-table .ensures .0 .records) e
 
 enum-told : tie.Need-enum-told
 enum-told c = search needs

@@ -5,9 +5,8 @@ use Prim.Native.Nat.{ℕ}
 use mathlib.Core.Path.{ap, _∙_}
 use mathlib.Core.List.{List}
 use Rattle.sheet.specs.declared.check.Check.{Check}
-use Rattle.sheet.specs.declared.record.Records.{Records}
 use denote.Ref.{now}
-use Rattle.sheet.specs.Reader.Laws.{payload-content}
+use Rattle.sheet.specs.Reader.Laws.{sequence-read}
 use Rattle.sheet.specs.Check.{_else_}
 use Rattle.sheet.specs.Reader.{sequenceIn}
 use Rattle.sheet.specs.Promise.{cause9}
@@ -16,7 +15,6 @@ use Rattle.certify.specs.Certification.{markBytes}
 use Rattle.certify.specs.Certification.Laws.{marking-causes-are}
 use Rattle.certify.proofs.loading.load_sequence.Statement.{statement}
 use Rattle.certify.proofs.loading.load_sequence.Tie as tie
-use Rattle.sheet.specs.Format.{standard}
 
 load-sheet-requires : tie.Need-load-sheet-requires
 load-sheet-requires c κs = search needs
@@ -45,8 +43,7 @@ returns c =
     ∙ ap (λ (x : Check). loaded .result .check else x)
     (c .before .room-check .ensures
     ∙ ap (λ (xs : List ℕ). cause9 room (markBytes xs))
-    (payload-content standard _ (start .args .sheet) (c .before .before .payload .result)
-    (ap (λ (r : Records). r .sequence) (loaded .ensures .records)) (c .before .before .payload .ensures))))
+    (sequence-read (start .args .sheet) (c .before .before .payload .result) (loaded .ensures .records) (c .before .before .payload .ensures))))
 
 pub load-sequence-spec : {M : Type 1} → statement M
 load-sequence-spec =

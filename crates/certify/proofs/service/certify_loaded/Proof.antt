@@ -7,10 +7,8 @@ use mathlib.Core.Path.{_≡_, refl, sym, ap}
 use Prim.Native.Nat.{_+_, _≤_}
 use lib.ListN.{length}
 use lib.Seq.{length-take-le, length-front}
-use Rattle.sheet.specs.declared.record.Records.{Records}
-use Rattle.sheet.specs.Format.{standard}
 use Rattle.sheet.specs.Reader.{wordIn, sequenceIn}
-use Rattle.sheet.specs.Reader.Laws.{payload-content}
+use Rattle.sheet.specs.Reader.Laws.{word-read, sequence-read}
 use Rattle.certify.specs.Certification.Laws.{certifiable-proper, certifiable-commands, certifiable-fits}
 use Rattle.certify.proofs.Answering.{certifies-clear}
 use Rattle.certify.proofs.service.certify_loaded.Statement.{statement}
@@ -31,13 +29,11 @@ start-at d = d .before .before .before .before .before .before
 
 word-is : (d : tie.After-payload2) → now (d .before .payload .result) ≡ wordIn (now (start-at d .args .sheet))
 word-is d =
-    payload-content standard _ (start-at d .args .sheet) (d .before .payload .result)
-    (ap (λ (r : Records). r .word) (start-at d .pre .records)) (d .before .payload .ensures)
+    word-read (start-at d .args .sheet) (d .before .payload .result) (start-at d .pre .records) (d .before .payload .ensures)
 
 sequence-is : (d : tie.After-payload2) → now (d .payload2 .result) ≡ sequenceIn (now (start-at d .args .sheet))
 sequence-is d =
-    payload-content standard _ (start-at d .args .sheet) (d .payload2 .result)
-    (ap (λ (r : Records). r .sequence) (start-at d .pre .records)) (d .payload2 .ensures)
+    sequence-read (start-at d .args .sheet) (d .payload2 .result) (start-at d .pre .records) (d .payload2 .ensures)
 
 fits : (d : tie.After-payload2) → length (now (d .payload2 .result)) + 1 ≤ length (now (start-at d .args .marks))
 fits d = omega (arith, ap length (sequence-is d), certifiable-fits _ _ (start-at d .pre))

@@ -1,14 +1,12 @@
 -- `desk::starting::start` meets its contract. Assumes nothing.
 use Prim.Native.Nat.{_<_}
-use mathlib.Core.Path.{refl, ap}
+use mathlib.Core.Path.{refl}
 use denote.Ref.{now}
-use Rattle.sheet.specs.declared.record.Records.{Records}
-use Rattle.sheet.specs.Reader.Laws.{payload-content}
+use Rattle.sheet.specs.Reader.Laws.{word-read}
 use Rattle.desk.proofs.Beginning.{end-small, starts-clear, starts-refused}
 use borrow.Author.Needs.{needs}
 use Rattle.desk.proofs.starting.start.Statement.{statement}
 use Rattle.desk.proofs.starting.start.Tie as tie
-use Rattle.sheet.specs.Format.{standard}
 
 load-connected-requires : tie.Need-load-connected-requires
 load-connected-requires c κs = search needs
@@ -46,8 +44,7 @@ returns c =
     let put = c .before .before .before .before .before in
     starts-clear (now (start .args .sheet)) (load .load-connected .result) (load .load-connected .ensures) _
     (now (put .before .before .payload .result)) refl
-    (payload-content standard _ (start .args .sheet) (put .before .before .payload .result)
-    (ap (λ (r : Records). r .word) (load .load-connected .ensures .records))
+    (word-read (start .args .sheet) (put .before .before .payload .result) (load .load-connected .ensures .records)
     (put .before .before .payload .ensures)) _
     (put .put .ensures .0)
     _ (put .put .ensures .1) _ _ (c .before .before .byte .ensures) (c .enum-told .given .1)
@@ -59,8 +56,7 @@ returns-2 c =
     let put = c .before .before .before .before .before .before in
     starts-refused (now (start .args .sheet)) (load .load-connected .result) (load .load-connected .ensures) _
     (now (put .before .before .payload .result)) refl
-    (payload-content standard _ (start .args .sheet) (put .before .before .payload .result)
-    (ap (λ (r : Records). r .word) (load .load-connected .ensures .records))
+    (word-read (start .args .sheet) (put .before .before .payload .result) (load .load-connected .ensures .records)
     (put .before .before .payload .ensures)) _
     (put .put .ensures .0) _ (put .put .ensures .1) _ _ (c .before .before .before .byte .ensures)
     (c .before .check .given .1)

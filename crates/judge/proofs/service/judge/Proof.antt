@@ -11,7 +11,7 @@ use Rattle.sheet.specs.declared.check.Check.the-variants.{Clear}
 use Rattle.sheet.specs.Check.{firstCause}
 use Rattle.sheet.specs.declared.record.Records.{Records}
 use Rattle.sheet.specs.Reader.{sequenceIn, answersIn, answersRecord}
-use Rattle.sheet.specs.Reader.Laws.{payload-content, record-is as read-record}
+use Rattle.sheet.specs.Reader.Laws.{sequence-read, answers-read, record-is as read-record}
 use Rattle.certify.specs.Certification.{Certifiable}
 use Rattle.certify.specs.Certification.Laws.{certifiable-proper, certifiable-commands, loaded-certifiable}
 use Rattle.judge.specs.Judging.{judgeCauses}
@@ -61,14 +61,12 @@ buffer d = now (start-at d .args .marks)
 
 sequence-is : (d : tie.After-first-of) → now (d .before .before .before .before .payload .result) ≡ sequenceIn (sheet d)
 sequence-is d =
-    payload-content standard _ (start-at d .args .sheet) (d .before .before .before .before .payload .result)
-    (ap (λ (r : Records). r .sequence) (loading d .load-sequence .ensures .records))
+    sequence-read (start-at d .args .sheet) (d .before .before .before .before .payload .result) (loading d .load-sequence .ensures .records)
     (d .before .before .before .before .payload .ensures)
 
 answers-are : (d : tie.After-first-of) → now (d .before .before .before .payload2 .result) ≡ answersIn (sheet d)
 answers-are d =
-    payload-content standard _ (start-at d .args .sheet) (d .before .before .before .payload2 .result)
-    (ap (λ (r : Records). r .answers) (loading d .load-sequence .ensures .records))
+    answers-read (start-at d .args .sheet) (d .before .before .before .payload2 .result) (loading d .load-sequence .ensures .records)
     (d .before .before .before .payload2 .ensures)
 
 record-is : (d : tie.After-first-of)

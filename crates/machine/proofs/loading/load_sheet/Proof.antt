@@ -4,14 +4,13 @@ use borrow.Author.Needs.{needs}
 use denote.Ref.{now}
 use mathlib.Core.Path.{_≡_, ap}
 use Rattle.sheet.specs.declared.parse.Reading.{Reading}
-use Rattle.sheet.specs.Reader.Laws.{payload-content}
+use Rattle.sheet.specs.Reader.Laws.{machine-read}
 use Rattle.machine.specs.Machine.{meaning}
 use Rattle.machine.specs.Causes.{held}
 use Rattle.machine.specs.Causes.Lists.{held-loaded}
 use Rattle.machine.proofs.LoadChecks.{loaded-by}
 use Rattle.machine.proofs.loading.load_sheet.Statement.{statement}
 use Rattle.machine.proofs.loading.load_sheet.Tie as tie
-use Rattle.sheet.specs.Format.{standard}
 
 read-sheet-requires : tie.Need-read-sheet-requires
 read-sheet-requires c κs = search needs
@@ -28,9 +27,8 @@ machine-is : (c : tie.After-load)
 machine-is c =
     let sheet = c .before .before .before .before .before .args .sheet in
     held-loaded (now sheet)
-    (payload-content standard _ sheet (c .before .payload .result)
-    (ap (λ (r : Reading). r .records .machine) (c .before .before .before .read-sheet .ensures))
-    (c .before .payload .ensures))
+    (machine-read sheet (c .before .payload .result)
+    (ap (λ (r : Reading). r .records) (c .before .before .before .read-sheet .ensures)) (c .before .payload .ensures))
     (c .load .ensures)
 
 all-checks-requires : tie.Need-all-checks-requires

@@ -11,7 +11,7 @@ use Rattle.sheet.specs.declared.record.Record.{Record}
 use Rattle.sheet.specs.declared.record.Records.{Records}
 use Rattle.sheet.specs.Format.{standard}
 use Rattle.sheet.specs.Reader.{recordsIn, machinePayload, wordIn}
-use Rattle.sheet.specs.Reader.Laws.{payload-content, record-is}
+use Rattle.sheet.specs.Reader.Laws.{machine-read, word-read, record-is}
 use Rattle.sheet.specs.Joining.{joined, recordIn, fresh}
 use Rattle.sheet.specs.Joining.Laws.{joined-append, puts-last}
 use Rattle.sheet.specs.Writing.Laws.{puts-same, puts-append}
@@ -64,13 +64,11 @@ records-are d = build-at d .build-with-records .ensures .1
 payload-is : (d : tie.After-payload2)
     → now (d .before .payload .result) ≡ machinePayload (now (start-at d .args .sheet))
 payload-is d =
-    payload-content standard _ (start-at d .args .sheet) (d .before .payload .result)
-    (ap (λ (r : Records). r .machine) (records-are d)) (d .before .payload .ensures)
+    machine-read (start-at d .args .sheet) (d .before .payload .result) (records-are d) (d .before .payload .ensures)
 
 word-is : (d : tie.After-payload2) → now (d .payload2 .result) ≡ wordIn (now (start-at d .args .sheet))
 word-is d =
-    payload-content standard _ (start-at d .args .sheet) (d .payload2 .result)
-    (ap (λ (r : Records). r .word) (records-are d)) (d .payload2 .ensures)
+    word-read (start-at d .args .sheet) (d .payload2 .result) (records-are d) (d .payload2 .ensures)
 
 put-two-requires : tie.Need-put-two-requires
 put-two-requires c κs =

@@ -6,8 +6,7 @@ use mathlib.Core.List.{List}
 use denote.Ref.{now}
 use borrow.Author.Needs.{needs}
 use Rattle.sheet.specs.declared.parse.Reading.{Reading}
-use Rattle.sheet.specs.Format.{standard}
-use Rattle.sheet.specs.Reader.Laws.{payload-content}
+use Rattle.sheet.specs.Reader.Laws.{machine-read, word-read, sequence-read}
 use Rattle.writer.specs.Parts.{partsOf}
 use Rattle.writer.proofs.Answering.{sheet-refused, added}
 use Rattle.writer.proofs.service.add_answers.Statement.{statement}
@@ -24,6 +23,7 @@ returns c =
     let check = c .before .before .before in
     let start = check .before .before .before .before in
     let reads = check .read-sheet .ensures in
+    let records = ap (λ (r : Reading). r .records) reads in
     sheet-refused (now (start .args .sheet)) (now (start .args .answers)) (now (start .args .buffer))
     (ap (λ (r : Reading). r .check) reads) (c .before .check .given .1)
 
@@ -59,15 +59,13 @@ returns-2 c =
     let start = check .before .before .before .before in
     let sheet = start .args .sheet in
     let reads = check .read-sheet .ensures in
+    let records = ap (λ (r : Reading). r .records) reads in
     added (now sheet) (now (start .args .answers)) (now (start .args .buffer)) (ap (λ (r : Reading). r .check) reads)
     (told .enum-told .given .1)
     (parts-same (now (start .args .answers))
-    (payload-content standard _ sheet (one .payload .result) (ap (λ (r : Reading). r .records .machine) reads)
-    (one .payload .ensures))
-    (payload-content standard _ sheet (two .payload2 .result) (ap (λ (r : Reading). r .records .word) reads)
-    (two .payload2 .ensures))
-    (payload-content standard _ sheet (three .payload3 .result) (ap (λ (r : Reading). r .records .sequence) reads)
-    (three .payload3 .ensures)))
+    (machine-read sheet (one .payload .result) records (one .payload .ensures))
+    (word-read sheet (two .payload2 .result) records (two .payload2 .ensures))
+    (sequence-read sheet (three .payload3 .result) records (three .payload3 .ensures)))
     (c .before .before .write .ensures)
 
 pub add-answers-spec : {M : Type 1} → statement M
