@@ -9,14 +9,14 @@ ghost use Rattle.streams.specs.Input.{step_after};
 use libc::{EINTR, STDIN_FILENO};
 
 // How many bytes were read, or that reading failed, which is not the same as none.
-#[derive(Drop)]
+#[derive(Clone, Copy)]
 pub enum Input {
     Read { size: usize },
     Failed,
 }
 
 // After one read: how many bytes there are now, that the input has ended, or that the read failed.
-#[derive(Drop)]
+#[derive(Clone, Copy)]
 pub enum Step {
     More { size: usize },
     End,

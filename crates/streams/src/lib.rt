@@ -1,5 +1,7 @@
 // A program's words, standard input or a file read to its end or until the buffer is full, a line of
 // standard input, and bytes written. A failure is told on standard error.
+#![tactic(auto)]
+
 mod input;
 mod line;
 mod output;

@@ -7,7 +7,7 @@ use crate::input::{Step, read_more};
 use libc::STDIN_FILENO;
 
 // How many bytes a line has, that the input has ended before one began, or that reading failed.
-#[derive(Drop)]
+#[derive(Clone, Copy)]
 pub enum Line {
     Read { size: usize },
     End,
