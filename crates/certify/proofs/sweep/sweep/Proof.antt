@@ -32,7 +32,7 @@ slice-aggregate-merge c = search rules
 merge-requires : tie.Need-merge-requires invariant-loop decreases-loop
 merge-requires c κs =
     let h = c.before.before.before.before.before.loop.invariant in (
-      omega (arith, h.head.low-cur, h.head.place),
+      omega (arith, h.head.low_cur, h.head.place),
       (h.head.place, (running_long h, (h.required.close_requires.commands.few, running_rising h))),
     )
 
@@ -64,7 +64,7 @@ represent-next-requires c κs =
     (running_merge_required h f) in
     let tl =
     c.before.before.before.before.before.before.before.before.before.before.before.before.before.before.before.before.before.loop-test.true in (
-      omega (arith, h.head.low-cur),
+      omega (arith, h.head.low_cur),
       (
         tl,
         (
@@ -119,7 +119,7 @@ slice-aggregate-merge-2 c = search rules
 merge-requires-2 : tie.Need-merge-requires-2 invariant-loop decreases-loop
 merge-requires-2 c κs =
     let h = c.before.before.before.before.before.loop.invariant in (
-      omega (arith, h.head.low-cur, h.head.place),
+      omega (arith, h.head.low_cur, h.head.place),
       (h.head.place, (running_long h, (h.required.close_requires.commands.few, running_rising h))),
     )
 
