@@ -1,11 +1,14 @@
 use Rattle.std.proofs.Common.{⊎_elim, rules}
 use Rattle.build.proofs.Rounds.{rounded_state, rounded_none, rounded_long, rounded_on, rounded_all}
 use Rattle.build.proofs.distances.distances.Goals as goal
+use Rattle.build.proofs.distances.distances.Goals.{then-to-n, else-to-n}
 
 pub loop-d-init : goal.loop-d-init
 loop-d-init c =
-    ⊎_elim (λ w. rounded_state w.0.taken (search rules) w.1) (λ w. rounded_none w.0.left w.1)
-    c.if-to-n.branch
+    elim c.if-to-n.branch [
+      | then-to-n w ↦ rounded_state w.if-to-n.true (search rules) w.distance-is
+      | else-to-n w ↦ rounded_none w.if-to-n.false w.distance-is
+    ]
 
 pub widen-requires : goal.widen-requires
 widen-requires c = record { d_bound = search rules; distance_len = rounded_long c.loop-d.invariant }

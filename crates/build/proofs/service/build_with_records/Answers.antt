@@ -3,7 +3,6 @@ use Rattle.sheet.specs.Reader.{seen, handed, part_within, word_in}
 use Rattle.sheet.specs.Reader.Laws.{word_read}
 use Rattle.build.proofs.Answering.{front_none, early_refused, write_required, nine_refused, built}
 use Rattle.build.proofs.service.build_with_records.Goals as goal
-use Rattle.build.proofs.service.build_with_records.Goals.{In-Refused-1}
 
 pub returns-in-Refused : goal.returns-in-Refused
 returns-in-Refused c = record {
@@ -12,26 +11,18 @@ returns-in-Refused c = record {
   records_value = c.load_table-loaded.ensures.loaded_by.records;
 }
 
--- the word that is read
-word_is : (load : In-Refused-1) (w : Bor (List ℕ)) → seen w
-    ≡ handed load.args.sheet
-    (part_within load.args.sheet.now load.load_table-loaded.result.records.word)
-    → w.now ≡ word_in load.args.sheet.now
-word_is load w e =
-    word_read load.args.sheet w load.load_table-loaded.ensures.loaded_by.records e
-
 pub write_sequence-length-requires : goal.write_sequence-length-requires
 write_sequence-length-requires c =
     write_required c.args.sheet.now c.args.buffer.now c.load_table-loaded.result
     c.load_table-loaded.ensures.loaded_by c.in_default.is c.payload-w.result.now
-    (word_is (goal.at.write_sequence-length-requires c).In-Refused-1 c.payload-w.result c.payload-w.ensures) _
+    (word_read c.args.sheet c.payload-w.result c.load_table-loaded.ensures.loaded_by.records c.payload-w.ensures) _
     (c.load_table-loaded.ensures.filled c.in_default.is)
 
 pub returns-in-Refused-nine : goal.returns-in-Refused-nine
 returns-in-Refused-nine c = record {
   builds = nine_refused c.args.sheet.now c.args.buffer.now c.load_table-loaded.result
       c.load_table-loaded.ensures.loaded_by c.in_default.is c.payload-w.result.now
-      (word_is (goal.at.returns-in-Refused-nine c).In-Refused-1 c.payload-w.result c.payload-w.ensures)
+      (word_read c.args.sheet c.payload-w.result c.load_table-loaded.ensures.loaded_by.records c.payload-w.ensures)
       c.write_sequence-length.ensures.ends
       (front_none c.write_sequence-length.new.buffer c.args.buffer.now
       c.write_sequence-length.auto.buffer)
@@ -43,7 +34,7 @@ pub write_sequence-end-requires : goal.write_sequence-end-requires
 write_sequence-end-requires c =
     write_required c.args.sheet.now c.args.buffer.now c.load_table-loaded.result
     c.load_table-loaded.ensures.loaded_by c.in_default.is c.payload-w.result.now
-    (word_is (goal.at.write_sequence-end-requires c).In-Refused-1 c.payload-w.result c.payload-w.ensures) _
+    (word_read c.args.sheet c.payload-w.result c.load_table-loaded.ensures.loaded_by.records c.payload-w.ensures) _
     (c.load_table-loaded.ensures.filled c.in_default.is)
 
 pub returns : goal.returns
@@ -51,7 +42,7 @@ returns c = record {
   builds = built c.args.sheet.now c.args.buffer.now c.load_table-loaded.result
       c.load_table-loaded.ensures.loaded_by
       c.in_default.is c.payload-w.result.now
-      (word_is (goal.at.returns c).In-Refused-1 c.payload-w.result c.payload-w.ensures)
+      (word_read c.args.sheet c.payload-w.result c.load_table-loaded.ensures.loaded_by.records c.payload-w.ensures)
       c.write_sequence-length.ensures.ends
       (front_none c.write_sequence-length.new.buffer c.args.buffer.now
       c.write_sequence-length.auto.buffer)

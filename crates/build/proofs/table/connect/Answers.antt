@@ -26,7 +26,7 @@ returns-in-Refused c = record {
 
 pub store-requires : goal.store-requires
 store-requires c =
-    let a : 256 ≡ length c.transfer-p.result.commands = slice-aggregate-store c in
+    let a : 256 ≡ length c.transfer-p.result.commands = search rules in
     let b : c.transfer-p.result.length < 256 = search rules in
     let few : c.transfer-p.result.length ≤ length c.transfer-p.result.commands = omega arith in
     record {
@@ -42,7 +42,9 @@ store-requires c =
 
 pub loop-s-preserved : goal.loop-s-preserved
 loop-s-preserved c =
-    let few = (store-requires c c.store.lifetimes).1.1.0 in (
+    let a : 256 ≡ length c.transfer-p.result.commands = search rules in
+    let b : c.transfer-p.result.length < 256 = search rules in
+    let few : c.transfer-p.result.length ≤ length c.transfer-p.result.commands = omega arith in (
       c.store.auto.rows ∙ c.loop-s.invariant.0,
       connecting_on (meaning c.args.m) c.args.w.now c.loop-s.s c.transfer-p.result
           c.word_end-from.result c.following.result (sym (meaning_states c.args.m))
