@@ -14,7 +14,9 @@ slice_bounds-identify-end c =
 
 pub identify-found-requires : goal.identify-found-requires
 identify-found-requires c =
-    sym (slice-aggregate-identify c) ∙ sym c.requires.heard_len
+    let long : length c.args.desk.word ≡ 16 = search rules in
+    length-take-le c.args.desk.size c.args.desk.word (omega (arith, c.requires.size_le_most_word))
+    ∙ sym c.requires.heard_len
 
 pub returns-then-found : goal.returns-then-found
 returns-then-found c =

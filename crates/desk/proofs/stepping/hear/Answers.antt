@@ -1,4 +1,4 @@
-use Rattle.std.proofs.Common.{sym, arith, length-take-le}
+use Rattle.std.proofs.Common.{sym, ◌≤◌, length, rules, arith, length-take-le}
 use Rattle.desk.proofs.Parts.{hears_long, hears_behind, hears_last, hears_next}
 use Rattle.desk.proofs.stepping.hear.Goals as goal
 
@@ -12,10 +12,17 @@ returns-then-size-at c =
 
 pub slice_bounds-find-end : goal.slice_bounds-find-end
 slice_bounds-find-end c =
-    sym (length-take-le c.args.desk.size c.heard_with-heard.result (array-share-prefix-heard c))
+    let inside : c.args.desk.size ≤ length c.heard_with-heard.result = search rules in
+    sym (length-take-le c.args.desk.size c.heard_with-heard.result inside)
 
 pub find-requires : goal.find-requires
-find-requires c = record { size_le_most_word = c.if-size-gt-WORD.false; heard_len = sym (slice-aggregate-find c); position_value = c.if-at-size.true }
+find-requires c =
+    let inside : c.args.desk.size ≤ length c.heard_with-heard.result = search rules in
+    record {
+      size_le_most_word = c.if-size-gt-WORD.false;
+      heard_len = length-take-le c.args.desk.size c.heard_with-heard.result inside;
+      position_value = c.if-at-size.true;
+    }
 
 pub returns-then-at-size : goal.returns-then-at-size
 returns-then-at-size c =
