@@ -11,7 +11,7 @@ const LINE_BUFFER: usize = LINE + 1;
 
 // A dialogue between two turns: the desk, how many lines that are no answer may still come, and
 // whether it is over.
-#[derive(Drop)]
+#[derive(Clone, Copy)]
 struct Talk {
     desk: Desk,
     left: u8,

@@ -1,5 +1,7 @@
 // The bench program: takes the words that it is started with, reads from standard input and files
 // what the service takes, and writes to standard output and standard error.
+#![tactic(auto)]
+
 mod dialogue;
 mod inputs;
 mod output;

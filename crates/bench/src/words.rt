@@ -22,7 +22,7 @@ pub const WORDS: usize = 5;
 const KIND: u16 = 65_535;
 
 // The services on a sheet.
-#[derive(Drop)]
+#[derive(Clone, Copy)]
 pub enum SheetService {
     Judge,
     Certify,
@@ -35,7 +35,7 @@ pub enum SheetService {
 // Where a service's inputs come from: from nowhere, where it takes nothing; a sheet from
 // standard input, or from the file that a word names; parts from such files; a sheet from standard
 // input and answers from such a file.
-#[derive(Drop)]
+#[derive(Clone, Copy)]
 pub enum Source {
     Nothing,
     Standard,
@@ -45,7 +45,7 @@ pub enum Source {
 }
 
 // What the words ask for: to be told what is wrong with them, or a service.
-#[derive(Drop)]
+#[derive(Clone, Copy)]
 pub enum Service {
     Wrong { mistake: Mistake },
     OnSheet { service: SheetService },

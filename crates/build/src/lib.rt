@@ -1,4 +1,6 @@
 // Checking sequences: transfers from state to state, the prescribed sequence, refusals 8 and 9.
+#![tactic(auto)]
+
 mod distances;
 mod loading;
 mod service;

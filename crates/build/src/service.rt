@@ -10,7 +10,7 @@ use crate::writing::write_sequence;
 use sheet::{Answer, Check, Records, payload, room_check};
 
 // What building answers, and the sheet's records, both of one pass over it.
-#[derive(Drop)]
+#[derive(Clone, Copy)]
 pub struct WithRecords {
     pub answer: Answer,
     pub records: Records,

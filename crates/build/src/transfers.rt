@@ -10,7 +10,7 @@ use machine::{Machine, entry_at};
 use sheet::byte;
 
 // A transfer, the first `length` of the commands, or none; the rest of the array is free.
-#[derive(Drop)]
+#[derive(Clone, Copy)]
 pub struct MaybeTransfer {
     pub found: bool,
     pub length: u8,

@@ -19,7 +19,7 @@ use machine::{Machine, entry_at};
 use sheet::byte;
 
 // How many commands are written, and the machine's state after them.
-#[derive(Drop)]
+#[derive(Clone, Copy)]
 pub struct Position {
     pub at: usize,
     pub state: u8,

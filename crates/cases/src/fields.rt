@@ -7,7 +7,7 @@ const MOST_PARTS: usize = 4;
 
 // How many parts there are; where each ends in the buffer, in which they lie one behind the other, 0
 // for those that are not there; and where reading has come to.
-#[derive(Drop)]
+#[derive(Clone, Copy)]
 pub struct Parts {
     pub count: usize,
     pub ends: [usize; MOST_PARTS],
@@ -15,7 +15,7 @@ pub struct Parts {
 }
 
 // Up to two numbers, and the parts behind them.
-#[derive(Drop)]
+#[derive(Clone, Copy)]
 pub struct Fields {
     pub first: u32,
     pub second: u32,

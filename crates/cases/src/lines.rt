@@ -6,7 +6,7 @@ use crate::services::answer;
 use sheet::byte;
 
 // What becomes of a line.
-#[derive(Drop)]
+#[derive(Clone, Copy)]
 enum Line {
     Copied,
     Dropped,
@@ -14,7 +14,7 @@ enum Line {
 }
 
 // How many bytes are used, and how many cases were answered.
-#[derive(Drop)]
+#[derive(Clone, Copy)]
 struct Done {
     used: usize,
     cases: usize,

@@ -1,5 +1,7 @@
 // The case runner: reads cases as text from standard input and writes the same text with the answer
 // below each case. docs/CASES.md describes the notation.
+#![tactic(auto)]
+
 mod answers;
 mod buffers;
 mod bytes;

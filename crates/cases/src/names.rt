@@ -1,5 +1,5 @@
 // The services by name.
-#[derive(Drop)]
+#[derive(Clone, Copy)]
 pub enum Service {
     Unknown,
     Judge,
@@ -17,7 +17,7 @@ pub enum Service {
 
 // A service, and the place behind its name; for an unknown one, the first place at which the line
 // is no name's beginning any more.
-#[derive(Drop)]
+#[derive(Clone, Copy)]
 pub struct Found {
     pub service: Service,
     pub at: usize,

@@ -6,21 +6,21 @@ pub(crate) const BYTE: u32 = 255;
 
 // Where reading has come to; where it has failed, the place that cannot be read. Whatever is read
 // after a failure leaves the place as it is.
-#[derive(Drop)]
+#[derive(Clone, Copy)]
 pub struct Cursor {
     pub at: usize,
     pub failed: bool,
 }
 
 // A number, and where reading has come to behind it.
-#[derive(Drop)]
+#[derive(Clone, Copy)]
 pub struct Decimal {
     pub value: u32,
     pub cursor: Cursor,
 }
 
 // A number with a digit more, or that it would be too large.
-#[derive(Drop)]
+#[derive(Clone, Copy)]
 struct Extended {
     fits: bool,
     value: u32,

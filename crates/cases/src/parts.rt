@@ -9,14 +9,14 @@ pub const KIND: u32 = 65_535;
 const LENGTH: u32 = u32::MAX;
 
 // Where reading has come to, and how many bytes of the buffer are used.
-#[derive(Drop)]
+#[derive(Clone, Copy)]
 pub struct Filled {
     pub cursor: Cursor,
     pub used: usize,
 }
 
 // The length for a record's header, where one is given.
-#[derive(Drop)]
+#[derive(Clone, Copy)]
 struct Length {
     given: bool,
     value: u32,

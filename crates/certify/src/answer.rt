@@ -6,7 +6,7 @@ use sheet::{Check, Values, refusal_values};
 
 // Certified with the number of recognised places, open with that number and the open number, or
 // refused with number and place.
-#[derive(Drop)]
+#[derive(Clone, Copy)]
 pub enum Answer {
     Certified { recognised: usize },
     Open { recognised: usize, number: usize },

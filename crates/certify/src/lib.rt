@@ -1,4 +1,6 @@
 // Recognition and certification of a sequence: its room, the marks, and what is certified.
+#![tactic(auto)]
+
 mod answer;
 mod chains;
 mod closure;

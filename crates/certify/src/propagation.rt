@@ -11,7 +11,7 @@ use machine::{Machine, entry_at};
 use sheet::byte;
 
 // Where following goes on: r represents place i, whose state is s.
-#[derive(Drop)]
+#[derive(Clone, Copy)]
 pub enum Step {
     Stop,
     On { r: usize, i: usize, s: u8 },

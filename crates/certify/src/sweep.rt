@@ -12,7 +12,7 @@ use crate::propagation::propagate;
 use machine::{Machine, entry_at};
 
 // Whether something changed so far, and how many steps may still be spent on following marks.
-#[derive(Drop)]
+#[derive(Clone, Copy)]
 pub struct Progress {
     pub changed: bool,
     pub steps: usize,

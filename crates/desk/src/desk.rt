@@ -4,7 +4,7 @@ use machine::Machine;
 // What the desk does: it reads, with the position in the word of the command last sent; it drives,
 // with the state reached; or it has ended, at home after so many commands or with a stranger at an
 // answer.
-#[derive(Drop)]
+#[derive(Clone, Copy)]
 pub enum Phase {
     Reading { position: u8 },
     Driving { state: u8 },
@@ -15,7 +15,7 @@ pub enum Phase {
 // The machine; the word, in the first `size` bytes of its array; in `heard` the answers to its
 // commands before the last; while a command waits for its answer, how many answers are in and that
 // command; and the phase.
-#[derive(Drop)]
+#[derive(Clone, Copy)]
 pub struct Desk {
     pub machine: Machine,
     pub word: [u8; Machine::WORD],
@@ -28,7 +28,7 @@ pub struct Desk {
 
 // What is to be done: the next command; home, after so many commands; or stranger, with the number
 // of the answer, counted from 0.
-#[derive(Drop)]
+#[derive(Clone, Copy)]
 pub enum Order {
     Command { command: u8 },
     Home { after: u8 },

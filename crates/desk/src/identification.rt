@@ -7,7 +7,7 @@ use machine::{Machine, entry_at};
 use sheet::byte;
 
 // Whether a state gives certain answers to the word, and where the word leads from it then.
-#[derive(Drop)]
+#[derive(Clone, Copy)]
 pub struct Followed {
     pub agrees: bool,
     pub end: u8,

@@ -1,4 +1,6 @@
 // The desk (§13): from any state of a unit to the start, command by command.
+#![tactic(auto)]
+
 mod desk;
 mod identification;
 mod starting;

@@ -7,14 +7,14 @@ use machine::Machine;
 use sheet::{Check, byte, payload, put};
 
 // The first command, or refused with number and place.
-#[derive(Drop)]
+#[derive(Clone, Copy)]
 pub enum First {
     Command { command: u8 },
     Refused { number: u8, place: usize },
 }
 
 // The answer, and the desk; on a refusal nothing is promised of the desk.
-#[derive(Drop)]
+#[derive(Clone, Copy)]
 pub struct Started {
     pub first: First,
     pub desk: Desk,

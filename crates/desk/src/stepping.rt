@@ -11,7 +11,7 @@ use machine::{Machine, entry_at};
 use sheet::byte;
 
 // The desk after an answer, and what is to be done.
-#[derive(Drop)]
+#[derive(Clone, Copy)]
 pub struct Stepped {
     pub order: Order,
     pub desk: Desk,

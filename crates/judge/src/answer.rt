@@ -7,7 +7,7 @@ use sheet::{Values, refusal_values};
 // Pass with the number of commands and the end state; wrong with the place of the first answer that
 // is not the specified one, what was specified there and what was given; unheard with that place
 // where no answer came there; unfinished with the number of answers; refused with number and place.
-#[derive(Drop)]
+#[derive(Clone, Copy)]
 pub enum Answer {
     Pass {
         size: usize,

@@ -6,7 +6,7 @@ ghost use Rattle.machine.specs.House.{house_entry, house_payload};
 use sheet::TABLE;
 
 // An entry of a machine's table.
-#[derive(Drop)]
+#[derive(Clone, Copy)]
 pub struct Entry {
     pub next: u8,
     pub answer: u8,

@@ -1,4 +1,6 @@
 // The machine that a sheet specifies: its type and limits, checks 3 to 7 and 12, and the house unit.
+#![tactic(auto)]
+
 mod checks;
 mod house;
 mod loading;

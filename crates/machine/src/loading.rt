@@ -13,7 +13,7 @@ use crate::machine::Machine;
 use sheet::{Check, Found, Needs, Reading, Records, first_of, payload, read_sheet, record_or};
 
 // The first refusal, or clear, the machine, and the record of each role.
-#[derive(Drop)]
+#[derive(Clone, Copy)]
 pub struct Loaded {
     pub check: Check,
     pub machine: Machine,

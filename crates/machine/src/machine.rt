@@ -10,7 +10,7 @@ use crate::house::house_payload;
 use sheet::{TABLE, byte};
 
 // A machine: n states, k commands, the start, and its table, entry (s, c) at s * k + c.
-#[derive(Drop)]
+#[derive(Clone, Copy)]
 pub struct Machine {
     pub n: u8,
     pub k: u8,
@@ -20,7 +20,7 @@ pub struct Machine {
 }
 
 // The limits as values.
-#[derive(Drop)]
+#[derive(Clone, Copy)]
 pub struct Limits {
     pub least: usize,
     pub states: usize,

@@ -23,7 +23,7 @@ pub const LINE: usize = 80;
 const OTHERS: u8 = 100;
 
 // What a line is.
-#[derive(Drop)]
+#[derive(Clone, Copy)]
 pub enum Reply {
     Answer { value: u8 },
     Other,
@@ -32,7 +32,7 @@ pub enum Reply {
 
 // The desk after a turn, how many lines that are no answer may still come, whether the dialogue is
 // over, and what is written.
-#[derive(Drop)]
+#[derive(Clone, Copy)]
 pub struct Turned {
     pub desk: Desk,
     pub left: u8,

@@ -1,5 +1,7 @@
 // What the bench writes: the cause phrases, the output lines, the sheets and the list of services,
 // each service's bytes for each stream, made in a lent buffer.
+#![tactic(auto)]
+
 mod dialogue;
 mod lines;
 mod numbers;

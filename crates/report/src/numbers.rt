@@ -5,7 +5,7 @@ ghost use Rattle.facts.specs.Decimal.{number_in};
 ghost use Rattle.report.specs.Numbers.{number_of};
 
 // A number, or that there is none; its value is then free.
-#[derive(Drop)]
+#[derive(Clone, Copy)]
 pub struct MaybeNumber {
     pub found: bool,
     pub value: u16,

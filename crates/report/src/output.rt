@@ -8,7 +8,7 @@ use sheet::{HEADER, LONGEST};
 pub const OUTPUT: usize = LONGEST + HEADER + Machine::SEQUENCE;
 
 // Where the bytes for standard output end, and where those for standard error, behind them, end.
-#[derive(Drop)]
+#[derive(Clone, Copy)]
 pub struct Written {
     pub out: usize,
     pub end: usize,

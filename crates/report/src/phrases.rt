@@ -7,7 +7,7 @@ ghost use Rattle.report.specs.Phrases.{longest_phrase, phrase};
 // The bytes of the longest phrase.
 const PHRASE: usize = 22;
 
-#[derive(Drop)]
+#[derive(Clone, Copy)]
 pub struct Phrase {
     pub bytes: [u8; PHRASE],
     pub size: usize,

@@ -11,7 +11,7 @@ use crate::pieces::{put, put_between};
 
 // What is wrong: a first word that names no service, an empty word, one that is too long, too many
 // or too few words, a word that is no kind.
-#[derive(Drop)]
+#[derive(Clone, Copy)]
 pub enum Mistake {
     Unknown,
     Empty,

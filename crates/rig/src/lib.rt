@@ -1,5 +1,7 @@
 // The capture rig's interface: the two functions that its C host calls with a sheet and a buffer
 // for marks. Each returns one 64-bit number. The header for the host is c/rig.h.
+#![tactic(auto)]
+
 ghost use Rattle.rig.specs.Result.{RigCertifies, RigJudges, RigIdentity};
 
 mod result;

@@ -4,14 +4,14 @@ ghost use Rattle.sheet.specs.Check.{refusal◌with◌if◌, ◌else◌};
 ghost use Rattle.sheet.specs.Values.{refusal_values};
 
 // Clear, or a refusal's number with its place.
-#[derive(Drop)]
+#[derive(Clone, Copy)]
 pub enum Check {
     Clear,
     Refused { number: u8, place: usize },
 }
 
 // The number and values of an answer: its class, which of a refusal is the number, place, a and b.
-#[derive(Drop)]
+#[derive(Clone, Copy)]
 pub struct Values {
     pub class: u8,
     pub place: usize,

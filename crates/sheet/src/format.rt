@@ -19,7 +19,7 @@ const SEQUENCE_KIND: u16 = 3;
 const ANSWERS_KIND: u16 = 4;
 
 // What a record holds, by its kind.
-#[derive(Drop)]
+#[derive(Clone, Copy)]
 pub enum Role {
     Machine,
     Word,

@@ -1,5 +1,7 @@
 // The byte format of a sheet: records, kinds, checks 1, 2 and 9, the reader, a record's header, bytes
 // put into a buffer, and what a service answers that writes its result into one.
+#![tactic(auto)]
+
 mod check;
 mod format;
 mod parse;

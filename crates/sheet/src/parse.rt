@@ -9,7 +9,7 @@ use crate::record::{HEADER, Records, check_record, no_records, rank, record_at, 
 
 // What one pass over a sheet gives: causes 1 and 2, and the record of each role, none where the
 // sheet is too long or a record has a cause.
-#[derive(Drop)]
+#[derive(Clone, Copy)]
 pub struct Reading {
     pub check: Check,
     pub records: Records,

@@ -12,14 +12,14 @@ use crate::parse::{Reading, parse};
 use crate::record::{Found, HEADER, Record, Records, no_records, of_kind};
 
 // A part of a sheet: where it starts and its length.
-#[derive(Drop)]
+#[derive(Clone, Copy)]
 pub struct Part {
     pub from: usize,
     pub size: usize,
 }
 
 // The roles that a service on a machine needs besides the machine.
-#[derive(Drop)]
+#[derive(Clone, Copy)]
 pub struct Needs {
     pub word: bool,
     pub sequence: bool,

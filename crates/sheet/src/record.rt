@@ -11,7 +11,7 @@ use crate::format::{Role, role_of};
 pub const HEADER: usize = 6;
 
 // A record: where its header starts, its payload's length, and its kind's number.
-#[derive(Drop)]
+#[derive(Clone, Copy)]
 pub struct Record {
     pub start: u32,
     pub size: u32,
@@ -19,14 +19,14 @@ pub struct Record {
 }
 
 // The record that was looked for, or that there is none.
-#[derive(Drop)]
+#[derive(Clone, Copy)]
 pub enum Found {
     At(Record),
     Missing,
 }
 
 // The record of each role, as far as there is one.
-#[derive(Drop)]
+#[derive(Clone, Copy)]
 pub struct Records {
     pub machine: Found,
     pub word: Found,

@@ -14,7 +14,7 @@ const MOST_PAYLOAD: usize = 4_294_967_295;
 
 // What a service answers that writes its result into a lent buffer: the number of bytes, or refused
 // with number and place.
-#[derive(Drop)]
+#[derive(Clone, Copy)]
 pub enum Answer {
     Written { length: usize },
     Refused { number: u8, place: usize },

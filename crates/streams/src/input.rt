@@ -29,14 +29,14 @@ const ENAMETOOLONG: i32 = 36;
 const EILSEQ: i32 = 84;
 
 // How many bytes were read, or that reading failed, which is not the same as none.
-#[derive(Drop)]
+#[derive(Clone, Copy)]
 pub enum Input {
     Read { size: usize },
     Failed,
 }
 
 // After one read: how many bytes there are now, that the input has ended, or that the read failed.
-#[derive(Drop)]
+#[derive(Clone, Copy)]
 pub enum Step {
     More { size: usize },
     End,

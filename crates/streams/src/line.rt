@@ -8,7 +8,7 @@ use crate::telling::tell;
 use std::io::Error;
 
 // How many bytes a line has, that the input has ended before one began, or that reading failed.
-#[derive(Drop)]
+#[derive(Clone, Copy)]
 pub enum Line {
     Read { size: usize },
     End,

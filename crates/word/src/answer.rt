@@ -5,7 +5,7 @@ use sheet::Records;
 pub const MOST_SOUGHT: usize = 6;
 
 // Found with the length of the word, nothing, or refused with number and place.
-#[derive(Drop)]
+#[derive(Clone, Copy)]
 pub enum Answer {
     Found { length: usize },
     Nothing,
@@ -14,14 +14,14 @@ pub enum Answer {
 
 // The answer, and the word beside it: its commands from the front, and 0 behind them or where there
 // is none.
-#[derive(Drop)]
+#[derive(Clone, Copy)]
 pub struct Searched {
     pub answer: Answer,
     pub word: [u8; MOST_SOUGHT],
 }
 
 // What was found for a sheet, and the sheet's records, both of one pass over it.
-#[derive(Drop)]
+#[derive(Clone, Copy)]
 pub struct WithRecords {
     pub searched: Searched,
     pub records: Records,

@@ -1,4 +1,6 @@
 // The shortest separating word of at most 6 commands, found for a sheet's machine.
+#![tactic(auto)]
+
 mod answer;
 mod pairs;
 mod search;

@@ -12,14 +12,14 @@ use sheet::byte;
 pub const PAIRS: usize = Machine::STATES * (Machine::STATES - 1) / 2;
 
 // Pairs, as many as the size says from the front.
-#[derive(Drop)]
+#[derive(Clone, Copy)]
 pub struct Pairs {
     pub size: usize,
     pub cells: [u16; PAIRS],
 }
 
 // What a command leaves of pairs: two states that answered alike met, or so many pairs are left.
-#[derive(Drop)]
+#[derive(Clone, Copy)]
 pub enum Moved {
     Met,
     On { size: usize },

@@ -1,5 +1,7 @@
 // Sheets written of their parts: refusals 3 to 7, 9, 10 and 12 of payloads that stand in no sheet yet;
 // and answers added to a sheet.
+#![tactic(auto)]
+
 mod checks;
 mod putting;
 mod service;

@@ -1,7 +1,7 @@
 -- How joined records are read: they parse as they were placed, and reading a role gives the payload of its record.
 use Rattle.std.specs.Prelude.{ℕ, ◌+◌, ◌^◌, ◌≤◌, ◌<◌, ◌≡◌, true, not, take, drop}
 use Rattle.std.proofs.Math.Path.{refl, sym, ap}
-use Rattle.std.proofs.Common.{ap₂, ◌∙◌, inl, inr, arith, le-ltb, eqb-true, take_at, drop_at}
+use Rattle.std.proofs.Common.{subst, ap₂, ◌∙◌, inl, inr, arith, le-ltb, eqb-true, take_at, drop_at}
 use mathlib.Core.List.{List, [], ◌∷◌, ◌++◌, map, append_assoc, append-nil, Memᴰ}
 use Rattle.std.proofs.Math.ListN.{length, length-append}
 use Rattle.facts.specs.Tests.{true_or_false, both_true}
@@ -107,7 +107,8 @@ unfolding part_bytes joined
 held_placed [] pre at e = refl
 held_placed (r ∷ rs) pre at e =
     ap₂ ◌∷◌ (ap (λ (p : List ℕ). (r.0, p)) (payload_there pre r (joined rs) at e))
-    (rw (← append_assoc pre (bytes_of r) (joined rs))
+    (subst (λ (s : List ℕ). held_by s (placed (at + header + length r.1) rs) ≡ rs)
+    (append_assoc pre (bytes_of r) (joined rs))
     (held_placed rs (pre ++ bytes_of r) (at + header + length r.1) (behind pre r (joined rs) at e)))
 
 module _ (F : Format) where

@@ -1,0 +1,10 @@
+use Rattle.sheet.specs.Check.{refusal◌with◌if◌}
+use Rattle.sheet.proofs.check.refuse.Goals as goal
+
+pub returns-then-present : goal.returns-then-present
+unfolding refusal◌with◌if◌
+returns-then-present c = cc
+
+pub returns-else-present : goal.returns-else-present
+unfolding refusal◌with◌if◌
+returns-else-present c = cc
