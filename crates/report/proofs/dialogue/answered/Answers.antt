@@ -5,7 +5,7 @@ use Rattle.report.proofs.dialogue.answered.Goals as goal
 pub returns : goal.returns
 returns c =
     record {
-      c = c.step-stepped.result;
+      stepped = c.step-stepped.result;
       steps = c.step-stepped.ensures;
       desk = refl;
       left_after = refl;

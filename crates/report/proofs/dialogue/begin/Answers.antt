@@ -9,7 +9,7 @@ pub returns : goal.returns
 unfolding begun
 returns c =
     record {
-      c = c.start-started.result;
+      started = c.start-started.result;
       starts = c.start-started.ensures;
       desk = refl;
       left = refl;

@@ -9,23 +9,23 @@ put-requires c =
     omega (
       arith,
       few_digits c.args.n made.result
-          c.ranges.n.fits made.ensures.1.0,
-      made.ensures.0.1,
+          c.ranges.n.fits made.ensures.len,
+      made.ensures.in_bounds.1,
     )
 
 pub returns : goal.returns
 returns c =
     let made = c.decimal-size in
     let put = c.put in record {
-      puts = puts_same (made.ensures.1.1
+      puts = puts_same (made.ensures.digits
           ∙ digits_decimal c.args.n made.result
-          made.ensures.1.0)
+          made.ensures.len)
           put.ensures;
       upper_bound = omega (
         arith,
         few_digits c.args.n made.result
-            c.ranges.n.fits made.ensures.1.0,
-        made.ensures.0.1,
+            c.ranges.n.fits made.ensures.len,
+        made.ensures.in_bounds.1,
         put.ensures.ends,
       );
     }

@@ -9,10 +9,10 @@ pub put_record-next-requires : goal.put_record-next-requires
 put_record-next-requires c = record { payload_len_bound = omega (arith, c.requires.word_bound); payload_in_bounds = omega (arith, c.requires.word_bound, c.requires.longest_in_bounds) }
 
 abbrev machine : After-put_role-arg-1 → ℕ × List ℕ
-machine d = ((start_at d).args.kind, (start_at d).args.machine.now)
+machine d = (d.args.kind, d.args.machine.now)
 
 abbrev word : After-put_role-arg-1 → ℕ × List ℕ
-word d = fresh standard.word (start_at d).args.word.now
+word d = fresh standard.word d.args.word.now
 
 pub put_role-requires : goal.put_role-requires
 put_role-requires c = record {

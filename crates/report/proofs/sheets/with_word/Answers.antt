@@ -10,15 +10,10 @@ use Rattle.word.specs.Search.{most_sought}
 use Rattle.report.specs.Sheets.{word_sheet}
 use Rattle.report.proofs.Listing.{word_written, word_line_lem}
 use Rattle.report.proofs.sheets.with_word.Goals as goal
-use Rattle.report.proofs.sheets.with_word.Goals.{After-put-arg-3-1, After-put_two-arg-1}
-
-payload-is : (d : After-put_two-arg-1) → d.payload.result.now ≡ machine_payload d.args.sheet.now
-payload-is d =
-    payload_content standard _ d.args.sheet d.payload.result d.requires.found
-    d.payload.ensures
+use Rattle.report.proofs.sheets.with_word.Goals.{After-put-arg-3-1}
 
 pub put_two-size-requires : goal.put_two-size-requires
-put_two-size-requires c = record { word_bound = omega (arith, ap length (payload-is c), c.requires.machine, c.requires.few); longest_in_bounds = search rules }
+put_two-size-requires c = record { word_bound = omega (arith, ap length (payload_content standard _ c.args.sheet c.payload.result c.requires.found c.payload.ensures), c.requires.machine, c.requires.few); longest_in_bounds = search rules }
 
 -- the records leave room for the line
 sized : (u : After-put-arg-3-1) → u.put_two-size.result ≤ header + most_machine standard + (header + most_sought)
@@ -26,7 +21,7 @@ sized u =
     omega (
       arith,
       u.put_two-size.ensures.value,
-      ap length (payload-is u),
+      ap length (payload_content standard _ u.args.sheet u.payload.result u.requires.found u.payload.ensures),
       u.requires.machine,
       u.requires.few,
     )
@@ -64,5 +59,5 @@ returns c =
     (puts_same
     (ap₂ (λ (kind : ℕ) (p : List ℕ). joined ((kind, p) ∷ fresh standard.word w ∷ []))
     (ap (λ (r : Record). r.kind) (c.record_or-r.ensures ∙ record_is standard _ _ c.requires.found))
-    (payload-is (goal.at.returns c).After-put_two-arg-1)) c.put_two-size.ensures.puts)
+    (payload_content standard _ c.args.sheet c.payload.result c.requires.found c.payload.ensures)) c.put_two-size.ensures.puts)
     (word_line_lem w c.put-a.ensures c.put_list-b.ensures.puts c.put-end.ensures)

@@ -5,27 +5,21 @@ use Rattle.sheet.specs.Reader.{found_in}
 use Rattle.report.specs.Output.Laws.{writes_same}
 use Rattle.report.proofs.Listing.{searched_output, found_holds}
 use Rattle.report.proofs.sheets.word_sheet.Goals as goal
-use Rattle.report.proofs.sheets.word_sheet.Goals.{In-Found-1}
-
--- the record of the machine that the search tells
-machine-found : (find : In-Found-1) → find.find_word_with_records-found.result.records.machine
-    ≡ found_in standard standard.machine find.args.sheet.now
-machine-found find = ap (λ (r : Records). r.machine) find.find_word_with_records-found.ensures.records_value
 
 pub slice_bounds-word-end : goal.slice_bounds-word-end
 slice_bounds-word-end c =
     (found_holds c.args.sheet.now c.find_word_with_records-found.ensures.searches
-    c.in-Found.is (machine-found (goal.at.slice_bounds-word-end c).In-Found-1)).inside
+    c.in-Found.is (ap (λ (r : Records). r.machine) c.find_word_with_records-found.ensures.records_value)).inside
 
 pub slice_bounds-with_word-end : goal.slice_bounds-with_word-end
 slice_bounds-with_word-end c =
     (found_holds c.args.sheet.now c.find_word_with_records-found.ensures.searches
-    c.in-Found.is (machine-found (goal.at.slice_bounds-with_word-end c).In-Found-1)).sized
+    c.in-Found.is (ap (λ (r : Records). r.machine) c.find_word_with_records-found.ensures.records_value)).sized
 
 pub with_word-requires : goal.with_word-requires
 with_word-requires c =
     (found_holds c.args.sheet.now c.find_word_with_records-found.ensures.searches
-    c.in-Found.is (machine-found (goal.at.with_word-requires c).In-Found-1)).required
+    c.in-Found.is (ap (λ (r : Records). r.machine) c.find_word_with_records-found.ensures.records_value)).required
 
 pub returns-in-Found : goal.returns-in-Found
 returns-in-Found c =
