@@ -77,11 +77,20 @@ def aliases(text):
     return {b for a, b in re.findall(rf"({NAME}) as ({NAME})[,}}]", text) if not b[0].isupper()}
 
 
-def word_of(table, fields):
+def modules(text):
+    """The names by which a file calls modules."""
+    lines = re.findall(r"(?m)^\s*(?:pub |ghost )?use ([\w.]+)(?: as (\w+))?;?$", text)
+    return {b or a.split(".")[-1] for a, b in lines}
+
+
+def word_of(table, fields, heads):
     """How one word of code turns, by what stands before it."""
 
     def turn(m):
         word = m[0]
+        before = re.search(r"(?<![\w.])(\w+)\.$", m.string[: m.start()])
+        if before and before[1] in heads:
+            return table.get(word, word)
         if m.start() and m.string[m.start() - 1] == "." and m.string[m.start() - 2 : m.start()].strip(" .("):
             return table[word] if word in fields and word in table else word
         return table.get(word, word)
@@ -90,7 +99,7 @@ def word_of(table, fields):
 
 
 def antt(text, table, fields):
-    turn = word_of(table, fields)
+    turn = word_of(table, fields, modules(text))
     spans = lambda t: re.sub(r"`[^`]*`", lambda m: snake.PART.sub(lambda p: table.get(p[0], p[0]), m[0]), t)
     camel = {a: b for a, b in table.items() if re.search("[a-z0-9][A-Z]", a)}
     prose = lambda t: re.sub(r"(?<![\w'-])[A-Za-z]\w+(?![\w'-])", lambda m: camel.get(m[0], m[0]), spans(t))

@@ -121,9 +121,9 @@ computed = record {
   late = λ room l. reads_as (nine_clear room 4 l) refl refl refl;
   three = λ room l. reads_as (nine_clear room 4 l) refl refl refl;
   pair = λ answer room some l.
-      reads_as (buildings.twelve-clear answer 9 some (nine_clear room 3 l)) refl refl refl;
+      reads_as (buildings.twelve_clear answer 9 some (nine_clear room 3 l)) refl refl refl;
   short = λ answer room some l.
-      reads_as (buildings.twelve-clear answer 9 some (nine_clear room 2 l)) refl refl refl;
+      reads_as (buildings.twelve_clear answer 9 some (nine_clear room 2 l)) refl refl refl;
   passes = (λ room l. judged_as (nine_clear room 13 l) refl refl refl refl, refl);
   wrong_at = (λ room l. judged_as (nine_clear room 13 l) refl refl refl refl, refl);
   unfinished_run = (λ room l. judged_as (nine_clear room 13 l) refl refl refl refl, refl);
@@ -154,14 +154,14 @@ line_judged h e room l = let answer = judged room (h.0 room l) h.1 in (answer, a
 -- ---- the whole
 pub starred : Starred
 starred = record {
-  built = buildings.twin-building;
-  built_bytes = buildings.twin-buffer;
+  built = buildings.twin_building;
+  built_bytes = buildings.twin_buffer;
   built_certified = λ room l. answered room (computed.built room l) outcomes.twin_built;
-  each_other = λ room l. answered room (computed.each_other room l) outcomes.twin-mutual;
-  longer = λ room l. answered room (computed.longer room l) outcomes.twin-longer;
-  one = λ room l. answered room (computed.one room l) outcomes.twin-one;
-  late = λ room l. answered room (computed.late room l) outcomes.twin-late;
-  three = λ room l. answered room (computed.three room l) outcomes.twin-three;
+  each_other = λ room l. answered room (computed.each_other room l) outcomes.twin_mutual;
+  longer = λ room l. answered room (computed.longer room l) outcomes.twin_longer;
+  one = λ room l. answered room (computed.one room l) outcomes.twin_one;
+  late = λ room l. answered room (computed.late room l) outcomes.twin_late;
+  three = λ room l. answered room (computed.three room l) outcomes.twin_three;
   passes = line_judged computed.passes lines.pass;
   wrong_at = line_judged computed.wrong_at lines.wrong;
   unfinished_run = line_judged computed.unfinished_run lines.unfinished;
@@ -173,9 +173,9 @@ starred = record {
   no_state_built = λ room command. outcome_writing (by_cause (computed.four_built command));
   no_state_certified = λ room command. certification_refused room _ (computed.four_certified room command);
   no_state_judged = λ room command answer. judgement_refused room _ (computed.four_judged room command answer);
-  not_connected = buildings.disconnected-building;
-  single_built = buildings.single-building;
-  single_bytes = buildings.single-buffer;
+  not_connected = buildings.disconnected_building;
+  single_built = buildings.single_building;
+  single_bytes = buildings.single_buffer;
   single_pair = λ answer room some l. answered room (computed.pair answer room some l) (outcomes.single_pair answer);
   single_short = λ answer room some l.
       answered room (computed.short answer room some l) (outcomes.single_short answer);
