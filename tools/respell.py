@@ -135,8 +135,9 @@ def main():
         names |= aliases(texts[path]) if os.path.basename(path) != "Proof.antt" else set()
     for path, text in texts.items():
         if path.endswith(".antt") and os.path.basename(path) != "Proof.antt":
-            for m in re.finditer(r"(?m)^pub record .* where\n((?:(?: .*|--.*)?\n)*)", text + "\n"):
-                fields |= set(re.findall(rf"(?m)^  (?:pub )?({NAME}) :", m[1]))
+            for m in re.finditer(r"(?m)^ *(?:pub )?record [\s\S]*? where\n((?:(?: .*|--.*)?\n)*)", text + "\n"):
+                for many in re.findall(rf"(?m)^ +(?:pub )?({NAME}(?: {NAME})*) :", m[1]):
+                    fields |= set(many.split())
     names |= {part for n in names if "◌" in n for part in n.split("◌") if part}
     table = {n: new_of(n, types) for n in names}
     table = {a: b for a, b in table.items() if a != b}

@@ -97,7 +97,7 @@ module _ {M : Mealy} {apply : Bool} {xs given known₀ : List ℕ} (h : SweepReq
           omega (arith, marked_inside given (s.p + s.m) s.end_marked, h.close_requires.long) in
           rw s.at
           (folded_closed xs (state_at M xs) given alt root h.close_requires.bits walked single follows s.p s.q
-          s.m s.p-marked s.q-marked
+          s.m s.p_marked s.q_marked
           s.states s.end_marked pl (omega (arith, s.at)) (commands_at xs s.p s.q s.m s.commands))
 
     pub sweeps : Swept M xs given known₀ ms' known changed'

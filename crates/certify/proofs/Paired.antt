@@ -59,8 +59,8 @@ module _ {M : Mealy} {xs given : List ℕ} where
     p = r.p;
     q = r.q;
     m = r.m + 1;
-    p_in = r.p-in;
-    q_in = r.q-in;
+    p_in = r.p_in;
+    q_in = r.q_in;
     states = r.states;
     a_at = omega (arith, r.a_at);
     b_at = omega (arith, r.b_at);
@@ -92,10 +92,10 @@ module _ {M : Mealy} {xs given : List ℕ} where
 
   run_carries : {a b : ℕ} → Run M xs given a b → From M xs given a → From M xs given b
   run_carries {a} {b} r ha = elim (eq-or-lt_of_le {n = 0} {m = r.m} (omega arith)) [
-    | inl z ↦ (let e : b ≡ r.q = omega (arith, r.b_at) in rw e r.q-in)
-    | inr l ↦ (let al = r.a-inside (omega arith) in
-        let bl = r.b-inside (omega arith) in
-        rule2 r.p r.q r.m (omega arith) r.p-in r.q-in r.states (rw (← r.a_at) ha)
+    | inl z ↦ (let e : b ≡ r.q = omega (arith, r.b_at) in rw e r.q_in)
+    | inr l ↦ (let al = r.a_inside (omega arith) in
+        let bl = r.b_inside (omega arith) in
+        rule2 r.p r.q r.m (omega arith) r.p_in r.q_in r.states (rw (← r.a_at) ha)
         (omega (arith, r.b_at))
         (commands_equal xs r.p r.q r.m (omega (arith, r.a_at)) (omega (arith, r.b_at)) r.commands)
         r.b_at)

@@ -152,7 +152,7 @@ module _ {M : Mealy} {apply : Bool} {xs given known₀ : List ℕ} (required : S
         record {
           same_marks = all;
           same_known = u.same_known ∙ g.same_known;
-          comes = still_comes all tl sl h.state h.linked h.topped h.low-cur g.comes on;
+          comes = still_comes all tl sl h.state h.linked h.topped h.low_cur g.comes on;
           walked = λ i il n.
               walked_grows xs (state_at M xs) given alt root alt' root' (represented_links on) (represented_roots on)
               (walked_here g agree i il n);
@@ -172,7 +172,7 @@ module _ {M : Mealy} {apply : Bool} {xs given known₀ : List ℕ} (required : S
         let g = learning required tl el at (merged_learning h.learning merged) learn in
         let q =
         gone M xs given tl required.close_requires.commands.few g.marking h.linked h.topped sl h.state
-        h.low-cur h.pair on in
+        h.low_cur h.pair on in
         record {
           place = omega arith;
           state = se;

@@ -84,16 +84,16 @@ computed = record {
 
 -- ---- the twin's sheet; what is built is certified, with 13 recognised places
 pub twin_building : (room : ℕ) → 12 ≤ room → building room twin_sheet ≡ Written 12
-twin_building room l = outcome_writing (wrote computed.twin-clear (ap length (sym computed.twin-built)) l)
+twin_building room l = outcome_writing (wrote computed.twin_clear (ap length (sym computed.twin_built)) l)
 
 pub twin_buffer : (buffer : List ℕ) → 12 ≤ length buffer
     → buffer_after twin_sheet buffer ≡ (0 ∷ 0 ∷ 0 ∷ 0 ∷ 0 ∷ 0 ∷ 1 ∷ 0 ∷ 0 ∷ 0 ∷ 1 ∷ 0 ∷ []) ++ drop 12 buffer
 twin_buffer buffer l =
-    written_leaves buffer (wrote computed.twin-clear (ap length (sym computed.twin-built)) l)
-    ∙ ap (λ (xs : List ℕ). written xs buffer) computed.twin-built
+    written_leaves buffer (wrote computed.twin_clear (ap length (sym computed.twin_built)) l)
+    ∙ ap (λ (xs : List ℕ). written xs buffer) computed.twin_built
 
 pub twin_certified : outcome twin (0 ∷ []) (sequence twin (0 ∷ [])) ≡ Certified 13
-twin_certified = ap (outcome twin (0 ∷ [])) computed.twin-sequence ∙ twin_outcome
+twin_certified = ap (outcome twin (0 ∷ [])) computed.twin_sequence ∙ twin_outcome
 
 -- ---- where entry (1, 0) goes to 1, cause 8 is present at 1, whatever the room
 pub disconnected_building : (room : ℕ) → building room (unit_sheet disconnected_table (0 ∷ [])) ≡ Refused 8 1
@@ -103,23 +103,23 @@ disconnected_building room = outcome_writing (by_cause computed.disconnected)
 pub single_building : (answer room : ℕ) → (answer ≡ no_answer → ⊥) → 4 ≤ room
     → building room (single_sheet answer) ≡ Written 4
 single_building answer room some l =
-    outcome_writing (wrote (computed.single-clear answer some) (ap length (sym (computed.single_built answer))) l)
+    outcome_writing (wrote (computed.single_clear answer some) (ap length (sym (computed.single_built answer))) l)
 
 pub single_buffer : (answer : ℕ) (buffer : List ℕ) → (answer ≡ no_answer → ⊥) → 4 ≤ length buffer
     → buffer_after (single_sheet answer) buffer ≡ (0 ∷ 0 ∷ 0 ∷ 0 ∷ []) ++ drop 4 buffer
 single_buffer answer buffer some l =
     written_leaves buffer
-    (wrote (computed.single-clear answer some) (ap length (sym (computed.single_built answer))) l)
+    (wrote (computed.single_clear answer some) (ap length (sym (computed.single_built answer))) l)
     ∙ ap (λ (xs : List ℕ). written xs buffer) (computed.single_built answer)
 
 pub single_certified : (answer : ℕ) → outcome (single answer) (0 ∷ []) (sequence (single answer) (0 ∷ [])) ≡ Certified 5
 single_certified answer =
-    ap (outcome (single answer) (0 ∷ [])) (computed.single-sequence answer) ∙ single_outcome answer
+    ap (outcome (single answer) (0 ∷ [])) (computed.single_sequence answer) ∙ single_outcome answer
 
 -- the length formula is met there: no smaller one holds
 pub single_longest : (answer : ℕ) → length (sequence (single answer) (0 ∷ [])) ≡ length_bound (single answer) (0 ∷ [])
 unfolding length_bound single machine_of
-single_longest answer = ap length (computed.single-sequence answer)
+single_longest answer = ap length (computed.single_sequence answer)
 
 -- ---- the length of the house unit's sequence, and what the formula allows it (§10.1)
 pub house_length : length (sequence house house_word) ≡ 203

@@ -78,8 +78,8 @@ module _ (xs : List ℕ) (state : ℕ → ℕ) (ms : List ℕ) where
       let inside = marked_inside ms (h.p + h.m) h.end_marked in
       any_holds _ _ h.p (omega (arith, inside)) (any_holds _ _ h.q (omega arith) (rw e
       (rw (
-        true_marked ms h.p h.p-marked,
-        true_marked ms h.q h.q-marked,
+        true_marked ms h.p h.p_marked,
+        true_marked ms h.q h.q_marked,
         eq-eqb _ _ h.states,
         true_marked ms (h.p + h.m) h.end_marked,
         h.commands,
@@ -200,7 +200,7 @@ module _ (xs : List ℕ) (state : ℕ → ℕ) (Base : ℕ → Type 0) where
       bits = grown_bits xs state ms;
       sound = λ p e. elim (grown_from xs state ms p e) [
         | inl q ↦ h.sound p q
-        | inr s ↦ rule2 s.p s.q s.m s.some (h.sound _ s.p-marked) (h.sound _ s.q-marked)
+        | inr s ↦ rule2 s.p s.q s.m s.some (h.sound _ s.p_marked) (h.sound _ s.q_marked)
             s.states (h.sound _ s.end_marked)
             (omega (arith, marked_inside (grown xs state ms) p e, grown_length xs state ms)) s.commands s.at
       ];

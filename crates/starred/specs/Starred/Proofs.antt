@@ -143,7 +143,7 @@ judged : (room : ℕ) {s ys : List ℕ} {a : Judgement} → Judged room s ys →
 judged room {s} h e =
     let certified : certification room s ≡ Certified 13 =
     certification_clear room s (certifying_clear room s h.clear)
-    ∙ (rw (h.machine, h.word, h.sequence) outcomes.twin-built) in
+    ∙ (rw (h.machine, h.word, h.sequence) outcomes.twin_built) in
     judgement_verdict room s h.clear certified ∙ (rw (h.machine, h.sequence, h.answers) e)
 
 -- with its line
@@ -156,7 +156,7 @@ pub starred : Starred
 starred = record {
   built = buildings.twin-building;
   built_bytes = buildings.twin-buffer;
-  built_certified = λ room l. answered room (computed.built room l) outcomes.twin-built;
+  built_certified = λ room l. answered room (computed.built room l) outcomes.twin_built;
   each_other = λ room l. answered room (computed.each_other room l) outcomes.twin-mutual;
   longer = λ room l. answered room (computed.longer room l) outcomes.twin-longer;
   one = λ room l. answered room (computed.one room l) outcomes.twin-one;
@@ -167,12 +167,12 @@ starred = record {
   unfinished_run = line_judged computed.unfinished_run lines.unfinished;
   too_many = λ room r a b c d e f g h i j k l m.
       judgement_refused room _ (computed.too_many room r a b c d e f g h i j k l m);
-  no_separation_built = λ room. outcome_writing (by_cause computed.six-built);
-  no_separation_certified = λ room. certification_refused room _ (computed.six-certified room);
-  no_separation_judged = λ room. judgement_refused room _ (computed.six-judged room);
-  no_state_built = λ room command. outcome_writing (by_cause (computed.four-built command));
-  no_state_certified = λ room command. certification_refused room _ (computed.four-certified room command);
-  no_state_judged = λ room command answer. judgement_refused room _ (computed.four-judged room command answer);
+  no_separation_built = λ room. outcome_writing (by_cause computed.six_built);
+  no_separation_certified = λ room. certification_refused room _ (computed.six_certified room);
+  no_separation_judged = λ room. judgement_refused room _ (computed.six_judged room);
+  no_state_built = λ room command. outcome_writing (by_cause (computed.four_built command));
+  no_state_certified = λ room command. certification_refused room _ (computed.four_certified room command);
+  no_state_judged = λ room command answer. judgement_refused room _ (computed.four_judged room command answer);
   not_connected = buildings.disconnected-building;
   single_built = buildings.single-building;
   single_bytes = buildings.single-buffer;

@@ -112,16 +112,16 @@ module _ (M : Mealy) where
 
     module _ (c : ℕ) (cl : c < M.k) where
       moved_one : (q : ℕ) → States q → one (moved M.next c q) ≡ M.next (one q) c
-      moved_one q h = one_of (M.next (one q) c) (low (p.stays (other q) c h.other-state cl))
+      moved_one q h = one_of (M.next (one q) c) (low (p.stays (other q) c h.other_state cl))
 
       moved_other : (q : ℕ) → States q → other (moved M.next c q) ≡ M.next (other q) c
-      moved_other q h = other_of (M.next (one q) c) (low (p.stays (other q) c h.other-state cl))
+      moved_other q h = other_of (M.next (one q) c) (low (p.stays (other q) c h.other_state cl))
 
       -- states lead to states
       moved_states : (q : ℕ) → States q → States (moved M.next c q)
       moved_states q h = record {
         one_state = rw (moved_one q h) (p.stays (one q) c h.one_state cl);
-        other_state = rw (moved_other q h) (p.stays (other q) c h.other-state cl);
+        other_state = rw (moved_other q h) (p.stays (other q) c h.other_state cl);
       }
 
       pub after_states : (ps : List ℕ) → Each States ps → Each States (after M.next M.answer ps c)

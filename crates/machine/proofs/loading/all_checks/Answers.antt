@@ -1,0 +1,35 @@
+use Rattle.std.proofs.Common.{sym, ap, ap₂, ◌∙◌}
+use Rattle.sheet.specs.declared.parse.Reading.{Reading}
+use Rattle.sheet.specs.Check.{◌else◌}
+use Rattle.sheet.specs.Check.Laws.{stops_at, goes_on}
+use Rattle.sheet.specs.Format.{standard}
+use Rattle.machine.specs.Causes.Lists.{load_causes_are}
+use Rattle.machine.proofs.LoadChecks.{needed_required}
+use Rattle.machine.proofs.loading.all_checks.Goals as goal
+
+pub returns-in-Refused : goal.returns-in-Refused
+returns-in-Refused c =
+    let args = c.args in
+    stops_at _ _ (load_causes_are args.needs args.sheet.now) c.machine_check-table.ensures
+    c.in-Refused.is
+
+pub needed_word-word-requires : goal.needed_word-word-requires
+needed_word-word-requires c =
+    needed_required c.args.needs c.args.sheet.now
+    (sym c.machine_check-table.ensures ∙ c.in_default.is) c.requires.m_value
+    standard.word (ap (λ (r : Reading). r.records.word) c.requires.reading_value)
+
+pub needed_sequence-sequence-requires : goal.needed_sequence-sequence-requires
+needed_sequence-sequence-requires c =
+    needed_required c.args.needs c.args.sheet.now
+    (sym c.machine_check-table.ensures ∙ c.in_default.is)
+    c.requires.m_value standard.sequence (ap (λ (r : Reading). r.records.sequence) c.requires.reading_value)
+
+pub returns : goal.returns
+returns c =
+    let args = c.args in
+    c.first_of.ensures
+    ∙ ap₂ ◌else◌ c.needed_word-word.ensures c.needed_sequence-sequence.ensures
+    ∙ goes_on _ _ (load_causes_are args.needs args.sheet.now)
+    c.machine_check-table.ensures
+    c.in_default.is

@@ -1,0 +1,27 @@
+use Rattle.std.proofs.Common.{◌≡◌, ap}
+use Rattle.sheet.specs.declared.parse.Reading.{Reading}
+use Rattle.sheet.specs.Reader.Laws.{machine_read}
+use Rattle.machine.specs.Machine.{meaning}
+use Rattle.machine.specs.Causes.{held}
+use Rattle.machine.specs.Causes.Lists.{held_loaded}
+use Rattle.machine.proofs.LoadChecks.{loaded_by}
+use Rattle.machine.proofs.loading.load_sheet.Goals as goal
+use Rattle.machine.proofs.loading.load_sheet.Goals.{After-load-machine}
+
+-- the machine is the one that is held
+machine_is : (c : After-load-machine)
+    → meaning c.load-machine.result ≡ held c.args.sheet.now
+machine_is c =
+    let sheet = c.args.sheet in
+    held_loaded sheet.now
+    (machine_read sheet c.payload.result
+    (ap (λ (r : Reading). r.records) c.read_sheet-reading.ensures) c.payload.ensures)
+    c.load-machine.ensures
+
+pub all_checks-check-requires : goal.all_checks-check-requires
+all_checks-check-requires c = record { reading_value = c.read_sheet-reading.ensures; m_value = machine_is c }
+
+pub returns : goal.returns
+returns c =
+    loaded_by c.args.needs c.args.sheet.now _ c.all_checks-check.ensures (machine_is (goal.at.returns c).After-load-machine)
+    (ap (λ (r : Reading). r.records) c.read_sheet-reading.ensures)
