@@ -147,6 +147,7 @@ refused_marks s buffer e = go (rw e at (judgement_result (length buffer) s))
     go : {n p : ℕ} → Result (length buffer) s (RefusedAnswer n p) → (n ≡ 11 → ⊥) → judged_marks s buffer ≡ buffer
     go (refused f) other = judged_refused s buffer f
     go (not_certified f o) other = absurd (other refl)
+    go (judged _ _ verdict) other = elim verdict [ ]
 
 -- what pass shows
 pub record Passes (room : ℕ) (s : List ℕ) (size end : ℕ) : Type 0 where
