@@ -29,23 +29,23 @@ fn left_by(turned: Turned, written: bool) -> Talk {
 }
 
 // The turn of a line: writes what the desk says to it.
-fn heard(desk: Desk, left: u8, line: &[u8]) -> Talk {
+fn heard(rt: &HostRuntime, desk: Desk, left: u8, line: &[u8]) -> Talk {
     let mut bytes = [0u8; OUTPUT];
     let turned = turn(desk, left, line, &mut bytes);
     let written = turned.written;
     let out = written.out;
     let end = written.end;
-    let wrote = write_both(&bytes[..end], out);
+    let wrote = write_both(rt, &bytes[..end], out);
     left_by(turned, wrote)
 }
 
 // Tells that the input ended.
-fn tell_end() {
+fn tell_end(rt: &HostRuntime) {
     let mut bytes = [0u8; OUTPUT];
     let written = input_ended(&mut bytes);
     let out = written.out;
     let end = written.end;
-    write_both(&bytes[..end], out);
+    write_both(rt, &bytes[..end], out);
 }
 
 // A dialogue that is over without an end.
@@ -58,13 +58,13 @@ fn stopped(desk: Desk, left: u8) -> Talk {
 }
 
 // One turn: reads a line, and answers it.
-fn exchange(desk: Desk, left: u8) -> Talk {
+fn exchange(rt: &HostRuntime, desk: Desk, left: u8) -> Talk {
     let mut line = [0u8; LINE_BUFFER];
-    let read = read_line(&mut line);
+    let read = read_line(rt, &mut line);
     match read {
-        Line::Read { size } => heard(desk, left, &line[..size]),
+        Line::Read { size } => heard(rt, desk, left, &line[..size]),
         Line::End => {
-            tell_end();
+            tell_end(rt);
             stopped(desk, left)
         }
         Line::Failed => stopped(desk, left),
@@ -72,32 +72,32 @@ fn exchange(desk: Desk, left: u8) -> Talk {
 }
 
 // The first line of a sheet's dialogue.
-fn opened(sheet: &[u8]) -> Talk {
+fn opened(rt: &HostRuntime, sheet: &[u8]) -> Talk {
     let mut bytes = [0u8; OUTPUT];
     let turned = begin(sheet, &mut bytes);
     let written = turned.written;
     let out = written.out;
     let end = written.end;
-    let wrote = write_both(&bytes[..end], out);
+    let wrote = write_both(rt, &bytes[..end], out);
     left_by(turned, wrote)
 }
 
 // The whole dialogue of a sheet. A proved loop has to end, so it counts its turns down, from a
 // number that no run uses up.
-fn lead(sheet: &[u8]) {
-    let mut now = opened(sheet);
+fn lead(rt: &HostRuntime, sheet: &[u8]) {
+    let mut now = opened(rt, sheet);
     let mut turns = u64::MAX;
     while turns > 0 && !now.over {
-        now = exchange(now.desk, now.left);
+        now = exchange(rt, now.desk, now.left);
         turns -= 1;
     }
 }
 
 // Reads the sheet of a file, and leads the dialogue.
-pub(crate) fn converse(path: &[u8]) {
+pub(crate) fn converse(rt: &HostRuntime, path: &[u8]) {
     let mut sheet = [0u8; INPUT];
-    let input = read_file(path, &mut sheet);
+    let input = read_file(rt, path, &mut sheet);
     if let Input::Read { size } = input {
-        lead(&sheet[..size]);
+        lead(rt, &sheet[..size]);
     }
 }

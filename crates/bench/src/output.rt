@@ -8,13 +8,13 @@ use streams::{write_error, write_output};
 // output has failed, which is told, nothing more is written; says whether it took all. Where
 // standard error fails nothing is left to tell it on, and a program has no exit status to set: its
 // answer is not used.
-pub fn write_both(bytes: &[u8], out: usize) -> bool
+pub fn write_both(rt: &HostRuntime, bytes: &[u8], out: usize) -> bool
     requires { out ≤ length bytes.now }
     ensures { WrittenAll (take out bytes.now) result }
 {
-    let wrote = write_output(&bytes[..out]);
+    let wrote = write_output(rt, &bytes[..out]);
     if wrote {
-        write_error(&bytes[out..]);
+        write_error(rt, &bytes[out..]);
     }
     wrote
 }

@@ -17,44 +17,51 @@ fn run_end(part: &[u8], from: usize) -> usize
 }
 
 // A run of equal bytes: as `B*N` from three on.
-fn run(b: u8, count: usize, out: &mut [u8], used: usize) -> usize {
-    let at = decimal(b as usize, out, used);
+fn run(rt: &HostRuntime, b: u8, count: usize, out: &mut [u8], used: usize) -> usize {
+    let at = decimal(rt, b as usize, out, used);
     if count == 1 {
         at
     } else if count == 2 {
-        labelled(b" ", b as usize, out, at)
+        labelled(rt, b" ", b as usize, out, at)
     } else {
-        labelled(b"*", count, out, at)
+        labelled(rt, b"*", count, out, at)
     }
 }
 
 // A run with the space before it, which the first one has not.
-fn next_run(first: bool, b: u8, count: usize, out: &mut [u8], used: usize) -> usize {
+fn next_run(
+    rt: &HostRuntime,
+    first: bool,
+    b: u8,
+    count: usize,
+    out: &mut [u8],
+    used: usize,
+) -> usize {
     if first {
-        run(b, count, out, used)
+        run(rt, b, count, out, used)
     } else {
-        let at = text(b" ", out, used);
-        run(b, count, out, at)
+        let at = text(rt, b" ", out, used);
+        run(rt, b, count, out, at)
     }
 }
 
 // The runs of a part, a space between them.
-fn runs(part: &[u8], out: &mut [u8], used: usize) -> usize {
+fn runs(rt: &HostRuntime, part: &[u8], out: &mut [u8], used: usize) -> usize {
     let mut at = used;
     let mut i = 0;
     while i < part.len() {
         let end = run_end(part, i);
-        at = next_run(i == 0, part[i], end - i, out, at);
+        at = next_run(rt, i == 0, part[i], end - i, out, at);
         i = end;
     }
     at
 }
 
 // Bytes as items; none as `-`.
-pub(crate) fn bytes(part: &[u8], out: &mut [u8], used: usize) -> usize {
+pub(crate) fn bytes(rt: &HostRuntime, part: &[u8], out: &mut [u8], used: usize) -> usize {
     if part.len() == 0 {
-        text(b"-", out, used)
+        text(rt, b"-", out, used)
     } else {
-        runs(part, out, used)
+        runs(rt, part, out, used)
     }
 }

@@ -46,49 +46,69 @@ fn line_of(line: &[u8]) -> Line {
 }
 
 // A line with its newline.
-fn copied(line: &[u8], out: &mut [u8], used: usize) -> usize {
-    let at = text(line, out, used);
-    text(b"\n", out, at)
+fn copied(rt: &HostRuntime, line: &[u8], out: &mut [u8], used: usize) -> usize {
+    let at = text(rt, line, out, used);
+    text(rt, b"\n", out, at)
 }
 
 // A case and its answer.
-fn case(line: &[u8], parts: &mut [u8], buf: &mut [u8], out: &mut [u8], used: usize) -> usize {
-    let start = copied(line, out, used);
-    let at = text(b"> ", out, start);
-    let next = answer(line, parts, buf, out, at);
-    text(b"\n", out, next)
+fn case(
+    rt: &HostRuntime,
+    line: &[u8],
+    parts: &mut [u8],
+    buf: &mut [u8],
+    out: &mut [u8],
+    used: usize,
+) -> usize {
+    let start = copied(rt, line, out, used);
+    let at = text(rt, b"> ", out, start);
+    let next = answer(rt, line, parts, buf, out, at);
+    text(rt, b"\n", out, next)
 }
 
 // One line, and how many cases it is.
-fn line_done(line: &[u8], parts: &mut [u8], buf: &mut [u8], out: &mut [u8], used: usize) -> Done
+fn line_done(
+    rt: &HostRuntime,
+    line: &[u8],
+    parts: &mut [u8],
+    buf: &mut [u8],
+    out: &mut [u8],
+    used: usize,
+) -> Done
     ensures { result.cases ≤ 1 }
 {
     let kind = line_of(line);
     match kind {
         Line::Copied => Done {
-            used: copied(line, out, used),
+            used: copied(rt, line, out, used),
             cases: 0,
         },
         Line::Dropped => Done { used, cases: 0 },
         Line::Case => Done {
-            used: case(line, parts, buf, out, used),
+            used: case(rt, line, parts, buf, out, used),
             cases: 1,
         },
     }
 }
 
 // Every line of an input, and how many cases there were; gives how many bytes wait to be written.
-pub(crate) fn answered(input: &[u8], parts: &mut [u8], buf: &mut [u8], out: &mut [u8]) -> usize {
+pub(crate) fn answered(
+    rt: &HostRuntime,
+    input: &[u8],
+    parts: &mut [u8],
+    buf: &mut [u8],
+    out: &mut [u8],
+) -> usize {
     let mut used = 0;
     let mut cases = 0;
     let mut at = 0;
     while at < input.len() {
         let end = line_end(input, at);
-        let line = line_done(&input[at..end], parts, buf, out, used);
+        let line = line_done(rt, &input[at..end], parts, buf, out, used);
         used = line.used;
         cases += line.cases;
         at = end + 1;
     }
-    let next = labelled(b"> ", cases, out, used);
-    text(b" cases\n", out, next)
+    let next = labelled(rt, b"> ", cases, out, used);
+    text(rt, b" cases\n", out, next)
 }

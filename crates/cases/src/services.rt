@@ -49,30 +49,58 @@ fn lent_room(buf: &mut [u8], size: usize) -> &mut [u8] {
     room
 }
 
-fn judge_case(sheet: &[u8], size: usize, buf: &mut [u8], out: &mut [u8], used: usize) -> usize {
+fn judge_case(
+    rt: &HostRuntime,
+    sheet: &[u8],
+    size: usize,
+    buf: &mut [u8],
+    out: &mut [u8],
+    used: usize,
+) -> usize {
     let room = lent_room(buf, size);
-    let at = judged(judge(sheet, room), out, used);
-    buffer(room, out, at)
+    let at = judged(rt, judge(sheet, room), out, used);
+    buffer(rt, room, out, at)
 }
 
-fn certify_case(sheet: &[u8], size: usize, buf: &mut [u8], out: &mut [u8], used: usize) -> usize {
+fn certify_case(
+    rt: &HostRuntime,
+    sheet: &[u8],
+    size: usize,
+    buf: &mut [u8],
+    out: &mut [u8],
+    used: usize,
+) -> usize {
     let room = lent_room(buf, size);
-    let at = certified(certify(sheet, room), out, used);
-    buffer(room, out, at)
+    let at = certified(rt, certify(sheet, room), out, used);
+    buffer(rt, room, out, at)
 }
 
-fn build_case(sheet: &[u8], size: usize, buf: &mut [u8], out: &mut [u8], used: usize) -> usize {
+fn build_case(
+    rt: &HostRuntime,
+    sheet: &[u8],
+    size: usize,
+    buf: &mut [u8],
+    out: &mut [u8],
+    used: usize,
+) -> usize {
     let room = lent_room(buf, size);
-    let at = written(b"built ", build(sheet, room), out, used);
-    buffer(room, out, at)
+    let at = written(rt, b"built ", build(sheet, room), out, used);
+    buffer(rt, room, out, at)
 }
 
-fn part_case(sheet: &[u8], kind: u16, out: &mut [u8], used: usize) -> usize {
+fn part_case(rt: &HostRuntime, sheet: &[u8], kind: u16, out: &mut [u8], used: usize) -> usize {
     let place = part_of(sheet, kind);
-    handed(place.from, read(sheet, kind), out, used)
+    handed(rt, place.from, read(sheet, kind), out, used)
 }
 
-fn transfer_case(sheet: &[u8], from: u8, to: u8, out: &mut [u8], used: usize) -> usize {
+fn transfer_case(
+    rt: &HostRuntime,
+    sheet: &[u8],
+    from: u8,
+    to: u8,
+    out: &mut [u8],
+    used: usize,
+) -> usize {
     let needs = Needs {
         word: false,
         sequence: false,
@@ -82,23 +110,23 @@ fn transfer_case(sheet: &[u8], from: u8, to: u8, out: &mut [u8], used: usize) ->
     let check = loaded.check;
     let machine = loaded.machine;
     match check {
-        Check::Clear => transferred(transfer(machine, from, to), out, used),
+        Check::Clear => transferred(rt, transfer(machine, from, to), out, used),
         Check::Refused {
             number: _,
             place: _,
-        } => checked(check, out, used),
+        } => checked(rt, check, out, used),
     }
 }
 
 // The desk's order after each answer.
-fn orders(desk: Desk, answers: &[u8], out: &mut [u8], used: usize) -> usize {
+fn orders(rt: &HostRuntime, desk: Desk, answers: &[u8], out: &mut [u8], used: usize) -> usize {
     let mut turn = desk;
     let mut at = used;
     let mut i = 0;
     while i < answers.len() {
         let stepped = step(turn, answers[i]);
         let order = stepped.order;
-        at = ordered(order, out, at);
+        at = ordered(rt, order, out, at);
         turn = stepped.desk;
         i += 1;
     }
@@ -106,12 +134,12 @@ fn orders(desk: Desk, answers: &[u8], out: &mut [u8], used: usize) -> usize {
 }
 
 // The first command and the orders behind it; a refusal has none.
-fn desk_case(sheet: &[u8], answers: &[u8], out: &mut [u8], used: usize) -> usize {
+fn desk_case(rt: &HostRuntime, sheet: &[u8], answers: &[u8], out: &mut [u8], used: usize) -> usize {
     let started = start(sheet);
     let first = started.first;
-    let at = begun(first, out, used);
+    let at = begun(rt, first, out, used);
     match first {
-        First::Command { command: _ } => orders(started.desk, answers, out, at),
+        First::Command { command: _ } => orders(rt, started.desk, answers, out, at),
         First::Refused {
             number: _,
             place: _,
@@ -129,7 +157,14 @@ fn wanted_of(count: usize) -> Wanted {
 }
 
 // The sheet of its parts; those that are not there are empty.
-fn write_case(f: Fields, parts: &[u8], buf: &mut [u8], out: &mut [u8], used: usize) -> usize {
+fn write_case(
+    rt: &HostRuntime,
+    f: Fields,
+    parts: &[u8],
+    buf: &mut [u8],
+    out: &mut [u8],
+    used: usize,
+) -> usize {
     let room = lent_room(buf, f.first as usize);
     let ends = f.parts.ends;
     let machine = front(parts, ends[0]);
@@ -138,14 +173,15 @@ fn write_case(f: Fields, parts: &[u8], buf: &mut [u8], out: &mut [u8], used: usi
     let answers = between(parts, ends[2], ends[3]);
     let wanted = wanted_of(f.parts.count);
     let answer = write(wanted, machine, word, sequence, answers, room);
-    let at = written(b"written ", answer, out, used);
-    buffer(room, out, at)
+    let at = written(rt, b"written ", answer, out, used);
+    buffer(rt, room, out, at)
 }
 
 // The answer of a service to its fields, the sheet, or of writing the machine, in the first bytes of
 // the parts. An unknown one
 // has none: its line could not be read.
 fn perform(
+    rt: &HostRuntime,
     service: Service,
     f: Fields,
     parts: &[u8],
@@ -162,17 +198,17 @@ fn perform(
     let b = (f.second % 256) as u8;
     match service {
         Service::Unknown => used,
-        Service::Judge => judge_case(sheet, room, buf, out, used),
-        Service::Certify => certify_case(sheet, room, buf, out, used),
-        Service::Build => build_case(sheet, room, buf, out, used),
-        Service::Refusal => checked(refusal(sheet, kind), out, used),
-        Service::Part => part_case(sheet, kind, out, used),
-        Service::Transfer => transfer_case(sheet, a, b, out, used),
-        Service::Desk => desk_case(sheet, answers, out, used),
-        Service::Word => sought(find_word(sheet), out, used),
-        Service::Write => write_case(f, parts, buf, out, used),
-        Service::House => entry(house_entry(a, b), out, used),
-        Service::Limits => limits(Machine::limits(), out, used),
+        Service::Judge => judge_case(rt, sheet, room, buf, out, used),
+        Service::Certify => certify_case(rt, sheet, room, buf, out, used),
+        Service::Build => build_case(rt, sheet, room, buf, out, used),
+        Service::Refusal => checked(rt, refusal(sheet, kind), out, used),
+        Service::Part => part_case(rt, sheet, kind, out, used),
+        Service::Transfer => transfer_case(rt, sheet, a, b, out, used),
+        Service::Desk => desk_case(rt, sheet, answers, out, used),
+        Service::Word => sought(rt, find_word(sheet), out, used),
+        Service::Write => write_case(rt, f, parts, buf, out, used),
+        Service::House => entry(rt, house_entry(a, b), out, used),
+        Service::Limits => limits(rt, Machine::limits(), out, used),
     }
 }
 
@@ -187,6 +223,7 @@ fn column(line: &[u8], at: usize) -> usize {
 
 // The answer to a line that is to be a case.
 pub(crate) fn answer(
+    rt: &HostRuntime,
     line: &[u8],
     parts: &mut [u8],
     buf: &mut [u8],
@@ -198,8 +235,8 @@ pub(crate) fn answer(
     let f = read_fields(line, service, n.at, limit(buf, 0), parts);
     let cursor = f.parts.cursor;
     if cursor.failed {
-        labelled(b"unreadable at ", column(line, cursor.at), out, used)
+        labelled(rt, b"unreadable at ", column(line, cursor.at), out, used)
     } else {
-        perform(service, f, parts, buf, out, used)
+        perform(rt, service, f, parts, buf, out, used)
     }
 }

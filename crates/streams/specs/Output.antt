@@ -2,7 +2,6 @@
 use Rattle.std.specs.Prelude.{ℕ, ◌≡◌, Bool, true, List, length}
 
 -- whether all bytes were written: true where there are none, since then nothing is left to write. Otherwise the answer
--- is free: it is that of the kit's `write_all`, which has no contract, since the kit's `write` says only that it takes
--- no more bytes than it is given
+-- is free: std's `write` says only that it takes no more bytes than it is given
 pub record WrittenAll (bytes : List ℕ) (r : Bool) : Type 0 where
   pub none : length bytes ≡ 0 → r ≡ true

@@ -5,9 +5,10 @@
 mod input;
 mod line;
 mod output;
+mod telling;
 mod words;
 
 pub use input::{Input, read_file, read_input};
 pub use line::{Line, read_line};
 pub use output::{write_error, write_output};
-pub use words::read_word;
+pub use words::{count_words, read_word};

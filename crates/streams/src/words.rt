@@ -1,18 +1,28 @@
-// A word that a program is started with. What its bytes are no contract can say; it says how many
-// count.
+// The words that a program is started with. What their bytes are no contract can say; it says how
+// many count.
 ghost use Rattle.io.specs.Counts.{IsPrefixLen};
 
-use libc::ENAMETOOLONG;
+use std::env::{Env, FillError};
+
+// How many words there are, the program's own name among them.
+pub fn count_words(rt: &HostRuntime) -> usize {
+    for i in 0..usize::MAX {
+        if let Err(FillError::NotPresent) = rt.arg(i, &mut []) {
+            return i;
+        }
+    }
+    usize::MAX
+}
 
 // Puts a word into a buffer, and gives its length, 0 where it is missing. Of a word that is longer
 // than the buffer it gives the first bytes: a caller that lends one byte more than it takes sees
 // that a word is too long.
-pub fn read_word(i: usize, buf: &mut [u8]) -> usize
+pub fn read_word(rt: &HostRuntime, i: usize, buf: &mut [u8]) -> usize
     ensures { IsPrefixLen result buf.new }
 {
-    let size = os::arg(i, buf);
-    if os::errno() == ENAMETOOLONG {
-        return buf.len();
+    match rt.arg(i, buf) {
+        Ok(size) => size,
+        Err(FillError::TooLong) => buf.len(),
+        Err(FillError::NotPresent) => 0,
     }
-    size
 }

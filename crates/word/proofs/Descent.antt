@@ -1,27 +1,21 @@
 -- A command in front of a word, and the words by rising commands, over plain variables. Assumes nothing.
-use Prim.Native.Nat.{ℕ, suc, ◌+◌, ◌-◌, ◌*◌, ◌≤◌, ◌<◌}
-use mathlib.Core.Path.{◌≡◌, refl, sym, ap, subst, ◌∙◌}
+use Prim.Native.Nat.{ℕ, suc, ◌+◌, ◌-◌, ◌≤◌, ◌<◌}
+use mathlib.Core.Path.{◌≡◌, refl, sym, ap, ◌∙◌}
 use mathlib.Core.Bool.{Bool, true, false, ◌&&◌, and-false}
 use mathlib.Core.Logic.{inl, inr}
 use mathlib.Core.List.{List, [], ◌∷◌, append-nil}
 use mathlib.Core.Option.{none, some, map}
 use native.Mathlib.Omega.{arith}
 use lib.ListN.{length, set, take, drop, length-set, length-take, length-drop}
-use lib.Seq.{length-take-le, drop-length}
+use lib.Seq.{drop-length}
 use borrow.Author.Count.{below_more}
 use borrow.Rule.Slice.PartMut.{put_mid}
 use Rattle.facts.specs.Tests.{true_or_false}
 use Rattle.facts.specs.FirstOf.{guard, guard_true, guard_false, first_of, least_first, none_first}
 use Rattle.facts.proofs.FirstStringLaws.{string_here, string_not_here, string_inside, string_outside}
-use Rattle.word.specs.declared.pairs.Moved.{Moved}
-use Rattle.word.specs.declared.pairs.Moved.TheVariants.{Met, On}
 use Rattle.word.specs.Search.{alike, moved, after, unmet, is_empty, word_from}
-use Rattle.word.specs.Searching.{cells, none_alike, left_by, MovesOn, BehindRequires, FirstRequires, word_on}
+use Rattle.word.specs.Searching.{cells, none_alike, left_by, word_on}
 use Rattle.word.specs.Searching.{word_behind}
-
--- a word that is lent on whole: the measure is one more than twice the length, and falls
-pub first_falls : (v w : List ℕ) {t : ℕ} → 2 * length w + 1 ≡ t → length v ≡ length w → 2 * length v < t
-first_falls v w e l = omega arith
 
 -- ---- the equations of `word_on`
 module _ (k : ℕ) (next answer : List ℕ) where
@@ -54,14 +48,6 @@ module _ (k : ℕ) (next answer : List ℕ) where
     | inr e ↦ rw e (left_empty ps c)
   ]
 
-  -- ---- what moving on tells
-  module _ (ps : List ℕ) (c : ℕ) (list : List ℕ) {r : Moved} (h : MovesOn k next answer ps c list r) where
-    pub moves_met : r ≡ Met → unmet (left_by k next answer ps c) ≡ false
-    moves_met e = subst (MovesOn k next answer ps c list) e h
-
-    pub moves_on : {size : ℕ} → r ≡ On size → MovesOn k next answer ps c list (On size)
-    moves_on e = subst (MovesOn k next answer ps c list) e h
-
   -- ---- a command in front
   module _ (ps : List ℕ) (c : ℕ) (word : List ℕ) where
     one_command : length word ≡ 1 → set word 0 c ≡ c ∷ []
@@ -93,24 +79,7 @@ module _ (k : ℕ) (next answer : List ℕ) where
     rest_long : 1 ≤ length word → length (take (length (set word 0 c) - 1) (drop 1 (set word 0 c))) ≡ length word - 1
     rest_long l = simp (length-take, length-drop, length-set) (omega arith)
 
-    -- the measure falls, which is twice the length
-    pub behind_falls : {t : ℕ} → 2 * length word ≡ t → 1 ≤ length word
-        → 2 * length (take (length (set word 0 c) - 1) (drop 1 (set word 0 c))) + 1 < t
-    behind_falls e l = omega (arith, rest_long l)
-
     module _ (left : List ℕ) (size : ℕ) (lefts : take size left ≡ left_by k next answer ps c) where
-      pub first_required : BehindRequires ps word → (length (set word 0 c) ≡ 1 → ⊥) → size ≤ length ps
-          → size ≤ length left
-          → unmet (left_by k next answer ps c) ≡ true
-          → FirstRequires (take size left) (take (length (set word 0 c) - 1) (drop 1 (set word 0 c)))
-      first_required h o few fits apart = record {
-        behind = record {
-          few = omega (arith, length-take-le size left fits, few, h.few);
-          some = omega (arith, length-set word 0 c, h.some, rest_long h.some);
-        };
-        apart = ap unmet lefts ∙ apart;
-      }
-
       mid_is : (tail : List ℕ) → 1 ≤ length word → length tail ≡ length word - 1
           → put_mid 1 (length (set word 0 c) - 1) (set word 0 c) tail ≡ c ∷ tail
       mid_is tail l e = go word l e
@@ -143,13 +112,6 @@ module _ (k : ℕ) (next answer : List ℕ) where
       pub long : length word ≡ size
       pub few : c ≤ k
       pub passed : (x : ℕ) → x < c → word_behind k next answer ps x size ≡ none
-
-    pub trying_none : (word : List ℕ) → length word ≡ size → Trying word 0
-    trying_none word l = record {
-      long = l;
-      few = omega arith;
-      passed = λ x h. let z : ⊥ = omega arith in absurd z;
-    }
 
     module _ {word : List ℕ} (after : List ℕ) {c : ℕ} (b : Bool) (h : Trying word c) (l : c < k)
         (long : length after ≡ length word)

@@ -1,5 +1,5 @@
 -- The law by which the search leaves a beginning (§14.1), in the words of the specification and as the search tests it.
-use Rattle.std.specs.Prelude.{ℕ, ◌<◌, ◌≡◌, true, false, List, [], ◌∷◌, ◌++◌}
+use Rattle.std.specs.Prelude.{ℕ, ◌<◌, ◌≡◌, false, List, [], ◌∷◌, ◌++◌}
 use Rattle.std.proofs.Common.{sym, ◌∙◌, true≢false}
 use Rattle.facts.specs.Lists.{Below, below_head, below_tail, Each}
 use Rattle.machine.specs.Machine.{Mealy, run, answers, Separates, Proper}

@@ -1,7 +1,8 @@
-use Rattle.std.proofs.Common.{refl, ⊎_elim, arith}
+use Rattle.std.proofs.Common.{refl, arith}
 use Rattle.word.proofs.Moving.{moving_none, moving_same, moving_past, moving_met, moving_kept}
 use Rattle.word.proofs.Moving.{moving_end}
 use Rattle.word.proofs.pairs.move_on.Goals as goal
+use Rattle.word.proofs.pairs.move_on.Goals.{then-answer_alike+else-q, else-answer_alike}
 
 pub loop-i-init : goal.loop-i-init
 loop-i-init c = moving_none _ _ _ _ _ _ _ refl
@@ -33,13 +34,15 @@ loop-i-preserved c =
     let h = c.loop-i.invariant in
     let l = c.loop-i-test.true in
     let e = c.answer_alike.ensures in
-    ⊎_elim
-    (λ w. moving_same k next answer pairs c.args.c _ w.3 w.4
-    (moving_kept k next answer pairs c.args.c _ h l e w.0.taken w.1.ensures
-    (omega (arith, h.few, l, c.requires)) w.2.left))
-    (λ w. moving_same k next answer pairs c.args.c _ w.1 w.2
-    (moving_past k next answer pairs c.args.c _ h l e w.0.left))
-    c.if-answer_alike.branch
+    elim c.if-answer_alike.branch [
+      | then-answer_alike+else-q w ↦
+          moving_same k next answer pairs c.args.c _ w.left-is w.size-is
+          (moving_kept k next answer pairs c.args.c _ h l e w.if-answer_alike.true w.moved_pair-q.ensures
+          (omega (arith, h.few, l, c.requires)) w.if-q.false)
+      | else-answer_alike w ↦
+          moving_same k next answer pairs c.args.c _ w.left-is w.size-is
+          (moving_past k next answer pairs c.args.c _ h l e w.if-answer_alike.false)
+    ]
 
 pub shape_of-left : goal.shape_of-left
 shape_of-left c = c.loop-i.invariant.long

@@ -1,0 +1,20 @@
+use Rattle.std.proofs.Common.{refl, sym, ap, ◌∙◌}
+use Rattle.report.specs.Lines.{first_line}
+use Rattle.report.specs.Dialogue.{begun, is_refused}
+use Rattle.report.proofs.Putting.{prints_same}
+use Rattle.report.proofs.Making.{writes_output}
+use Rattle.report.proofs.dialogue.begin.Goals as goal
+
+pub returns : goal.returns
+unfolding begun
+returns c =
+    record {
+      c = c.start-started.result;
+      starts = c.start-started.ensures;
+      desk = refl;
+      left = refl;
+      over = c.is_refused.ensures ∙ ap is_refused c.start-started.ensures.first.is;
+      written =
+          writes_output _ refl
+          (prints_same (ap first_line (sym c.start-started.ensures.first.is)) c.first_line-size.ensures);
+    }

@@ -1,0 +1,8 @@
+use Rattle.std.proofs.Common.{arith}
+use Rattle.sheet.specs.Writing.Laws.{record_puts}
+use Rattle.report.proofs.pieces.put_record.Goals as goal
+
+pub returns : goal.returns
+returns c =
+    record_puts c.args.out.now c.args.at c.args.kind c.args.payload.now
+    (omega (arith, c.requires.payload_len_bound)) (omega (arith, c.requires.payload_in_bounds)) (c.put_record.ensures.buffer_after, c.put_record.ensures.value)
