@@ -12,7 +12,7 @@ use borrow.Author.Count.{below_more}
 use borrow.Rule.Slice.PartMut.{put_mid}
 use Rattle.facts.specs.Tests.{true_or_false}
 use Rattle.facts.specs.FirstOf.{guard, guard_true, guard_false, first_of, least_first, none_first}
-use Rattle.facts.specs.FirstString.{string_here, string_not_here, string_inside, string_outside}
+use Rattle.facts.proofs.FirstStringLaws.{string_here, string_not_here, string_inside, string_outside}
 use Rattle.word.specs.Search.{alike, moved, after, unmet, is_empty, word_from}
 use Rattle.word.specs.Searching.{cells, none_alike, left_by, word_on}
 use Rattle.word.specs.Searching.{word_behind}

@@ -8,8 +8,9 @@ use Rattle.facts.specs.Tests.{both_true}
 use Rattle.facts.specs.FirstOf.{Some}
 use Rattle.facts.specs.Lists.{below_cons, below_head, below_tail}
 use Rattle.facts.specs.ByteOrder.{Before}
-use Rattle.facts.specs.FirstString.{Accepted, string_zero, string_here, string_step, some_string, none_string}
-use Rattle.facts.specs.FirstString.{string_outside, string_length, string_accepted, accepted_some, string_first}
+use Rattle.facts.specs.FirstString.{Accepted}
+use Rattle.facts.proofs.FirstStringLaws.{string_zero, string_here, string_step, some_string, none_string}
+use Rattle.facts.proofs.FirstStringLaws.{string_outside, string_length, string_accepted, accepted_some, string_first}
 use Rattle.machine.specs.Machine.{Mealy, Proper}
 use Rattle.machine.specs.Machine.Laws.{run_none, run_cons}
 use Rattle.build.specs.Transfer.{Leads, first_path}

@@ -7,7 +7,8 @@ use Rattle.std.proofs.Math.Option.{none, some}
 use Rattle.std.proofs.Math.ListN.{length}
 use Rattle.facts.specs.ByteOrder.{first_one}
 use Rattle.facts.specs.FirstOf.{Some, some_none, nothing, value, seen, first_some, some_first}
-use Rattle.facts.specs.FirstString.{Accepted, string_length, string_accepted, accepted_some, string_first}
+use Rattle.facts.specs.FirstString.{Accepted}
+use Rattle.facts.proofs.FirstStringLaws.{string_length, string_accepted, accepted_some, string_first}
 use Rattle.machine.specs.Machine.{Mealy, Proper}
 use Rattle.word.specs.Search.{most_sought, Eligible, IsSought, all_pairs, after, unmet, is_empty, word_from, search}
 use Rattle.word.specs.Search.Pairs.{accepted_apart, apart_accepted, all_states, apart_separates, separates_apart}
