@@ -11,6 +11,8 @@ use std::thread::{sleep, spawn};
 use std::time::Duration;
 
 const PAUSE: Duration = Duration::from_micros(200);
+/// EILSEQ, on Linux.
+const ILLEGAL_SEQUENCE: i32 = 84;
 
 /// So many bytes of the file at most; the program's line, with the system's
 /// reason, for one that cannot be read.
@@ -21,7 +23,11 @@ pub fn contents(name: &[u8], most: usize) -> Result<Vec<u8>, Vec<u8>> {
     })
 }
 
+/// What is not UTF-8 the program cannot open, whatever stands there.
 fn read(name: &[u8], most: usize) -> io::Result<Vec<u8>> {
+    if std::str::from_utf8(name).is_err() {
+        return Err(io::Error::from_raw_os_error(ILLEGAL_SEQUENCE));
+    }
     let mut bytes = Vec::new();
     let file = File::open(OsStr::from_bytes(name))?;
     file.take(most as u64).read_to_end(&mut bytes)?;

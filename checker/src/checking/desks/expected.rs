@@ -26,8 +26,8 @@ pub const GROUPS: [Group; 10] = [
     (
         "files",
         "missing, directory, below a file, name too long, any bytes in a missing name, symbolic links in a \
-         ring, any bytes in a name, name of 4095 bytes, symbolic link, empty, longest, one byte too long, endless, \
-         house unit in pieces, longest in pieces, endless in pieces",
+         ring, any bytes in a name, any text in a name, name of 4095 bytes, symbolic link, empty, longest, \
+         one byte too long, endless, house unit in pieces, longest in pieces, endless in pieces",
     ),
 ];
 /// How many lines of a dialogue are told to be no answer.

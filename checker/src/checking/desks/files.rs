@@ -40,7 +40,9 @@ impl Desks<'_> {
 
     fn unreadable(&self) -> io::Result<Vec<File>> {
         let directory = self.scratch.path();
-        let sheet = self.scratch.file("sheet", &house_sheet())?;
+        let house = house_sheet();
+        let sheet = self.scratch.file("sheet", &house)?;
+        let strange = OsStr::from_bytes(b"a \xfe\n%d: ");
         let circle = directory.join("circle");
         symlink(&circle, &circle)?;
         Ok(vec![
@@ -56,18 +58,21 @@ impl Desks<'_> {
                 directory.join(OsStr::from_bytes(b"no \xff\n%s: \x01")),
             ),
             ("symbolic links in a ring", circle),
+            ("any bytes in a name", self.scratch.file(strange, &house)?),
         ])
     }
 
     fn readable(&self) -> io::Result<Vec<File>> {
         let (directory, house) = (self.scratch.path(), house_sheet());
         let sheet = self.scratch.file("house", &house)?;
-        let strange = OsStr::from_bytes(b"a \xfe\n%d: ");
         let (link, longest) = (directory.join("link"), longest());
         symlink(&sheet, &link)?;
         let longer = [&longest[..], &[0]].concat();
         Ok(vec![
-            ("any bytes in a name", self.scratch.file(strange, &house)?),
+            (
+                "any text in a name",
+                self.scratch.file("a \u{fe}\n%d: ", &house)?,
+            ),
             ("name of 4095 bytes", self.long_name()),
             ("symbolic link", link),
             ("empty", self.scratch.file("empty", b"")?),

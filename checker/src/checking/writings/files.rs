@@ -18,7 +18,7 @@ use std::os::unix::fs::symlink;
 use std::path::{Path, PathBuf};
 
 pub const FILES: &str = "missing, directory, below a file, symbolic links in a ring, two not readable, \
-     a later one not opened, any bytes in a name, symbolic link, empty, endless, longest, \
+     a later one not opened, any bytes in a name, any text in a name, symbolic link, empty, endless, longest, \
      one byte too long, twice the same, in pieces, endless in pieces, closed input, sheet not read, \
      closed input and a missing file";
 
@@ -94,6 +94,10 @@ impl Writings<'_> {
             (
                 "any bytes in a name",
                 self.scratch.file(strange, &TWIN_BUILT)?,
+            ),
+            (
+                "any text in a name",
+                self.scratch.file("a \u{fe}\n%d: ", &TWIN_BUILT)?,
             ),
             ("symbolic link", link),
             ("empty", self.scratch.file("empty", b"")?),
