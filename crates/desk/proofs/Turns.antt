@@ -17,7 +17,6 @@ use Rattle.sheet.specs.Reader.{word_in}
 use Rattle.sheet.specs.Values.Laws.{returns_specified}
 use Rattle.machine.specs.Machine.{Mealy, run, meaning, Distinguishes}
 use Rattle.machine.specs.Causes.{machine_in}
-use Rattle.build.specs.Transfer.{transfer}
 use Rattle.build.specs.Transfer.Laws.{transfer_none_left}
 use Rattle.build.specs.Building.{connected_causes}
 use Rattle.desk.specs.declared.desk.Desk.{Desk}

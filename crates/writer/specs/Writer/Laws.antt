@@ -1,7 +1,7 @@
 -- The laws of the writer's causes (§15.2): the list written out, that parts which are not wanted play no role, what
 -- parts show that have none of them, in both directions, and that such parts make records in order and a sheet that is
 -- not too long.
-use Rattle.std.specs.Prelude.{ℕ, ◌≤◌, ◌≡◌, refl, true, false, List, [], ◌∷◌, ◌++◌, length}
+use Rattle.std.specs.Prelude.{ℕ, ◌≤◌, ◌≡◌, refl, true, List, [], ◌∷◌, ◌++◌, length}
 use Rattle.std.proofs.Common.{sym, ap₂, ◌∙◌, true≢false, arith}
 use Rattle.std.proofs.Math.Path.{ap}
 use Rattle.sheet.specs.declared.check.Check.{Check}

@@ -1,4 +1,4 @@
-use Rattle.std.proofs.Common.{⊎_elim, rules}
+use Rattle.std.proofs.Common.{rules}
 use Rattle.build.proofs.Rounds.{rounded_state, rounded_none, rounded_long, rounded_on, rounded_all}
 use Rattle.build.proofs.distances.distances.Goals as goal
 use Rattle.build.proofs.distances.distances.Goals.{then-to-n, else-to-n}

@@ -1,5 +1,3 @@
-use Rattle.std.proofs.Common.{ℕ, Bor, List, ◌≡◌}
-use Rattle.sheet.specs.Reader.{seen, handed, part_within, word_in}
 use Rattle.sheet.specs.Reader.Laws.{word_read}
 use Rattle.build.proofs.Answering.{front_none, early_refused, write_required, nine_refused, built}
 use Rattle.build.proofs.service.build_with_records.Goals as goal

@@ -1,4 +1,4 @@
-use Rattle.std.proofs.Common.{arith, sym, ◌∙◌, ⊎_elim}
+use Rattle.std.proofs.Common.{arith, sym, ◌∙◌}
 use Rattle.certify.proofs.Behind.{seen_starts, told_marked, told_other, seen_on, seen_all}
 use Rattle.certify.proofs.closure.mark_behind.Goals as goal
 use Rattle.certify.proofs.closure.mark_behind.Goals.{then-marks-p-eq1, else-marks-p-eq1}

@@ -1,9 +1,8 @@
-use Rattle.std.proofs.Common.{ℕ, ◌≡◌, ap, ap₂, ◌∙◌, List}
+use Rattle.std.proofs.Common.{ℕ, ap, ap₂, ◌∙◌, List}
 use Rattle.sheet.specs.declared.parse.Reading.{Reading}
 use Rattle.sheet.specs.Check.{first_cause}
 use Rattle.sheet.specs.Check.Laws.{stops_at, goes_on}
 use Rattle.sheet.specs.Format.{standard}
-use Rattle.sheet.specs.Reader.{sheet_causes, needed, found_in}
 use Rattle.sheet.specs.Reader.Laws.{payload_content}
 use Rattle.machine.specs.Causes.{table_causes}
 use Rattle.machine.specs.Causes.Lists.{machine_causes_are}

@@ -1,4 +1,4 @@
-use Rattle.std.proofs.Common.{arith, refl}
+use Rattle.std.proofs.Common.{arith}
 use Rattle.sheet.specs.Writing.Laws.{puts_none, puts_same, puts_append}
 use Rattle.report.proofs.Putting.{no_phrase, some_phrase}
 use Rattle.report.proofs.pieces.put_phrase.Goals as goal

@@ -1,7 +1,6 @@
-use Rattle.std.proofs.Common.{arith, ℕ, ◌+◌, ◌≤◌, ◌≡◌, ap, ap₂, ◌∙◌, List, [], ◌∷◌, length, rules}
+use Rattle.std.proofs.Common.{arith, ℕ, ◌+◌, ◌≤◌, ap, ap₂, ◌∙◌, List, [], ◌∷◌, length, rules}
 use Rattle.sheet.specs.declared.record.Record.{Record}
 use Rattle.sheet.specs.Format.{standard, header}
-use Rattle.sheet.specs.Reader.{machine_payload}
 use Rattle.sheet.specs.Reader.Laws.{payload_content, record_is}
 use Rattle.sheet.specs.Joining.{joined, fresh}
 use Rattle.sheet.specs.Writing.Laws.{puts_same}

@@ -1,7 +1,5 @@
-use Rattle.std.proofs.Common.{◌≡◌, ap}
+use Rattle.std.proofs.Common.{ap}
 use Rattle.sheet.specs.declared.record.Records.{Records}
-use Rattle.sheet.specs.Format.{standard}
-use Rattle.sheet.specs.Reader.{found_in}
 use Rattle.report.specs.Output.Laws.{writes_same}
 use Rattle.report.proofs.Listing.{searched_output, found_holds}
 use Rattle.report.proofs.sheets.word_sheet.Goals as goal

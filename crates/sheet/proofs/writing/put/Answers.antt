@@ -1,4 +1,4 @@
-use Rattle.std.proofs.Common.{◌+◌, ◌<◌, refl, sym, ◌∙◌, ⊎_elim, arith, length, ltb-true, ltb-false}
+use Rattle.std.proofs.Common.{◌+◌, ◌<◌, refl, sym, ◌∙◌, arith, length, ltb-false}
 use Rattle.sheet.specs.Writing.Laws.{put_fits, end_fits, put_not, end_not}
 use Rattle.sheet.proofs.Copying.{copying_start, copying_on, copying_done}
 use Rattle.sheet.proofs.writing.put.Goals as goal

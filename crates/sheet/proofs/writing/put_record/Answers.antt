@@ -1,4 +1,4 @@
-use Rattle.std.proofs.Common.{⊎_elim, arith, ltb-true, ltb-false}
+use Rattle.std.proofs.Common.{arith}
 use Rattle.sheet.specs.Writing.Laws.{record_size}
 use Rattle.sheet.proofs.Copying.{record_put_lem, record_not_put}
 use Rattle.sheet.proofs.writing.put_record.Goals as goal
