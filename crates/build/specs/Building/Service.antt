@@ -19,7 +19,8 @@ use Rattle.certify.specs.declared.answer.Answer.TheVariants.{Certified as Certif
 use Rattle.certify.specs.Recognition.{Certified}
 use Rattle.certify.specs.Marks.{count, marks}
 use Rattle.certify.specs.Certification.{certify_causes, outcome, certification}
-use Rattle.certify.specs.Certification.Laws.{certified_clear, outcome_clear, certification_clear}
+use Rattle.certify.specs.Certification.Laws.{outcome_clear, certification_clear}
+use Rattle.certify.proofs.CertificationLaws.{certified_clear}
 use Rattle.build.specs.Sequence.{following, sequence, length_bound}
 use Rattle.build.specs.Sequence.Laws.{Blocks, sequence_leads}
 use Rattle.build.specs.Sequence.Certified.{sequence_some, sequence_certified}

@@ -21,7 +21,7 @@ use Rattle.certify.specs.Recognition.{Certified, OpenNumber, MarksOf, Recognised
 use Rattle.certify.specs.Certification.{sequence_needs, mark_bytes, marking_causes, certify_causes, certification}
 use Rattle.certify.specs.Certification.{marks_after, kept_in, Says}
 use Rattle.certify.specs.Certification.Laws.{load_clear, marked_commands, certify_without_answers}
-use Rattle.certify.specs.Certification.Contract.{certification_says, certifies}
+use Rattle.certify.proofs.CertificationContract.{certification_says, certifies}
 use Rattle.judge.specs.declared.answer.Answer.{Answer}
 use Rattle.judge.specs.declared.answer.Answer.TheVariants.{Pass, Refused as RefusedAnswer}
 use Rattle.judge.specs.Renaming.Identity.{identity}
