@@ -16,7 +16,9 @@ unfolding open_cause verified refusal◌with◌if◌ ◌else◌ first any count 
 twin_built = outcome_of twin (0 ∷ []) (0 ∷ 0 ∷ 0 ∷ 0 ∷ 0 ∷ 0 ∷ 1 ∷ 0 ∷ 0 ∷ 0 ∷ 1 ∷ 0 ∷ []) marks_built
 
 -- the answer to 0 0 1 0 1 0, by its marks
-pub mutual_by_marks : answer_of (open_cause twin (0 ∷ 0 ∷ 1 ∷ 0 ∷ 1 ∷ 0 ∷ []) (1 ∷ 1 ∷ 0 ∷ 1 ∷ 1 ∷ 1 ∷ 0 ∷ [])) (count (1 ∷ 1 ∷ 0 ∷ 1 ∷ 1 ∷ 1 ∷ 0 ∷ [])) ≡ Open 5 2
+pub mutual_by_marks :
+    answer_of (open_cause twin (0 ∷ 0 ∷ 1 ∷ 0 ∷ 1 ∷ 0 ∷ []) (1 ∷ 1 ∷ 0 ∷ 1 ∷ 1 ∷ 1 ∷ 0 ∷ []))
+    (count (1 ∷ 1 ∷ 0 ∷ 1 ∷ 1 ∷ 1 ∷ 0 ∷ [])) ≡ Open 5 2
 unfolding open_cause verified refusal◌with◌if◌ ◌else◌ first any count twin machine_of state_at run
 mutual_by_marks = refl
 
@@ -31,7 +33,8 @@ unfolding open_cause verified refusal◌with◌if◌ ◌else◌ first any count 
 one_by_marks = refl
 
 -- the answer to 1 0 0, by its marks
-pub late_by_marks : answer_of (open_cause twin (1 ∷ 0 ∷ 0 ∷ []) (0 ∷ 1 ∷ 1 ∷ 0 ∷ [])) (count (0 ∷ 1 ∷ 1 ∷ 0 ∷ [])) ≡ Open 2 0
+pub late_by_marks :
+    answer_of (open_cause twin (1 ∷ 0 ∷ 0 ∷ []) (0 ∷ 1 ∷ 1 ∷ 0 ∷ [])) (count (0 ∷ 1 ∷ 1 ∷ 0 ∷ [])) ≡ Open 2 0
 unfolding open_cause verified refusal◌with◌if◌ ◌else◌ first any count twin machine_of state_at run
 late_by_marks = refl
 
@@ -46,7 +49,8 @@ unfolding open_cause verified refusal◌with◌if◌ ◌else◌ first any count 
 single_pair answer = outcome_of (single answer) (0 ∷ []) (0 ∷ 0 ∷ []) (marks_single_pair answer)
 
 -- the answer to 0, by its marks, with one state and one command
-pub short_by_marks : (answer : ℕ) → answer_of (open_cause (single answer) (0 ∷ []) (1 ∷ 0 ∷ [])) (count (1 ∷ 0 ∷ [])) ≡ Open 1 1
+pub short_by_marks : (answer : ℕ)
+    → answer_of (open_cause (single answer) (0 ∷ []) (1 ∷ 0 ∷ [])) (count (1 ∷ 0 ∷ [])) ≡ Open 1 1
 unfolding open_cause verified refusal◌with◌if◌ ◌else◌ first any count single machine_of state_at run
 short_by_marks answer = refl
 
