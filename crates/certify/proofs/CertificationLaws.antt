@@ -96,10 +96,13 @@ module _ (M : Mealy) (w xs : List ℕ) where
   pub refused_open : {a v : ℕ} → open_in M w xs ≡ Refused a v → (a ≡ 11) × OpenNumber M w xs v
   unfolding rows
   refused_open {a} {v} e = elim (true_or_false (marked (marks M w xs) 0)) [
-    | inl m ↦ (let on = sym (open_in_is M w xs ∙ ap (λ (c : Check). c else rows) (absent 11 0 (ap not m)) ∙ else_clear rows) ∙ e in
+    | inl m ↦ (let here : open_in M w xs ≡ rows =
+        open_in_is M w xs ∙ ap (λ (c : Check). c else rows) (absent 11 0 (ap not m)) ∙ else_clear rows in
+        let on = sym here ∙ e in
         in_rows (marked_recognised M w xs 0 (marked_true (marks M w xs) 0 m)) (first_present M.n _ on))
     | inr m ↦ (let zero : Refused 11 0 ≡ Refused a v =
-        sym (open_in_is M w xs ∙ ap (λ (c : Check). c else rows) (present 11 0 (ap not m)) ∙ else_refused 11 0 rows) ∙ e in
+        sym (open_in_is M w xs
+        ∙ ap (λ (c : Check). c else rows) (present 11 0 (ap not m)) ∙ else_refused 11 0 rows) ∙ e in
         (cc, start_open (λ r. eqb-false _ _ m (recognised_marked M w xs 0 r)) cc))
   ]
 

@@ -18,7 +18,8 @@ use Rattle.certify.specs.Marks.Agreement.{marks_closure}
 
 -- ---- rule 2
 module _ (xs : List ℕ) (state : ℕ → ℕ) (ms : List ℕ) where
-  grown_adds : (r : ℕ) → r ≤ length xs → length ms ≡ length xs + 1 → ByRule2 xs state ms r → get_or (grown xs state ms) r 0 ≡ 1
+  grown_adds : (r : ℕ) → r ≤ length xs → length ms ≡ length xs + 1 → ByRule2 xs state ms r
+      → get_or (grown xs state ms) r 0 ≡ 1
   grown_adds r l long h = grown_one xs state ms r l (or_right (marked ms r) (true_by_rule2 xs state ms r long h))
 
   grown_from : (r : ℕ) → get_or (grown xs state ms) r 0 ≡ 1 → (get_or ms r 0 ≡ 1) ⊎ (ByRule2 xs state ms r)
@@ -66,7 +67,8 @@ module _ (xs : List ℕ) (state : ℕ → ℕ) (Base : ℕ → Type 0) where
           long = h.long;
           bits = h.bits;
           sound = h.sound;
-          complete = closed_complete xs state Base _ h.long h.holds (λ r l s. still r (grown_adds xs state _ r l h.long s));
+          complete = closed_complete xs state Base _ h.long h.holds
+              (λ r l s. still r (grown_adds xs state _ r l h.long s));
         }
 
 -- ---- the marks of a sequence

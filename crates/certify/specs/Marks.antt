@@ -1,5 +1,5 @@
 -- The recognised places as marks, computed: one byte for each of the places 0 to N, 1 for recognised and 0 otherwise.
--- proofs/MarksAgreement.antt shows that they are exactly those of Recognition, from the laws of Marks.Agreement, so only
+-- proofs/MarksAgreement.antt shows that they are exactly those of Recognition, by the laws of Marks.Agreement, so only
 -- `count`, with `mark`, has to be read. A small name is what is computed, the same name with a capital the statement
 -- (`occurs_at` and OccursAt, `closure` and Closure). No other module can unfold `occurs_at`, `by_rule2`, `grown`,
 -- `settled`, `closure` and `marks`.

@@ -35,7 +35,8 @@ module _ (room : ℕ) (s : List ℕ) where
   abbrev xs : List ℕ
   xs = sequence_in s
 
-  pub answer_by : Answered (first_cause (certify_causes room s)) (open_in M w xs) (count (marks M w xs)) (certification room s)
+  pub answer_by :
+      Answered (first_cause (certify_causes room s)) (open_in M w xs) (count (marks M w xs)) (certification room s)
   unfolding certification outcome
   answer_by = answered (first_cause (certify_causes room s)) (open_in M w xs) (count (marks M w xs))
 
