@@ -13,7 +13,8 @@ use Rattle.machine.specs.Causes.{machine_in, load_causes}
 use Rattle.certify.specs.declared.answer.Answer.TheVariants.{Certified as CertifiedAnswer}
 use Rattle.certify.specs.Marks.{count, marks}
 use Rattle.certify.specs.Certification.{certify_causes, certification}
-use Rattle.certify.specs.Certification.Laws.{certified_clear, outcome_clear, certification_clear}
+use Rattle.certify.specs.Certification.Laws.{outcome_clear, certification_clear}
+use Rattle.certify.proofs.CertificationLaws.{certified_clear}
 use Rattle.build.specs.Sequence.{sequence}
 use Rattle.build.specs.Sequence.Laws.{Blocks, sequence_leads}
 use Rattle.build.specs.Sequence.Certified.{sequence_some, sequence_certified}

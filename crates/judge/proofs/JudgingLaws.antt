@@ -17,7 +17,7 @@ use Rattle.certify.specs.declared.answer.Answer.TheVariants.{Certified as Certif
 use Rattle.certify.specs.declared.answer.Answer.TheVariants.{Refused as RefusedCertification}
 use Rattle.certify.specs.Recognition.{RecognisedNumber}
 use Rattle.certify.specs.Certification.{certification, Says}
-use Rattle.certify.specs.Certification.Contract.{certification_says}
+use Rattle.certify.proofs.CertificationContract.{certification_says}
 use Rattle.judge.specs.declared.answer.Answer.{Answer}
 use Rattle.judge.specs.declared.answer.Answer.TheVariants.{Pass, Refused as RefusedAnswer}
 use Rattle.judge.specs.Renaming.Identity.{identity}

@@ -17,7 +17,7 @@ use Rattle.certify.specs.Recognition.{Certified, OpenNumber, MarksOf}
 use Rattle.certify.specs.Certification.{sequence_needs, mark_bytes, marking_causes, certify_causes, certification}
 use Rattle.certify.specs.Certification.{marks_after, kept_in}
 use Rattle.certify.specs.Certification.Laws.{load_clear, marked_commands, certify_without_answers}
-use Rattle.certify.specs.Certification.Contract.{certifies}
+use Rattle.certify.proofs.CertificationContract.{certifies}
 use Rattle.judge.specs.declared.answer.Answer.{Answer}
 use Rattle.judge.specs.declared.answer.Answer.TheVariants.{Refused as RefusedAnswer}
 use Rattle.judge.specs.Judging.{judge_causes, cause11, verdict, judgement, judged_marks}
