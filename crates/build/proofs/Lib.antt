@@ -1,5 +1,6 @@
 mod Adds
 mod Answering
+pub mod BuildingService
 mod Connecting
 mod Descending
 mod Parts

@@ -1,6 +1,6 @@
 -- Building: cause 8 (§4.2), the causes in order (§4.1), the answer and what is written (§6.4), and when building
--- succeeds (§6.5). The laws of cause 8 stand in Building.Connection, those of the service in Building.Service; in
--- Building.Twin the starred cases are computed.
+-- succeeds (§6.5). The laws of cause 8 stand in Building.Connection, those of the service in Building.Service and, of
+-- the built sequence, in proofs/BuildingService.antt; in Building.Twin the starred cases are computed.
 use Rattle.std.specs.Prelude.{ℕ, ◌≤◌, ◌<◌, ◌≡◌, Bool, true, false, List, [], ◌∷◌, ◌++◌, length}
 use Rattle.std.proofs.Math.Option.{Option, none, some}
 use Rattle.sheet.specs.declared.check.Check.{Check}

@@ -22,11 +22,12 @@ use Rattle.certify.specs.Recognition.{OccursAt}
 use Rattle.certify.specs.Recognition.Laws.{closure_more}
 use Rattle.certify.specs.Marks.{marks_by, count, occurs_at, marks}
 use Rattle.certify.specs.Marks.Laws.{marks_by_length, marks_by_bits, marks_by_one, marks_by_true}
-use Rattle.certify.specs.Marks.Agreement.{occurs_true, true_occurs, marks_unique, marks_length}
+use Rattle.certify.specs.Marks.Agreement.{occurs_true, true_occurs}
+use Rattle.certify.proofs.MarksAgreement.{marks_unique, marks_length}
 use Rattle.certify.specs.Certification.{certify_causes, verified, open_cause, answer_of, outcome, Certifies}
 use Rattle.certify.specs.Certification.Laws.{verified_by, by_verified, outcome_of, certification_refused}
 use Rattle.certify.specs.Certification.Laws.{certification_clear, after_refused, after_clear, kept_is}
-use Rattle.certify.specs.Certification.Contract.{certifies}
+use Rattle.certify.proofs.CertificationContract.{certifies}
 use Rattle.certify.specs.Certification.Program.{open_by, open_known}
 use Rattle.certify.specs.Folding.{MarkedIn}
 use Rattle.certify.specs.Sweep.{place_entry, CloseRequires, Closed}

@@ -15,3 +15,8 @@ mod Settling
 mod Tables
 mod Turn
 mod Words
+pub mod MarksAgreement
+pub mod CertificationLaws
+pub mod CertificationContract
+pub mod CertificationBounds
+pub mod CertificationTwin

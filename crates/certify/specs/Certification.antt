@@ -1,8 +1,9 @@
 -- Certifying: its causes (§4.1), the answer and what is written (§5.4), and the contract (§4.4), which says by
 -- Recognition what an answer and a mark mean. No other module can unfold `verified`, `open_cause`, `open_in`, `outcome`,
--- `certification` and `marks_after`; Certification.Contract shows that the contract holds of them. Certification.Laws
--- has the laws of causes, answer and buffer, Certification.Bounds how large the values are, Certification.Program what
--- the program's own functions need; Certification.Twin computes the starred sequences.
+-- `certification` and `marks_after`; proofs/CertificationContract.antt shows that the contract holds of them.
+-- Certification.Laws has the laws of causes, answer and buffer (those by the rules in proofs/CertificationLaws.antt),
+-- proofs/CertificationBounds.antt how large the values are, Certification.Program what the program's own functions
+-- need; Certification.Twin and proofs/CertificationTwin.antt compute the starred sequences.
 use Rattle.std.specs.Prelude.{ℕ, ◌+◌, ◌*◌, ◌≡◌, Bool, true, false, not, ◌&&◌, List, [], ◌∷◌, ◌++◌, ◌↔◌, eqb, length, get_or, take, drop}
 use Rattle.sheet.specs.declared.check.Check.{Check}
 use Rattle.sheet.specs.declared.check.Check.TheVariants.{Clear, Refused}

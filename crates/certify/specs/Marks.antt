@@ -1,7 +1,8 @@
 -- The recognised places as marks, computed: one byte for each of the places 0 to N, 1 for recognised and 0 otherwise.
--- Marks.Agreement shows that they are exactly those of Recognition, so only `count`, with `mark`, has to be read. A
--- small name is what is computed, the same name with a capital the statement (`occurs_at` and OccursAt, `closure` and
--- Closure). No other module can unfold `occurs_at`, `by_rule2`, `grown`, `settled`, `closure` and `marks`.
+-- proofs/MarksAgreement.antt shows that they are exactly those of Recognition, by the laws of Marks.Agreement, so only
+-- `count`, with `mark`, has to be read. A small name is what is computed, the same name with a capital the statement
+-- (`occurs_at` and OccursAt, `closure` and Closure). No other module can unfold `occurs_at`, `by_rule2`, `grown`,
+-- `settled`, `closure` and `marks`.
 use Rattle.std.specs.Prelude.{ℕ, zero, suc, ◌+◌, ◌-◌, ◌≤◌, Bool, true, false, ◌&&◌, ◌||◌, List, [], ◌∷◌, leb, eqb, length, get_or, take, drop}
 use Rattle.facts.specs.Lists.{same}
 use Rattle.machine.specs.Machine.{Mealy, state_at}

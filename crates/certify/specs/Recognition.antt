@@ -1,6 +1,7 @@
 -- Recognition by its rules (§5.1): the recognised places, verified entries and certified sequences (§5.3), the open
 -- number, and the marks with their number (§5.4). M is the machine, w the word, xs the sequence. No other module can
--- unfold `Recognised`: what is known of it is in Recognition.Laws, and in Marks.Agreement that it can be computed.
+-- unfold `Recognised`: what is known of it is in Recognition.Laws, and in proofs/MarksAgreement.antt that it can be
+-- computed.
 use Rattle.std.specs.Prelude.{ℕ, ◌+◌, ◌*◌, ◌≤◌, ◌<◌, ◌≡◌, List, ◌↔◌, length, get_or, take, drop}
 use Rattle.machine.specs.Machine.{Mealy, state_at}
 use Rattle.certify.specs.Marks.{count}

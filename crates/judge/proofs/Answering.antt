@@ -24,7 +24,8 @@ use Rattle.judge.specs.declared.answer.Answer.TheVariants.{Pass, Wrong, Unheard,
 use Rattle.judge.specs.declared.answer.Answer.TheVariants.{Refused as RefusedAnswer}
 use Rattle.judge.specs.Judging.{judge_causes, cause11, verdict, Judges, Identity, values_of}
 use Rattle.judge.specs.Judging.Laws.{judge_causes_are, few_answers, judgement_refused, judgement_by}
-use Rattle.judge.specs.Judging.Laws.{judged_refused, judged_clear, pass_identity}
+use Rattle.judge.specs.Judging.Laws.{judged_refused, judged_clear}
+use Rattle.judge.proofs.JudgingLaws.{pass_identity}
 
 -- ---- the checks
 module _ (room : ℕ) (s : List ℕ) {r : Record} {xs ys : List ℕ} (re : r ≡ answers_record s) (xe : xs ≡ sequence_in s)

@@ -1,7 +1,8 @@
 -- Judging: its causes (§4.1), 11 (§4.2), the results and what is written (§7), and the identity claim (§9.3).
 -- Certifying's answer and buffer, `certification` and `marks_after`, cannot be unfolded here: its contract says what
 -- they are. Judging.Verdict has laws of the verdict, Judging.Laws those of a sheet, Judging.NoAnswer those of the byte
--- for no answer, Judging.Bounds bounds on values.
+-- for no answer, Judging.Bounds bounds on values; those that rest on what a result says, on the renaming or on cause 11
+-- are in proofs/, in files of the same names.
 use Rattle.std.specs.Prelude.{ℕ, ◌≡◌, true, cond, List, [], ◌∷◌, ◌++◌, ltb, eqb, length, get_or}
 use Rattle.facts.specs.CommonPrefix.{agreed}
 use Rattle.sheet.specs.declared.check.Check.{Check}

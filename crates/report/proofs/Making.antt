@@ -24,7 +24,7 @@ use Rattle.machine.specs.Causes.Lists.{clear_machine, payload_short}
 use Rattle.build.specs.Sequence.{sequence}
 use Rattle.build.specs.Building.{build_needs, connected_causes, Builds}
 use Rattle.build.specs.Building.Connection.{clear_load, clear_distinguishes}
-use Rattle.build.specs.Building.Service.{connected_built}
+use Rattle.build.proofs.BuildingService.{connected_built}
 use Rattle.report.specs.declared.output.Written.{Written}
 use Rattle.report.specs.Lines.{refusal_line}
 use Rattle.report.specs.Pieces.{Prints}

@@ -125,17 +125,17 @@ module _ (M : Mealy) (w : List ℕ) (h : Blocks M w) where
   opening_length = opening_short.few
 
   -- ---- the whole
-  sequence_short : Short M.k (length_bound M w) (sequence M w)
-  unfolding length_bound block test_length
+  sequence_short : Short M.k ((M.n + 1) * block + M.n * (M.k * test_length)) (sequence M w)
   sequence_short =
       let p = run M M.start (opening M w) in
       let pl : p < M.n = rw (opening_leads M w h) (following_below M.n M.start h.proper.starts) in
-      rw (sequence_is M w, mul_assoc)
+      rw (sequence_is M w)
       (short_append (opening M w) (tests M w p M.n) opening_short (tests_short p M.n pl (omega arith)))
 
   -- the length formula bounds the length
   pub sequence_length : length (sequence M w) ≤ length_bound M w
-  sequence_length = sequence_short.few
+  unfolding length_bound block test_length
+  sequence_length = rw mul_assoc sequence_short.few
 
   -- every command is below k
   pub sequence_low : Below M.k (sequence M w)

@@ -1,17 +1,17 @@
--- The marks are those of the recognised places, and no other list is: the executable definition and the
--- rules agree at every place.
+-- What the definitions of the marks say: rule 1 and rule 2 as tests, growing, and that it ends with a set that rule 2
+-- adds nothing to. From these the certify crate's proofs/MarksAgreement.antt has that the marks are those of the
+-- recognised places, and that no other list is.
 use Prim.Native.Nat.{ℕ, zero, suc, ◌+◌, ◌-◌, ◌≤◌}
-use Rattle.std.specs.Prelude.{◌≡◌, Bool, true, false, List, ◌⊎◌, leb, eqb, length, get_or, take, drop}
+use Rattle.std.specs.Prelude.{◌≡◌, refl, Bool, true, false, ◌||◌, List, leb, eqb, length, get_or, take, drop}
 use Rattle.std.proofs.Common.{sym, ap, ◌∙◌, length-take, length-drop, ext_get_or}
 use Rattle.std.proofs.Math.Logic.{inl, inr}
 use native.Mathlib.Omega.{arith}
 use borrow.Author.Tests.{le-leb, leb-true, eq-eqb, eqb-true, eqb-false}
-use Rattle.facts.specs.Tests.{both_true, either_true, or_left, or_right, true_or_false}
+use Rattle.facts.specs.Tests.{both_true, or_left, true_or_false}
 use Rattle.facts.specs.Numbers.{equal_or_not}
 use Rattle.facts.specs.Lists.{same, same_refl, same_equal}
 use Rattle.machine.specs.Machine.{Mealy, state_at}
-use Rattle.certify.specs.Recognition.{OccursAt, Closure, rule1, rule2, Recognised}
-use Rattle.certify.specs.Recognition.Laws.{closure_recognised, recognised_closure, recognised_inside}
+use Rattle.certify.specs.Recognition.{OccursAt, Closure, rule1, rule2}
 use Rattle.certify.specs.Marks.{marks_by, Bits, marked, count, occurs_at, by_rule2, grown, settled, closure, marks}
 use Rattle.certify.specs.Marks.Laws.{any_found, any_holds, marked_true, true_marked, marked_inside}
 use Rattle.certify.specs.Marks.Laws.{marks_by_length, marks_by_bits, marks_by_one, marks_by_true, count_most}
@@ -47,7 +47,7 @@ module _ (xs : List ℕ) (state : ℕ → ℕ) (ms : List ℕ) where
     pub commands : take m (drop p xs) ≡ take m (drop q xs)
     pub at : r ≡ q + m
 
-  by_rule2_true : (r : ℕ) → by_rule2 xs state ms r ≡ true → ByRule2 r
+  pub by_rule2_true : (r : ℕ) → by_rule2 xs state ms r ≡ true → ByRule2 r
   unfolding by_rule2
   by_rule2_true r e =
       let a = any_found _ _ e in
@@ -71,7 +71,7 @@ module _ (xs : List ℕ) (state : ℕ → ℕ) (ms : List ℕ) where
         at = at-r;
       }
 
-  true_by_rule2 : (r : ℕ) → length ms ≡ length xs + 1 → ByRule2 r → by_rule2 xs state ms r ≡ true
+  pub true_by_rule2 : (r : ℕ) → length ms ≡ length xs + 1 → ByRule2 r → by_rule2 xs state ms r ≡ true
   unfolding by_rule2
   true_by_rule2 r long h =
       let e : r - h.q ≡ h.m = omega arith in
@@ -85,28 +85,27 @@ module _ (xs : List ℕ) (state : ℕ → ℕ) (ms : List ℕ) where
         h.commands,
       ) (same_refl (take h.m (drop h.q xs))))))
 
-  grown_length : length (grown xs state ms) ≡ length xs + 1
+  pub grown_length : length (grown xs state ms) ≡ length xs + 1
   unfolding grown
   grown_length = marks_by_length xs _
 
-  grown_bits : Bits (grown xs state ms)
+  pub grown_bits : Bits (grown xs state ms)
   unfolding grown
   grown_bits = marks_by_bits xs _
 
-  grown_keeps : (p : ℕ) → p ≤ length xs → get_or ms p 0 ≡ 1 → get_or (grown xs state ms) p 0 ≡ 1
+  pub grown_keeps : (p : ℕ) → p ≤ length xs → get_or ms p 0 ≡ 1 → get_or (grown xs state ms) p 0 ≡ 1
   unfolding grown
   grown_keeps p l e = marks_by_one xs _ p l (or_left _ (true_marked ms p e))
 
-  grown_adds : (r : ℕ) → r ≤ length xs → length ms ≡ length xs + 1 → ByRule2 r → get_or (grown xs state ms) r 0 ≡ 1
+  -- a place is marked after growing exactly where it was, or where rule 2 gives it
+  pub grown_one : (r : ℕ) → r ≤ length xs → (marked ms r || by_rule2 xs state ms r) ≡ true
+      → get_or (grown xs state ms) r 0 ≡ 1
   unfolding grown
-  grown_adds r l long h = marks_by_one xs _ r l (or_right (marked ms r) (true_by_rule2 r long h))
+  grown_one r l e = marks_by_one xs _ r l e
 
-  grown_from : (r : ℕ) → get_or (grown xs state ms) r 0 ≡ 1 → (get_or ms r 0 ≡ 1) ⊎ (ByRule2 r)
+  pub one_grown : (r : ℕ) → get_or (grown xs state ms) r 0 ≡ 1 → (marked ms r || by_rule2 xs state ms r) ≡ true
   unfolding grown
-  grown_from r e = elim (either_true (marked ms r) (by_rule2 xs state ms r) (marks_by_true xs _ r e)) [
-    | inl h ↦ inl (marked_true ms r h)
-    | inr h ↦ inr (by_rule2_true r h)
-  ]
+  one_grown r e = marks_by_true xs _ r e
 
 -- ---- growing until nothing is added
 -- a list of marks of all places that rule 2 adds nothing to
@@ -147,6 +146,19 @@ module _ (xs : List ℕ) (state : ℕ → ℕ) where
         (settled_stable f (grown xs state ms) more (omega (arith, eqb-false (count (grown xs state ms)) (count ms) e))))
   ]
 
+  -- the closure: what holds of the first marks and goes on to the grown ones, and that it is stable
+  module _ (base : ℕ → Bool) where
+    pub closure_has : (P : List ℕ → Type 0) → ((ms : List ℕ) → P ms → P (grown xs state ms)) → P (marks_by xs base)
+        → P (closure xs state base)
+    unfolding closure
+    closure_has P on h = settled_has P on (length xs + 1) (marks_by xs base) h
+
+    pub closure_stable : (p : ℕ) → get_or (grown xs state (closure xs state base)) p 0 ≡ 1
+        → get_or (closure xs state base) p 0 ≡ 1
+    unfolding closure Stable
+    closure_stable =
+        settled_stable (length xs + 1) (marks_by xs base) (marks_by_length xs base) (omega arith)
+
 -- ---- the smallest set, as marks
 -- one mark for each place, 0 or 1, and 1 exactly in the smallest set
 pub record Exact (xs : List ℕ) (state : ℕ → ℕ) (Base : ℕ → Type 0) (ms : List ℕ) : Type 0 where
@@ -186,66 +198,7 @@ module _ (xs : List ℕ) (state : ℕ → ℕ) (Base : ℕ → Type 0) where
         omega (arith, ha.bits p, hb.bits p))
   ])
 
-  module _ (base : ℕ → Bool) (from : (p : ℕ) → base p ≡ true → Base p) (to : (p : ℕ) → Base p → base p ≡ true) where
-    -- what stays so while a list grows
-    record Growing (ms : List ℕ) : Type 0 where
-      long : length ms ≡ length xs + 1
-      bits : Bits ms
-      sound : (p : ℕ) → get_or ms p 0 ≡ 1 → Closure xs state Base p
-      holds : (p : ℕ) → p ≤ length xs → Base p → get_or ms p 0 ≡ 1
-
-    grows : (ms : List ℕ) → Growing ms → Growing (grown xs state ms)
-    grows ms h = record {
-      long = grown_length xs state ms;
-      bits = grown_bits xs state ms;
-      sound = λ p e. elim (grown_from xs state ms p e) [
-        | inl q ↦ h.sound p q
-        | inr s ↦ rule2 s.p s.q s.m s.some (h.sound _ s.p_marked) (h.sound _ s.q_marked)
-            s.states (h.sound _ s.end_marked)
-            (omega (arith, marked_inside (grown xs state ms) p e, grown_length xs state ms)) s.commands s.at
-      ];
-      holds = λ p l b. grown_keeps xs state ms p l (h.holds p l b);
-    }
-
-    begun : Growing (marks_by xs base)
-    begun = record {
-      long = marks_by_length xs base;
-      bits = marks_by_bits xs base;
-      sound = λ p e. rule1 (from p (marks_by_true xs base p e));
-      holds = λ p l b. marks_by_one xs base p l (to p b);
-    }
-
-    pub closure_exact : Exact xs state Base (closure xs state base)
-    unfolding closure Stable
-    closure_exact =
-        let h = settled_has xs state Growing grows (length xs + 1) (marks_by xs base) begun in
-        let still = settled_stable xs state (length xs + 1) (marks_by xs base) begun.long (omega arith) in
-        record {
-          long = h.long;
-          bits = h.bits;
-          sound = h.sound;
-          complete = closed_complete _ h.long h.holds (λ r l s. still r (grown_adds xs state _ r l h.long s));
-        }
-
 -- ---- the marks of a sequence
-module _ (M : Mealy) (w xs : List ℕ) where
-  pub marks_exact : Exact xs (state_at M xs) (OccursAt w xs) (marks M w xs)
-  unfolding marks
-  marks_exact = closure_exact xs (state_at M xs) (OccursAt w xs) (occurs_at w xs) (occurs_true w xs) (true_occurs w xs)
-
-  pub marks_unique : (ms : List ℕ) → Exact xs (state_at M xs) (OccursAt w xs) ms → ms ≡ marks M w xs
-  marks_unique ms h = exact_unique xs (state_at M xs) (OccursAt w xs) ms (marks M w xs) h marks_exact
-
-  pub marks_length : length (marks M w xs) ≡ length xs + 1
-  marks_length = marks_exact.long
-
-  -- ---- a mark is 1 exactly where the place is recognised, and else 0
-  pub marked_recognised : (p : ℕ) → get_or (marks M w xs) p 0 ≡ 1 → Recognised M w xs p
-  marked_recognised p e = closure_recognised M w xs p (marks_exact.sound p e)
-
-  pub recognised_marked : (p : ℕ) → Recognised M w xs p → get_or (marks M w xs) p 0 ≡ 1
-  recognised_marked p h = marks_exact.complete p (recognised_inside M w xs p h) (recognised_closure M w xs p h)
-
-  -- every mark is 0 or 1
-  pub marks_bits : Bits (marks M w xs)
-  marks_bits = marks_exact.bits
+pub marks_closure : (M : Mealy) (w xs : List ℕ) → marks M w xs ≡ closure xs (state_at M xs) (occurs_at w xs)
+unfolding marks
+marks_closure M w xs = refl

@@ -1,9 +1,9 @@
--- The laws of the verdict: what each result says of the answers, both directions.
+-- The laws of the verdict: what each result says of the answers, and that the verdict is what holds of them. The other
+-- direction, that the verdict holds, is in proofs/JudgingVerdict.antt.
 use Rattle.std.specs.Prelude.{ℕ, ◌≤◌, ◌<◌, ◌≡◌, refl, List, length, get_or}
-use Rattle.std.proofs.Common.{sym, ap, ap₂, ◌∙◌, inl, inr, arith, ext_get_or}
+use Rattle.std.proofs.Common.{sym, ap, ap₂, ◌∙◌, arith}
 use borrow.Author.Tests.{lt-ltb, le-ltb, eq-eqb, ne_eqb}
-use Rattle.facts.specs.Numbers.{equal_or_not, less_or_not}
-use Rattle.facts.specs.CommonPrefix.{Agreed, agreed_holds, agreed_is}
+use Rattle.facts.specs.CommonPrefix.{agreed_is}
 use Rattle.machine.specs.Machine.{Mealy, no_answer, answers, state_at}
 use Rattle.machine.specs.Machine.Laws.{answers_length}
 use Rattle.judge.specs.declared.answer.Answer.{Answer}
@@ -56,15 +56,15 @@ module _ (M : Mealy) (xs ys : List ℕ) (few : length ys ≤ length xs) where
       rw (agreed_is specified ys p
       (record { in_first = omega (arith, many); in_second = l; before = r; here = λ _. d }))
 
-  at_difference : {p : ℕ} → p < length ys → result_at M xs ys p ≡ difference p (get_or specified p 0) (get_or ys p 0)
+  pub at_difference : {p : ℕ} → p < length ys → result_at M xs ys p ≡ difference p (get_or specified p 0) (get_or ys p 0)
   unfolding result_at
   at_difference l = rw (lt-ltb _ _ l)
 
-  at_unfinished : {p : ℕ} → length ys ≤ p → p < length xs → result_at M xs ys p ≡ Unfinished p
+  pub at_unfinished : {p : ℕ} → length ys ≤ p → p < length xs → result_at M xs ys p ≡ Unfinished p
   unfolding result_at
   at_unfinished l k = rw (le-ltb _ _ l, lt-ltb _ _ k)
 
-  at_passed : {p : ℕ} → length ys ≤ p → length xs ≤ p → result_at M xs ys p ≡ Pass (length xs) (state_at M xs (length xs))
+  pub at_passed : {p : ℕ} → length ys ≤ p → length xs ≤ p → result_at M xs ys p ≡ Pass (length xs) (state_at M xs (length xs))
   unfolding result_at
   at_passed l k = rw (le-ltb _ _ l, le-ltb _ _ k)
 
@@ -87,28 +87,3 @@ module _ (M : Mealy) (xs ys : List ℕ) (few : length ys ≤ length xs) where
       ∙ differs_verdict l r (λ q. n (q ∙ ge)) refl refl
   judged_verdict (unfinished {number} e l r) =
       sym (verdict_at number (omega arith) r (λ m q. omega arith) ∙ at_unfinished (omega arith) l)
-
-  -- ---- and from the verdict to what holds
-  judged_difference : {p : ℕ} → Agreed specified ys p → p < length ys
-      → Judged M xs ys (difference p (get_or specified p 0) (get_or ys p 0))
-  judged_difference {p} h l = elim (equal_or_not (get_or ys p 0) no_answer) [
-    | inl e ↦ rw (difference_unheard p (get_or specified p 0) (get_or ys p 0) e)
-        (unheard l h.before (λ q. h.here (omega (arith, many)) l (q ∙ sym e)) e)
-    | inr some ↦ rw (difference_wrong p (get_or specified p 0) (get_or ys p 0) some)
-        (wrong l h.before (h.here (omega (arith, many)) l) some refl refl)
-  ]
-
-  judged_by : {p : ℕ} → Agreed specified ys p → Judged M xs ys (result_at M xs ys p)
-  judged_by {p} h = elim (less_or_not p (length ys)) [
-    | inl l ↦ rw (at_difference l) (judged_difference h l)
-    | inr l ↦ elim (less_or_not p (length xs)) [
-      | inl k ↦ rw (at_unfinished l k) (unfinished {number = p} (omega (arith, h.in_second)) k h.before)
-      | inr k ↦ rw (at_passed l k)
-          (passed (sym (ext_get_or 0 specified ys (omega (arith, many, h.in_second))
-          (λ i il. h.before i (omega (arith, many))))) refl refl)
-    ]
-  ]
-
-  pub verdict_judged : Judged M xs ys (verdict M xs ys)
-  unfolding verdict
-  verdict_judged = judged_by (agreed_holds specified ys)

@@ -10,7 +10,7 @@ use Rattle.judge.specs.declared.answer.Answer.TheVariants.{Pass, Wrong, Unheard,
 use Rattle.machine.specs.Unit.{Unit, own_answers}
 use Rattle.judge.specs.Renaming.{Renaming}
 use Rattle.judge.specs.Judging.{judgement}
-use Rattle.judge.specs.Judging.Laws.{pass_identity}
+use Rattle.judge.proofs.JudgingLaws.{pass_identity}
 use Rattle.report.specs.Lines.{refusal_line, pass_line, wrong_line, unheard_line, unfinished_line, judge_line}
 
 -- the line's first byte is that of the word PASS

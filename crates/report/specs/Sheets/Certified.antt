@@ -23,7 +23,7 @@ use Rattle.certify.specs.Certification.Laws.{marking_causes_are}
 use Rattle.build.specs.Sequence.{sequence}
 use Rattle.build.specs.Building.{build_needs, connected_causes, building}
 use Rattle.build.specs.Building.Connection.{clear_load, clear_distinguishes}
-use Rattle.build.specs.Building.Service.{connected_built, built_sequence, built_certification}
+use Rattle.build.proofs.BuildingService.{connected_built, built_sequence, built_certification}
 use Rattle.report.specs.Sheets.{built_sheet}
 use Rattle.report.specs.Sheets.Kept.{Keeps, keeps}
 

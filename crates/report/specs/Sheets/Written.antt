@@ -25,7 +25,8 @@ use Rattle.judge.specs.declared.answer.Answer.TheVariants.{Pass, Wrong, Unheard,
 use Rattle.judge.specs.declared.answer.Answer.TheVariants.{Refused as RefusedJudgement}
 use Rattle.judge.specs.Judging.{judge_causes, judgement}
 use Rattle.judge.specs.Judging.Laws.{judge_causes_are, marking_clear, few_answers, Result, refused, not_certified}
-use Rattle.judge.specs.Judging.Laws.{judged, judgement_result}
+use Rattle.judge.specs.Judging.Laws.{judged}
+use Rattle.judge.proofs.JudgingLaws.{judgement_result}
 use Rattle.writer.specs.declared.wanted.Wanted.{Wanted}
 use Rattle.writer.specs.declared.wanted.Wanted.TheVariants.{Answers}
 use Rattle.writer.specs.Parts.{Parts, parts_in, needs_of, sheet_of}

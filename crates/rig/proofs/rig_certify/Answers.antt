@@ -1,6 +1,6 @@
 use Rattle.std.proofs.Common.{ap, ◌∙◌}
 use Rattle.certify.specs.Certification.{values_of}
-use Rattle.certify.specs.Certification.Bounds.{certification_fits}
+use Rattle.certify.proofs.CertificationBounds.{certification_fits}
 use Rattle.rig.specs.Result.{packed}
 use Rattle.rig.proofs.rig_certify.Goals as goal
 

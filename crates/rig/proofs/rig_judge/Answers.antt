@@ -1,6 +1,6 @@
 use Rattle.std.proofs.Common.{arith, ℕ, sym, ap, ◌∙◌, subst}
 use Rattle.judge.specs.Judging.{values_of}
-use Rattle.judge.specs.Judging.Bounds.{judgement_fits}
+use Rattle.judge.proofs.JudgingBounds.{judgement_fits}
 use Rattle.rig.specs.Result.{packed, RigIdentity}
 use Rattle.rig.specs.Result.Laws.{number_identity}
 use Rattle.facts.specs.Bytes.{Bytes}

@@ -6,10 +6,10 @@ use Rattle.sheet.specs.Values.{Fits}
 use Rattle.facts.specs.Bytes.{Bytes}
 use Rattle.sheet.specs.declared.check.Values.{Values}
 use Rattle.certify.specs.Certification.{certification, values_of as certifying_values}
-use Rattle.certify.specs.Certification.Bounds.{certification_fits}
+use Rattle.certify.proofs.CertificationBounds.{certification_fits}
 use Rattle.judge.specs.Judging.{judgement, values_of as judging_values}
-use Rattle.judge.specs.Judging.Laws.{pass_identity}
-use Rattle.judge.specs.Judging.Bounds.{judgement_fits, class_pass}
+use Rattle.judge.proofs.JudgingLaws.{pass_identity}
+use Rattle.judge.proofs.JudgingBounds.{judgement_fits, class_pass}
 use Rattle.rig.specs.Result.{packed, class_in, place_in, a_in, b_in, RigIdentity}
 
 -- ---- the fields

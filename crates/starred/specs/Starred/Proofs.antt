@@ -25,6 +25,7 @@ use Rattle.certify.specs.Marks.Twin.{twin_table, single_table, twin as twin_mach
 use Rattle.certify.specs.Certification.{marking_causes, certify_causes, outcome, certification}
 use Rattle.certify.specs.Certification.Laws.{certification_clear, certification_refused}
 use Rattle.certify.specs.Certification.Twin as outcomes
+use Rattle.certify.proofs.CertificationTwin as outcomes_moved
 use Rattle.build.specs.Building.{connected_causes}
 use Rattle.build.specs.Building.Twin.{unit_sheet}
 use Rattle.build.specs.Building.Twin as buildings
@@ -157,10 +158,10 @@ starred = record {
   built = buildings.twin_building;
   built_bytes = buildings.twin_buffer;
   built_certified = λ room l. answered room (computed.built room l) outcomes.twin_built;
-  each_other = λ room l. answered room (computed.each_other room l) outcomes.twin_mutual;
+  each_other = λ room l. answered room (computed.each_other room l) outcomes_moved.twin_mutual;
   longer = λ room l. answered room (computed.longer room l) outcomes.twin_longer;
-  one = λ room l. answered room (computed.one room l) outcomes.twin_one;
-  late = λ room l. answered room (computed.late room l) outcomes.twin_late;
+  one = λ room l. answered room (computed.one room l) outcomes_moved.twin_one;
+  late = λ room l. answered room (computed.late room l) outcomes_moved.twin_late;
   three = λ room l. answered room (computed.three room l) outcomes.twin_three;
   passes = line_judged computed.passes lines.pass;
   wrong_at = line_judged computed.wrong_at lines.wrong;
@@ -178,5 +179,5 @@ starred = record {
   single_bytes = buildings.single_buffer;
   single_pair = λ answer room some l. answered room (computed.pair answer room some l) (outcomes.single_pair answer);
   single_short = λ answer room some l.
-      answered room (computed.short answer room some l) (outcomes.single_short answer);
+      answered room (computed.short answer room some l) (outcomes_moved.single_short answer);
 }
