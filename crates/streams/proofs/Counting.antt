@@ -17,12 +17,12 @@ unmoved_after ended interrupted size e count f = by_cases ended interrupted (sym
     by_cases false true h = cc
     by_cases false false h = cc
 
--- whatever a read tells, what then counts stands within the buffer
-pub reached_after : {step : Step} (moved ended interrupted : Bool) (size next : ℕ) (buffer : List ℕ)
-    → step ≡ step_after moved ended interrupted size next → size ≤ length buffer → next ≤ length buffer → (count : ℕ)
+-- whatever a read tells, what then counts stands within the buffer, of so many bytes
+pub reached_after : {step : Step} (moved ended interrupted : Bool) (size next most : ℕ) (buffer : List ℕ)
+    → step ≡ step_after moved ended interrupted size next → length buffer ≡ most → size ≤ most → next ≤ most → (count : ℕ)
     → step ≡ More count → IsPrefixLen count buffer
 unfolding step_after
-reached_after moved ended interrupted size next buffer e l m count f =
+reached_after moved ended interrupted size next most buffer e long l m count f =
     let b : count ≤ length buffer = by_cases moved ended interrupted (sym e ∙ f) in search rules
   where
     by_cases : (a b c : Bool) → step_after a b c size next ≡ More count → count ≤ length buffer
