@@ -1,41 +1,20 @@
-use Rattle.std.proofs.Common.{ap}
-use Rattle.report.specs.Output.Laws.{writes_same}
-use Rattle.bench.specs.declared.words.SheetService.{SheetService}
-use Rattle.bench.specs.Bench.{sheet_output}
+use Rattle.std.proofs.Common.{rules}
 use Rattle.bench.proofs.services.perform_on_sheet.Goals as goal
 
 pub returns-in-Judge : goal.returns-in-Judge
-returns-in-Judge c =
-    let sheet = c.args.sheet.now in
-    writes_same c.judge_sheet.ensures
-    (ap (λ (service : SheetService). sheet_output service sheet) c.in-Judge.is)
+returns-in-Judge c = rw c.in-Judge.is (search rules)
 
 pub returns-in-Certify : goal.returns-in-Certify
-returns-in-Certify c =
-    let sheet = c.args.sheet.now in
-    writes_same c.certify_sheet.ensures
-    (ap (λ (service : SheetService). sheet_output service sheet) c.in-Certify.is)
+returns-in-Certify c = rw c.in-Certify.is (search rules)
 
 pub returns-in-Word : goal.returns-in-Word
-returns-in-Word c =
-    let sheet = c.args.sheet.now in
-    writes_same c.word_sheet.ensures
-    (ap (λ (service : SheetService). sheet_output service sheet) c.in-Word.is)
+returns-in-Word c = rw c.in-Word.is (search rules)
 
 pub returns-in-Build : goal.returns-in-Build
-returns-in-Build c =
-    let sheet = c.args.sheet.now in
-    writes_same c.build_sheet.ensures
-    (ap (λ (service : SheetService). sheet_output service sheet) c.in-Build.is)
+returns-in-Build c = rw c.in-Build.is (search rules)
 
 pub returns-in-Read : goal.returns-in-Read
-returns-in-Read c =
-    let sheet = c.args.sheet.now in
-    writes_same c.read_record.ensures
-    (ap (λ (service : SheetService). sheet_output service sheet) c.in-Read.is)
+returns-in-Read c = rw c.in-Read.is (search rules)
 
 pub returns-in-Desk : goal.returns-in-Desk
-returns-in-Desk c =
-    let sheet = c.args.sheet.now in
-    writes_same c.begun.ensures
-    (ap (λ (service : SheetService). sheet_output service sheet) c.in-Desk.is)
+returns-in-Desk c = rw c.in-Desk.is (search rules)
