@@ -24,6 +24,7 @@ fn difference(place: usize, specified: u8, given: u8) -> Answer
 
 // Runs the machine along the sequence as far as there are answers, and stops at the first that
 // differs.
+#[tactic(auto, using(crate::proofs::Comparing::compared_unfinished))]
 pub fn compare(m: Machine, xs: &[u8], ys: &[u8]) -> Answer
     requires { CompareRequires (meaning m) xs.now ys.now }
     ensures { result ≡ verdict (meaning m) xs.now ys.now }

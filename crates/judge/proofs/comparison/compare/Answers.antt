@@ -1,6 +1,6 @@
 use Rattle.std.proofs.Common.{arith, refl}
 use Rattle.judge.proofs.Comparing.{compared_start, entry_inside, compared_differs, compared_next}
-use Rattle.judge.proofs.Comparing.{compared_unfinished, compared_passed}
+use Rattle.judge.proofs.Comparing.{compared_passed}
 use Rattle.judge.proofs.comparison.compare.Goals as goal
 
 pub loop-i-init : goal.loop-i-init
@@ -35,12 +35,7 @@ loop-i-preserved c =
     c.loop-i.invariant c.loop-i-test.true
     c.entry_at-e.ensures refl refl c.if-specified-given.false refl
 
-pub returns-then-i-xs : goal.returns-then-i-xs
-returns-then-i-xs c =
-    compared_unfinished c.args.m c.args.xs.now c.args.ys.now c.requires
-    c.loop-i.invariant c.loop-i-test.false (omega (arith, c.if-i-xs.true, c.requires.few))
-
 pub returns : goal.returns
 returns c =
     compared_passed c.args.m c.args.xs.now c.args.ys.now c.requires
-    c.loop-i.invariant c.loop-i-test.false (omega (arith, c.if-i-xs.false))
+    c.loop-i.invariant c.loop-i-test.false (omega arith)
