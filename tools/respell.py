@@ -20,7 +20,11 @@ sys.path.insert(0, os.path.join(KIT, "port", "notes", "2026-11-18-names-are-in-s
 import snake  # noqa: E402
 
 NAME = r'[^\s(){}.;,@"«»:]+'
-HEAD = re.compile(rf"(?m)^[ \t]*((?:(?:pub|abbrev|unfoldable|mutual) )*)((?:record |data )?)({NAME}(?: {NAME})*)((?: [({{][^\n]*?[)}}])*) : ?(.*(?:\n[ \t]+(?:→|×)[^\n]*)*)")
+# A declaration: its marks, record or data, the names, the parameters, and the type as far as its lines begin so.
+HEAD = re.compile(
+    rf"(?m)^[ \t]*((?:(?:pub|abbrev|unfoldable|mutual) )*)((?:record |data )?)({NAME}(?: {NAME})*)"
+    rf"((?: [({{][^\n]*?[)}}])*) : ?(.*(?:\n[ \t]+(?:→|×)[^\n]*)*)"
+)
 WORDS = {"use", "elim", "let", "where", "in", "do", "rw", "record", "unfolding", "mod"}
 # A law and a word of the same spelling, both in one file: the law gets the ending (the kit's rule).
 ENDING = "_lem"
@@ -163,7 +167,8 @@ def main():
         dashed = [w for w in olds if "-" in w and w in table]
         if len(dashed) == 1:
             table[dashed[0]] = new + ENDING
-        print("meet:", new, "<-", " ".join(f"{w}:{table.get(w, w)}" for w in olds), "in", " ".join(sorted(p.removeprefix("crates/") for p in paths)[:4]), len(paths))
+        where = " ".join(sorted(p.removeprefix("crates/") for p in paths)[:4])
+        print("meet:", new, "<-", " ".join(f"{w}:{table.get(w, w)}" for w in olds), "in", where, len(paths))
     print(len(table), "names;", len(fields), "fields")
     if check:
         return

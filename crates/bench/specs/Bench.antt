@@ -65,7 +65,7 @@ source_of AddAnswers = AnswersSource
 source_of House = Nothing
 source_of Help = Nothing
 
--- what is read for a service (§8.2); the rest is taken as empty, which changes nothing (read-enough, in Bench.Laws)
+-- what is read for a service (§8.2); the rest is taken as empty, which changes nothing (read_enough, in Bench.Laws)
 abbrev pub read_for : Service → Inputs → Inputs
 read_for (Wrong mistake) x = inputs_of [] []
 read_for (OnSheet service) x = inputs_of x.sheet []

@@ -115,7 +115,7 @@ service_of [] = OnSheet Judge
 service_of (w ∷ ws) = unless_unfit w (named services w ws)
 
 -- ---- the arguments as the program has them: their number and the first five. Later ones are counted and not looked
--- at, which is enough: words-are, in Words.Laws
+-- at, which is enough: words_are, in Words.Laws
 
 -- n arguments: these are the first, and empty ones follow
 unfoldable pub words_of : ℕ → List (List ℕ) → List (List ℕ)

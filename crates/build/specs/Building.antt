@@ -29,7 +29,7 @@ no_transfer none = true
 no_transfer (some t) = false
 
 -- not connected (§4.2): the lowest s that has no transfer B(s). That no command string leads there is a law:
--- refused-unconnected and unconnected-refused, in Building.Connection
+-- refused_unconnected and unconnected_refused, in Building.Connection
 unfoldable pub cause8 : Mealy → List ℕ → Check
 cause8 M w = first M.n (λ s. refusal 8 with s if no_transfer (B M w s))
 
@@ -61,7 +61,7 @@ abbrev pub StronglyConnected : Mealy → Type 0
 StronglyConnected M = (a b : ℕ) → a < M.n → b < M.n → (u : List ℕ) × Leads M a b u
 
 -- when building succeeds (§6.5): no cause of the machine and no 5 is present, the word separates, the table is strongly
--- connected, and there is room. It succeeds exactly then: built-buildable and buildable-built, in Building.Service
+-- connected, and there is room. It succeeds exactly then: built_buildable and buildable_built, in Building.Service
 pub record Buildable (room : ℕ) (s : List ℕ) : Type 0 where
   pub machine : first_cause (machine_causes build_needs s) ≡ Clear
   pub word : cause5 (machine_in s).k (word_record s).start (word_in s) ≡ Clear

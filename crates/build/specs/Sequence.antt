@@ -28,7 +28,7 @@ B M w s = transfer M (run M s w) (following M.n s)
 unfoldable pub T : Mealy → List ℕ → ℕ → List ℕ
 T M w s = w ++ get_or (B M w s) []
 
--- the i-th state after the start, counted round; for start 0 it is state i, for each i below n: nthState-is, in
+-- the i-th state after the start, counted round; for start 0 it is state i, for each i below n: nth_state_is, in
 -- Sequence.Cycle
 unfoldable pub nth_state : Mealy → ℕ → ℕ
 nth_state M zero = M.start
@@ -49,7 +49,7 @@ unless true xs = []
 unless false xs = xs
 
 -- the way to state s (§6.3, 2): as long as the machine is not in s, the block of its present state, at most i times. n
--- times are enough (approach-reaches, in Sequence.Laws); approach-here and approach-more are the equations without i
+-- times are enough (approach_reaches, in Sequence.Laws); approach_here and approach_more are the equations without i
 unfoldable pub approach : Mealy → List ℕ → ℕ → ℕ → ℕ → List ℕ
 approach M w zero present s = []
 approach M w (suc i) present s =
@@ -82,6 +82,6 @@ block_bound M w = length w + M.n - 1
 abbrev pub most_block : ℕ
 most_block = most_word + most_states - 1
 
--- the length formula (§6.4), which the sequence keeps to: sequence-length, in Sequence.Length
+-- the length formula (§6.4), which the sequence keeps to: sequence_length, in Sequence.Length
 unfoldable pub length_bound : Mealy → List ℕ → ℕ
 length_bound M w = (M.n + 1) * block_bound M w + M.n * M.k * (M.n * block_bound M w + 1)

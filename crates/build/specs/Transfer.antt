@@ -31,7 +31,7 @@ unfoldable pub first_path : Mealy → ℕ → ℕ → ℕ → Option (List ℕ)
 first_path M b m a = first_string M.k (λ s. ltb s M.n) M.next (λ s. eqb s b) m a
 
 -- the transfer from a to b (§6.1): the first string of the least length below n that has one. Where a string of any
--- length leads from a to b, one of a length below n does: leads-some, in Transfer.Laws
+-- length leads from a to b, one of a length below n does: leads_some, in Transfer.Laws
 unfoldable pub transfer : Mealy → ℕ → ℕ → Option (List ℕ)
 transfer M a b = first_of M.n (λ m. first_path M b m a)
 

@@ -43,7 +43,7 @@ fn widened(next: &[u8], k: u8, distance: &[u8; 256], s: u8, d: u8) -> u8
 
 // From the states at most d commands away to those at most d + 1 away.
 fn widen(next: &[u8], n: u8, k: u8, distance: &mut [u8; 256], d: u8)
-    requires d_bound { d + 1 < unreached }
+    requires reachable { d + 1 < unreached }
     requires distance_len { length distance.old ≡ 256 }
     ensures { (start to : ℕ) (answer : List ℕ)
         → Distances (tabled n k start next.now answer) to d distance.old

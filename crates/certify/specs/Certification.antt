@@ -4,7 +4,8 @@
 -- Certification.Laws has the laws of causes, answer and buffer (those by the rules in proofs/CertificationLaws.antt),
 -- proofs/CertificationBounds.antt how large the values are, Certification.Program what the program's own functions
 -- need; Certification.Twin and proofs/CertificationTwin.antt compute the starred sequences.
-use Rattle.std.specs.Prelude.{ℕ, ◌+◌, ◌*◌, ◌≡◌, Bool, true, false, not, ◌&&◌, List, [], ◌∷◌, ◌++◌, ◌↔◌, eqb, length, get_or, take, drop}
+use Rattle.std.specs.Prelude.{ℕ, ◌+◌, ◌*◌, ◌≡◌, Bool, true, false, not, ◌&&◌, List, [], ◌∷◌, ◌++◌, ◌↔◌, eqb, length}
+use Rattle.std.specs.Prelude.{get_or, take, drop}
 use Rattle.sheet.specs.declared.check.Check.{Check}
 use Rattle.sheet.specs.declared.check.Check.TheVariants.{Clear, Refused}
 use Rattle.sheet.specs.declared.check.Values.{Values}

@@ -3,7 +3,8 @@
 -- `count`, with `mark`, has to be read. A small name is what is computed, the same name with a capital the statement
 -- (`occurs_at` and OccursAt, `closure` and Closure). No other module can unfold `occurs_at`, `by_rule2`, `grown`,
 -- `settled`, `closure` and `marks`.
-use Rattle.std.specs.Prelude.{ℕ, zero, suc, ◌+◌, ◌-◌, ◌≤◌, Bool, true, false, ◌&&◌, ◌||◌, List, [], ◌∷◌, leb, eqb, length, get_or, take, drop}
+use Rattle.std.specs.Prelude.{ℕ, zero, suc, ◌+◌, ◌-◌, ◌≤◌, Bool, true, false, ◌&&◌, ◌||◌, List, [], ◌∷◌, leb, eqb}
+use Rattle.std.specs.Prelude.{length, get_or, take, drop}
 use Rattle.facts.specs.Lists.{same}
 use Rattle.machine.specs.Machine.{Mealy, state_at}
 pub mod Laws
@@ -70,7 +71,7 @@ settled (suc f) xs state ms =
     let more = grown xs state ms in
     elim (eqb (count more) (count ms)) [ true ↦ ms | false ↦ settled f xs state more ]
 
--- the marks of the places that rule 1 gives, grown by rule 2; N+1 times are enough: settled-stable, in Marks.Agreement
+-- the marks of the places that rule 1 gives, grown by rule 2; N+1 times are enough: settled_stable, in Marks.Agreement
 pub closure : List ℕ → (ℕ → ℕ) → (ℕ → Bool) → List ℕ
 closure xs state base = settled (length xs + 1) xs state (marks_by xs base)
 

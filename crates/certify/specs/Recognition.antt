@@ -17,7 +17,7 @@ pub record OccursAt (w xs : List ℕ) (p : ℕ) : Type 0 where
 pub data Closure (xs : List ℕ) (state : ℕ → ℕ) (Base : ℕ → Type 0) : ℕ → Type 0 where
   rule1 : {p : ℕ} → Base p → Closure xs state Base p
   -- rule 2: p and q are in the set and have one state, p + m is in it, and the m commands from q are those from p; then
-  -- so is r, the place q + m. That p + m ≤ N is not asked: of recognised places it follows (recognised-inside)
+  -- so is r, the place q + m. That p + m ≤ N is not asked: of recognised places it follows (recognised_inside)
   rule2 : {r : ℕ} (p q m : ℕ) → 1 ≤ m
       → Closure xs state Base p → Closure xs state Base q → state p ≡ state q
       → Closure xs state Base (p + m) → q + m ≤ length xs

@@ -45,7 +45,7 @@ fn least_unknown(known: &[u8; Machine::ENTRIES], entries: usize) -> Check
 
 // The open number as cause 11: 0 where place 0 is not marked, else that of the least entry.
 pub fn open_check(marks: &[u8], known: &[u8; Machine::ENTRIES], entries: usize) -> Check
-    requires marks_nonzero { 0 < length marks.now }
+    requires some_marks { 0 < length marks.now }
     requires entries_le_most_entries { entries ≤ most_entries }
     ensures { result ≡ open_by marks.now known.now entries }
 {

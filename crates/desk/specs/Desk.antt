@@ -1,7 +1,8 @@
 -- The desk (§13): what it orders, of a machine, a word and the list of all answers so far. `Ordered` says it and
 -- `order_of` computes it; Desk.Agreement shows that both agree, by the laws of Desk.Laws. Desk.Ends has those of ends,
 -- Desk.NoAnswer those of the byte for no answer.
-use Rattle.std.specs.Prelude.{ℕ, ◌-◌, ◌≤◌, ◌<◌, ◌≡◌, Bool, true, false, cond, List, [], ◌++◌, ltb, length, get_or, take}
+use Rattle.std.specs.Prelude.{ℕ, ◌-◌, ◌≤◌, ◌<◌, ◌≡◌, Bool, true, false, cond, List, [], ◌++◌, ltb, length, get_or}
+use Rattle.std.specs.Prelude.{take}
 use Rattle.std.proofs.Math.Option
 use Rattle.std.proofs.Math.Option.{Option, none, some}
 use Rattle.facts.specs.Lists.{same}

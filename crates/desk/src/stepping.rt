@@ -101,7 +101,7 @@ fn drive(desk: Desk, state: u8, answer: u8) -> Stepped
 fn find(desk: Desk, heard: &[u8], position: u8) -> Stepped
     requires size_le_most_word { desk.size ≤ most_word }
     requires heard_len { length heard.now ≡ desk.size }
-    requires position_value { position + 1 ≡ desk.size }
+    requires last_position { position + 1 ≡ desk.size }
     ensures { Finds desk position heard.now result }
 {
     let m = desk.machine;

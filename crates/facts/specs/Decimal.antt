@@ -1,5 +1,6 @@
 -- Text as bytes (§8.1): quoted text, and numbers in decimal, written and read.
-use Rattle.std.specs.Prelude.{ℕ, zero, suc, ◌+◌, ◌-◌, ◌*◌, ◌/◌, ◌%◌, Bool, true, false, cond, ◌&&◌, List, [], ◌∷◌, ◌++◌, ltb, leb}
+use Rattle.std.specs.Prelude.{ℕ, zero, suc, ◌+◌, ◌-◌, ◌*◌, ◌/◌, ◌%◌, Bool, true, false, cond, ◌&&◌, List, [], ◌∷◌}
+use Rattle.std.specs.Prelude.{◌++◌, ltb, leb}
 use Prim.Native.Char.{code}
 use Prim.Native.String.{String, [] as none, ◌∷◌ as ◌then◌}
 use Rattle.std.proofs.Math.Option.{Option, none as missing, some}
@@ -21,7 +22,7 @@ decimal_within zero n = []
 decimal_within (suc most) n = last_digit (ltb n 10) n (decimal_within most)
 
 -- a number in decimal (§8.1): the digits of n / 10, where there are any, then the last one. n + 1 only bounds the
--- recursion: decimal-digit and decimal-more, in Decimal.Laws, are the equations without it
+-- recursion: decimal_digit and decimal_more, in Decimal.Laws, are the equations without it
 unfoldable pub decimal : ℕ → List ℕ
 decimal n = decimal_within (n + 1) n
 

@@ -1,7 +1,10 @@
 -- Lists of numbers: whether two are equal, the elements before a place and from it on, parts, cells after a store,
 -- lists whose elements are all below a bound, and a property of each element.
-use Rattle.std.specs.Prelude.{ℕ, zero, suc, ◌+◌, ◌<◌, ◌≡◌, refl, Bool, true, false, ◌&&◌, ◌||◌, List, [], ◌∷◌, ◌++◌, eqb, length, get_or, set, take, drop, replicate}
-use Rattle.std.proofs.Common.{sym, ap, ap₂, subst, ◌∙◌, true≢false, inl, inr, arith, add-one, length-take, length-drop, get_or-take, get_or-drop, get_or-set_same, get_or-set_other, take-suc, take-suc-set, drop-cons, below_more, eq-eqb, eqb-true}
+use Rattle.std.specs.Prelude.{ℕ, zero, suc, ◌+◌, ◌<◌, ◌≡◌, refl, Bool, true, false, ◌&&◌, ◌||◌, List, [], ◌∷◌, ◌++◌}
+use Rattle.std.specs.Prelude.{eqb, length, get_or, set, take, drop, replicate}
+use Rattle.std.proofs.Common.{sym, ap, ap₂, subst, ◌∙◌, true≢false, inl, inr, arith, add-one, length-take}
+use Rattle.std.proofs.Common.{length-drop, get_or-take, get_or-drop, get_or-set_same, get_or-set_other, take-suc}
+use Rattle.std.proofs.Common.{take-suc-set, drop-cons, below_more, eq-eqb, eqb-true}
 use Rattle.std.proofs.Math.Bool.{or-false}
 use Rattle.facts.specs.Tests.{both_true, either_true}
 use Rattle.facts.specs.Numbers.{equal_or_not}

@@ -1,6 +1,7 @@
 -- Facts about numbers that proofs cite. The pigeonhole principle stands in Pigeonhole.
 use Rattle.std.specs.Prelude.{ℕ, ◌+◌, ◌*◌, ◌/◌, ◌%◌, ◌^◌, ◌≤◌, ◌<◌, ◌≡◌, refl, Bool, true, false, ◌⊎◌, eqb, ltb}
-use Rattle.std.proofs.Common.{sym, ap, ◌∙◌, inl, inr, mul-le-mul, mul-le-mul_left, arith, eqb-true, ltb-true, ltb-false}
+use Rattle.std.proofs.Common.{sym, ap, ◌∙◌, inl, inr, mul-le-mul, mul-le-mul_left, arith, eqb-true, ltb-true}
+use Rattle.std.proofs.Common.{ltb-false}
 use Rattle.std.proofs.lemmas.Bool.{eqb-false}
 use Rattle.std.proofs.Math.Arith.{digits_div, digits_mod}
 use Rattle.facts.specs.Tests.{true_or_false}

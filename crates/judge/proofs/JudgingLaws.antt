@@ -25,7 +25,8 @@ use Rattle.judge.specs.Renaming.Behaviour.{end_alike}
 use Rattle.judge.specs.Judging.{judge_causes, verdict, judgement, judged_marks, Identity}
 use Rattle.judge.specs.Judging.Verdict.{passed, judged_verdict}
 use Rattle.judge.specs.Judging.Laws.{certifying_clear, few_answers, judgement_refused, judgement_open}
-use Rattle.judge.specs.Judging.Laws.{judgement_verdict, judged_refused, Result, refused, not_certified, judged, Passes}
+use Rattle.judge.specs.Judging.Laws.{judgement_verdict, judged_refused, Result, refused, not_certified, judged}
+use Rattle.judge.specs.Judging.Laws.{Passes}
 use Rattle.judge.specs.Judging.Laws.{judged_proper, judged_commands, word_separates}
 use Rattle.judge.proofs.JudgingVerdict.{verdict_judged}
 

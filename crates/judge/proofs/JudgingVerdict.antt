@@ -14,16 +14,13 @@ module _ (M : Mealy) (xs ys : List ℕ) (few : length ys ≤ length xs) where
   abbrev specified : List ℕ
   specified = answers M M.start xs
 
-  many : length specified ≡ length xs
-  many = answers_length M M.start xs
-
   judged_difference : {p : ℕ} → Agreed specified ys p → p < length ys
       → Judged M xs ys (difference p (get_or specified p 0) (get_or ys p 0))
   judged_difference {p} h l = elim (equal_or_not (get_or ys p 0) no_answer) [
     | inl e ↦ rw (difference_unheard p (get_or specified p 0) (get_or ys p 0) e)
-        (unheard l h.before (λ q. h.here (omega (arith, many)) l (q ∙ sym e)) e)
+        (unheard l h.before (λ q. h.here (omega (arith, answers_length M M.start xs)) l (q ∙ sym e)) e)
     | inr some ↦ rw (difference_wrong p (get_or specified p 0) (get_or ys p 0) some)
-        (wrong l h.before (h.here (omega (arith, many)) l) some refl refl)
+        (wrong l h.before (h.here (omega (arith, answers_length M M.start xs)) l) some refl refl)
   ]
 
   judged_by : {p : ℕ} → Agreed specified ys p → Judged M xs ys (result_at M xs ys p)
@@ -32,8 +29,8 @@ module _ (M : Mealy) (xs ys : List ℕ) (few : length ys ≤ length xs) where
     | inr l ↦ elim (less_or_not p (length xs)) [
       | inl k ↦ rw (at_unfinished M xs ys few l k) (unfinished {number = p} (omega (arith, h.in_second)) k h.before)
       | inr k ↦ rw (at_passed M xs ys few l k)
-          (passed (sym (ext_get_or 0 specified ys (omega (arith, many, h.in_second))
-          (λ i il. h.before i (omega (arith, many))))) refl refl)
+          (passed (sym (ext_get_or 0 specified ys (omega (arith, answers_length M M.start xs, h.in_second))
+          (λ i il. h.before i (omega (arith, answers_length M M.start xs))))) refl refl)
     ]
   ]
 

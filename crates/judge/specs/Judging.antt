@@ -32,7 +32,7 @@ unfoldable pub judge_causes : ℕ → List ℕ → List Check
 judge_causes room s = marking_causes true room s ++ (cause10 (answers_record s).start (sequence_in s) (answers_in s) ∷ [])
 
 -- not certified (§4.2), by what certifying answers: an open sequence is refused with its open number. A refusal of
--- certifying would stay one; there is none here, since judging has refused such a sheet before: certifying-clear, in
+-- certifying would stay one; there is none here, since judging has refused such a sheet before: certifying_clear, in
 -- Judging.Laws
 unfoldable pub cause11 : Certification → Check
 cause11 (Certified recognised) = Clear

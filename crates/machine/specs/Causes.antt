@@ -2,7 +2,8 @@
 -- sheet; and the causes of loading a sheet in order (§4.1), which are these with the starts of its own records. Laws
 -- stand in Causes.Laws (3, 4, 12, 5, 7 and 10), Causes.Separation (6) and Causes.Lists (the lists); Causes.Bounds has
 -- how large a place is.
-use Rattle.std.specs.Prelude.{ℕ, ◌+◌, ◌*◌, Bool, not, ◌&&◌, ◌||◌, List, [], ◌∷◌, ◌++◌, leb, ltb, eqb, length, get_or, take}
+use Rattle.std.specs.Prelude.{ℕ, ◌+◌, ◌*◌, Bool, not, ◌&&◌, ◌||◌, List, [], ◌∷◌, ◌++◌, leb, ltb, eqb, length, get_or}
+use Rattle.std.specs.Prelude.{take}
 use Rattle.facts.specs.Lists.{same}
 use Rattle.sheet.specs.declared.check.Check.{Check}
 use Rattle.sheet.specs.declared.reader.Needs.{Needs}
@@ -44,7 +45,7 @@ cause12 F at p =
     first (n * k) (λ e. refusal 12 with offset at (pair_at F e + 1) if eqb (get_or p (pair_at F e + 1) 0) no_answer)
 
 -- the cause at byte from + stride · i of a part that begins at offset base: the byte is not below the bound. The code
--- looks for causes 4, 12, 5 and 7 with it: cause4-is, cause12-is and commands-cause-is, in Causes.Laws
+-- looks for causes 4, 12, 5 and 7 with it: cause4_is, cause12_is and commands_cause_is, in Causes.Laws
 unfoldable pub byte_cause : ℕ → ℕ → List ℕ → ℕ → ℕ → ℕ → ℕ → Check
 byte_cause number base p from stride bound i =
     refusal number with base + (from + stride * i) if leb bound (get_or p (from + stride * i) 0)
@@ -85,7 +86,7 @@ unfoldable pub machine_in : List ℕ → Mealy
 machine_in s = machine_of standard (machine_payload s)
 
 -- the machine that the program holds for any sheet: that of the payload, cut to the bytes of the largest machine. Where
--- the causes of the machine are absent it is the sheet's: held-is, in Causes.Lists
+-- the causes of the machine are absent it is the sheet's: held_is, in Causes.Lists
 unfoldable pub held : List ℕ → Mealy
 held s = machine_of standard (take (most_machine standard) (machine_payload s))
 

@@ -67,8 +67,8 @@ fn needed_sequence(sheet: &[u8], found: Found, m: Machine, needed: bool) -> Chec
 
 // All causes of loading, with the machine as it was loaded.
 fn all_checks(sheet: &[u8], needs: Needs, reading: Reading, m: Machine) -> Check
-    requires reading_value { reading ≡ reading_of standard needs sheet.now }
-    requires m_value { meaning m ≡ held sheet.now }
+    requires as_read { reading ≡ reading_of standard needs sheet.now }
+    requires as_held { meaning m ≡ held sheet.now }
     ensures { result ≡ first_cause (load_causes needs sheet.now) }
 {
     let table = machine_check(sheet, needs, reading);

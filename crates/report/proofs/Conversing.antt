@@ -22,7 +22,8 @@ use Rattle.report.specs.declared.dialogue.Turned.{Turned}
 use Rattle.report.specs.declared.numbers.MaybeNumber.{MaybeNumber}
 use Rattle.report.specs.Numbers.{number_of}
 use Rattle.report.specs.Output.Laws.{writes_same}
-use Rattle.report.specs.Dialogue.{most_line, reply_of, reply, other_line, stop_line, others_line, turn_output, turn_over}
+use Rattle.report.specs.Dialogue.{most_line, reply_of, reply, other_line, stop_line, others_line, turn_output}
+use Rattle.report.specs.Dialogue.{turn_over}
 use Rattle.report.specs.Dialogue.{turn_desk, turn_left, Answered, Told, Turns}
 
 -- ---- a line that is no answer

@@ -1,6 +1,7 @@
 -- The digits that the kit's `io::decimal` gives are the number in decimal, and how many there are.
 use Rattle.std.specs.Prelude.{ℕ, zero, suc, ◌+◌, ◌-◌, ◌*◌, ◌/◌, ◌%◌, ◌^◌, ◌≤◌, ◌<◌, ◌≡◌, List, [], ◌∷◌, ◌++◌}
-use Rattle.std.proofs.Common.{sym, ap, ap₂, subst, ◌∙◌, inl, inr, arith, pow-suc, mod-lt, mod-eq_of_lt, div-lt_iff_lt-mul, le-div_iff_mul-le, lt-ltb}
+use Rattle.std.proofs.Common.{sym, ap, ap₂, subst, ◌∙◌, inl, inr, arith, pow-suc, mod-lt, mod-eq_of_lt}
+use Rattle.std.proofs.Common.{div-lt_iff_lt-mul, le-div_iff_mul-le, lt-ltb}
 use Rattle.std.proofs.Math.Nat.{one-le-pow, pow-le-pow_right}
 use Rattle.facts.specs.Numbers.{less_or_not}
 use Rattle.facts.specs.Decimal.{decimal}

@@ -65,7 +65,7 @@ fn reply_of(line: &[u8]) -> Reply
 // That the dialogue stops, and why.
 fn put_stop(reason: &[u8], at: usize, out: &mut [u8; OUTPUT]) -> usize
     requires reason_len_bound { length reason.now ≤ longest_reason }
-    requires at_bound { at ≤ 100 }
+    requires low { at ≤ 100 }
     ensures { Puts out.old at (stop_line reason.now) out.new result }
 {
     put_between(b"bench: the dialogue stops: ", reason, b"\n", at, out)

@@ -95,8 +95,8 @@ pub fn put_phrase(number: u8, at: usize, out: &mut [u8]) -> usize
 
 // A record: its header, then its payload, which is no longer than a sheet.
 pub fn put_record(kind: u16, payload: &[u8], at: usize, out: &mut [u8]) -> usize
-    requires payload_len_bound { length payload.now ≤ longest }
-    requires payload_in_bounds { at + header + length payload.now ≤ length out.old }
+    requires short { length payload.now ≤ longest }
+    requires room { at + header + length payload.now ≤ length out.old }
     ensures { Puts out.old at (record_bytes kind payload.now) out.new result }
 {
     sheet::put_record(kind, payload, at, out)
@@ -104,8 +104,8 @@ pub fn put_record(kind: u16, payload: &[u8], at: usize, out: &mut [u8]) -> usize
 
 // A new record of a role likewise.
 pub fn put_role(role: Role, payload: &[u8], at: usize, out: &mut [u8]) -> usize
-    requires payload_len_bound { length payload.now ≤ longest }
-    requires payload_in_bounds { at + header + length payload.now ≤ length out.old }
+    requires short { length payload.now ≤ longest }
+    requires room { at + header + length payload.now ≤ length out.old }
     ensures { Puts out.old at (record_bytes (new_kind standard role) payload.now) out.new result }
 {
     put_record(new_kind(role), payload, at, out)

@@ -31,8 +31,8 @@ pub const PART: usize = Machine::SEQUENCE + 1;
 
 // Puts the records of a machine and a word to the start; gives the place behind them.
 fn put_two(kind: u16, machine: &[u8], word: &[u8], out: &mut [u8]) -> usize
-    requires word_bound { header + length machine.now + header + length word.now ≤ longest }
-    requires longest_in_bounds { longest ≤ length out.old }
+    requires short { header + length machine.now + header + length word.now ≤ longest }
+    requires room { longest ≤ length out.old }
     ensures puts { Puts out.old 0
         (joined ((kind, machine.now) ∷ fresh standard.word word.now ∷ []))
         out.new result }

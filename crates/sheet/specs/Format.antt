@@ -1,6 +1,7 @@
 -- The byte format of a sheet (§2.1, §2.2), and causes 1 and 2 at each record (§4.1, §4.2). A sheet is a list of numbers
 -- here; the contracts are about bytes. The laws stand in Format.Laws.
-use Rattle.std.specs.Prelude.{ℕ, zero, suc, ◌+◌, ◌*◌, ◌-◌, Bool, true, false, cond, ◌||◌, List, [], ◌∷◌, leb, ltb, length, get_or}
+use Rattle.std.specs.Prelude.{ℕ, zero, suc, ◌+◌, ◌*◌, ◌-◌, Bool, true, false, cond, ◌||◌, List, [], ◌∷◌, leb, ltb}
+use Rattle.std.specs.Prelude.{length, get_or}
 use Rattle.facts.specs.Lists.{among}
 use Rattle.sheet.specs.declared.check.Check.{Check}
 use Rattle.sheet.specs.declared.check.Check.TheVariants.{Clear, Refused}
@@ -129,7 +130,7 @@ parse_step true (Refused n p) r w = ended (Refused n p)
 parse_step true Clear r w = r before w
 
 -- the parsing from an offset on; last is the rank of the record before. The first number only bounds the recursion:
--- parse-end and parse-on, in Format.Laws, are the equations of parse without it
+-- parse_end and parse_on, in Format.Laws, are the equations of parse without it
 unfoldable pub parse_from : ℕ → Format → List ℕ → ℕ → ℕ → Parsed
 parse_from zero F s at last = ended Clear
 parse_from (suc f) F s at last =

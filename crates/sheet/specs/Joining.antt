@@ -2,7 +2,8 @@
 -- sheet holds as such a list. The laws stand in Joining.Laws: how joined records are read. Joining.Whole has the
 -- converse: a sheet without causes 1 and 2 is the joining of what it holds; and Joining.Front that the records of the
 -- first roles come first.
-use Rattle.std.specs.Prelude.{ℕ, ◌+◌, ◌^◌, ◌<◌, ◌≡◌, Bool, true, false, cond, ◌&&◌, ◌||◌, List, [], ◌∷◌, ◌++◌, map, length, get_or}
+use Rattle.std.specs.Prelude.{ℕ, ◌+◌, ◌^◌, ◌<◌, ◌≡◌, Bool, true, false, cond, ◌&&◌, ◌||◌, List, [], ◌∷◌, ◌++◌, map}
+use Rattle.std.specs.Prelude.{length, get_or}
 use Rattle.facts.specs.Lists.{among, Each}
 use Rattle.sheet.specs.declared.record.Record.{Record}
 use Rattle.sheet.specs.declared.record.Found.TheVariants.{At}

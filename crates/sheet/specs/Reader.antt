@@ -1,6 +1,7 @@
 -- Checks 1 and 2 of a whole sheet (§4.1, §4.2), and what reading it gives (§2.4).
 -- The laws stand in Reader.Laws, bounds on places in Reader.Bounds.
-use Rattle.std.specs.Prelude.{ℕ, ◌+◌, ◌≤◌, ◌≡◌, Bool, true, false, cond, ◌&&◌, ◌||◌, List, [], ◌∷◌, ◌++◌, map, leb, ltb, length, take, drop}
+use Rattle.std.specs.Prelude.{ℕ, ◌+◌, ◌≤◌, ◌≡◌, Bool, true, false, cond, ◌&&◌, ◌||◌, List, [], ◌∷◌, ◌++◌, map, leb}
+use Rattle.std.specs.Prelude.{ltb, length, take, drop}
 use Rattle.std.specs.Borrow.{Bor}
 use Rattle.facts.specs.Lists.{among}
 use Rattle.sheet.specs.declared.check.Check.{Check}
@@ -107,7 +108,7 @@ payload_part Missing = record { from = 0; size = 0 }
 unfoldable pub part : Format → List ℕ → List ℕ → Part
 part F ks s = payload_part (found_in F ks s)
 
--- a record where the sheet holds all of it; it does where reading the sheet found it: part-within, in Reader.Laws
+-- a record where the sheet holds all of it; it does where reading the sheet found it: part_within_lem, in Reader.Laws
 abbrev pub within : List ℕ → Found → Found
 within s (At r) = cond (leb (end r) (length s)) (At r) Missing
 within s Missing = Missing

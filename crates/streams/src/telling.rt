@@ -24,7 +24,7 @@ fn before_number(text: &[u8]) -> usize
 
 // Writes a line to standard error: what failed, as the caller names it, a colon and the error's
 // text. Where standard error fails nothing is left to tell it on.
-pub fn tell(rt: &HostRuntime, what: &[u8], error: Error) {
+pub(crate) fn tell(rt: &HostRuntime, what: &[u8], error: Error) {
     let mut text = Cursor::new([0u8; TEXT]);
     let _ = write!(text, "{error}");
     let written = text.position() as usize;

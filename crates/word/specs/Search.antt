@@ -1,7 +1,8 @@
 -- The search for a separating word (§14.1). `IsSought` says what is sought, and `search` computes it; Search.Laws shows
 -- that both agree for a machine within its limits, by the laws of Search.Pairs. Search.Pruning has the law by which a
 -- beginning is left.
-use Rattle.std.specs.Prelude.{ℕ, zero, suc, ◌+◌, ◌*◌, ◌/◌, ◌%◌, Bool, true, false, not, ◌&&◌, List, [], ◌∷◌, ◌++◌, eqb}
+use Rattle.std.specs.Prelude.{ℕ, zero, suc, ◌+◌, ◌*◌, ◌/◌, ◌%◌, Bool, true, false, not, ◌&&◌, List, [], ◌∷◌, ◌++◌}
+use Rattle.std.specs.Prelude.{eqb}
 use Rattle.std.proofs.Math.Option.{Option}
 use Rattle.facts.specs.ByteOrder.{IsFirst}
 use Rattle.facts.specs.FirstOf.{first_of}

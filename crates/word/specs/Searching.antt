@@ -1,6 +1,7 @@
 -- What the functions of the search promise each other. Nothing here has to be believed: the contract of `find_word`
 -- does not name it.
-use Rattle.std.specs.Prelude.{ℕ, ◌+◌, ◌-◌, ◌*◌, ◌/◌, ◌≤◌, ◌≡◌, Bool, true, false, not, ◌&&◌, List, [], ◌∷◌, ◌++◌, length, get_or, take}
+use Rattle.std.specs.Prelude.{ℕ, ◌+◌, ◌-◌, ◌*◌, ◌/◌, ◌≤◌, ◌≡◌, Bool, true, false, not, ◌&&◌, List, [], ◌∷◌, ◌++◌}
+use Rattle.std.specs.Prelude.{length, get_or, take}
 use Rattle.std.proofs.Math.Option.{Option, map}
 use Rattle.machine.specs.Limits.{most_states}
 use Rattle.word.specs.declared.pairs.Moved.{Moved}

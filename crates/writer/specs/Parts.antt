@@ -43,7 +43,7 @@ records_of v p =
     ∷ (when (needs_of v).sequence (fresh standard.sequence p.sequence ∷ [])
     ++ when (needs_of v).answers (fresh standard.answers p.answers ∷ []))
 
--- the wanted parts alone, and nothing for the others, which play no role (§15.2): wanted-alone, in Writer.Laws
+-- the wanted parts alone, and nothing for the others, which play no role (§15.2): wanted_alone, in Writer.Laws
 abbrev pub wanted_of : Wanted → Parts → Parts
 wanted_of Word p = parts_of p.machine p.word [] []
 wanted_of Sequence p = parts_of p.machine p.word p.sequence []

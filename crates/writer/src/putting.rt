@@ -36,9 +36,10 @@ pub fn put_parts(
     answers: &[u8],
     buffer: &mut [u8],
 ) -> usize
-    requires answers_len_bound { length (sheet_of wanted (parts_of machine.now word.now sequence.now answers.now)) ≤ longest }
-    requires answers_in_bounds { length (sheet_of wanted (parts_of machine.now word.now sequence.now answers.now))
-        ≤ length buffer.old }
+    requires short { length (sheet_of wanted (parts_of machine.now word.now sequence.now
+        answers.now)) ≤ longest }
+    requires room { length (sheet_of wanted (parts_of machine.now word.now sequence.now
+        answers.now)) ≤ length buffer.old }
     ensures { Puts buffer.old 0
         (sheet_of wanted (parts_of machine.now word.now sequence.now
         answers.now))

@@ -1,5 +1,6 @@
 -- The first 20,356 bytes of a part are enough, one more than the longest part may have: a longer one that
--- is wanted is refused, whatever follows. One before it that is too long is refused first, so that where later records start plays no role.
+-- is wanted is refused, whatever follows. One before it that is too long is refused first, so that where later records
+-- start plays no role.
 use Rattle.std.specs.Prelude.{ℕ, ◌+◌, ◌<◌, ◌≡◌, refl, true, List, length, take}
 use Rattle.std.proofs.Common.{sym, ap, ◌∙◌, true≢false, inl, inr, arith, lt-ltb, take_all, length-take-le}
 use Rattle.facts.specs.Numbers.{less_or_not}

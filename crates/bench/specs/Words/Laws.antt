@@ -1,6 +1,8 @@
 -- The laws of the words: how many there are and the first five of them are enough, and of these the first 4,096 bytes.
-use Rattle.std.specs.Prelude.{ℕ, zero, suc, ◌+◌, ◌≤◌, ◌<◌, ◌≡◌, refl, Bool, true, false, ◌&&◌, ◌||◌, List, [], ◌∷◌, map, eqb, leb, length, get_or, take, drop}
-use Rattle.std.proofs.Common.{ap, ap₂, ◌∙◌, inl, inr, arith, leb-true, lt-ltb, le-ltb, ne_eqb, take_all, length-take-le}
+use Rattle.std.specs.Prelude.{ℕ, zero, suc, ◌+◌, ◌≤◌, ◌<◌, ◌≡◌, refl, Bool, true, false, ◌&&◌, ◌||◌, List, [], ◌∷◌}
+use Rattle.std.specs.Prelude.{map, eqb, leb, length, get_or, take, drop}
+use Rattle.std.proofs.Common.{ap, ap₂, ◌∙◌, inl, inr, arith, leb-true, lt-ltb, le-ltb, ne_eqb, take_all}
+use Rattle.std.proofs.Common.{length-take-le}
 use Rattle.std.proofs.lemmas.List.{length-map}
 use Rattle.std.proofs.Math.ListN.{get_or-map}
 use Rattle.facts.specs.Tests.{both_true}

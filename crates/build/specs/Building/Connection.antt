@@ -8,7 +8,8 @@ use Rattle.sheet.specs.declared.check.Check.{Check}
 use Rattle.sheet.specs.declared.check.Check.TheVariants.{Clear, Refused}
 use Rattle.sheet.specs.Check.{refusal◌with◌if◌, ◌else◌, first_cause, first}
 use Rattle.sheet.specs.Check.Laws.{both_clear, else_clear, else_refused, cause_one, cause_append, absent, present}
-use Rattle.sheet.specs.Check.Laws.{clear_absent, first_clear, first_clear_at, first_found, first_present, present_test}
+use Rattle.sheet.specs.Check.Laws.{clear_absent, first_clear, first_clear_at, first_found, first_present}
+use Rattle.sheet.specs.Check.Laws.{present_test}
 use Rattle.sheet.specs.Reader.{word_in}
 use Rattle.machine.specs.Limits.{most_word}
 use Rattle.machine.specs.Machine.{Mealy, run, Proper, Commands, Distinguishes}

@@ -2,7 +2,8 @@
 -- every T(s) is recognised by rule 2, its start by rule 1: each tested command lies between the end of one and the
 -- start of another. M is the machine, w the word; a split of the sequence says where a block stands.
 use Rattle.std.specs.Prelude.{ℕ, zero, suc, ◌+◌, ◌-◌, ◌≤◌, ◌<◌, ◌≡◌, refl, List, [], ◌∷◌, ◌++◌, length, take, drop}
-use Rattle.std.proofs.Common.{sym, ap, ◌∙◌, inl, inr, append_assoc, append-nil, arith, add-one, add-zero, add-suc, not-suc-le-zero, le_refl, length-append, below_more}
+use Rattle.std.proofs.Common.{sym, ap, ◌∙◌, inl, inr, append_assoc, append-nil, arith, add-one, add-zero, add-suc}
+use Rattle.std.proofs.Common.{not-suc-le-zero, le_refl, length-append, below_more}
 use Rattle.std.proofs.Math.Nat.{le_of_suc-le}
 use Rattle.facts.specs.Numbers.{equal_or_not}
 use Rattle.std.proofs.Math.Seq.{take-append_seam, drop-append_seam, get_or-append_seam}

@@ -1,7 +1,8 @@
 -- What the desk orders as the specification says it and as it is computed agree, for a machine and a word that starting
 -- does not refuse.
 use Rattle.std.specs.Prelude.{ℕ, suc, ◌+◌, ◌-◌, ◌≤◌, ◌<◌, ◌≡◌, refl, List, ◌∷◌, ◌++◌, length, get_or, take, drop}
-use Rattle.std.proofs.Common.{sym, ap, ◌∙◌, inl, inr, append_assoc, arith, length-append, take-append-drop, ext_get_or, get_or-take, length-take-le, drop-cons}
+use Rattle.std.proofs.Common.{sym, ap, ◌∙◌, inl, inr, append_assoc, arith, length-append, take-append-drop}
+use Rattle.std.proofs.Common.{ext_get_or, get_or-take, length-take-le, drop-cons}
 use Rattle.std.proofs.Math.Option.{some}
 use Rattle.std.proofs.Math.ListN.{get_or-append}
 use Rattle.std.proofs.Math.Seq.{take-append-add, drop-append-add}

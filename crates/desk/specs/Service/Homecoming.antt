@@ -2,7 +2,8 @@
 -- dialogue has at most L + n - 1 commands and ends with home, never with stranger, and the unit is then in the state
 -- that is assigned to the start.
 use Rattle.std.specs.Prelude.{ℕ, zero, suc, ◌+◌, ◌≤◌, ◌<◌, ◌≡◌, refl, List, [], ◌∷◌, ◌++◌, length, get_or, take, drop}
-use Rattle.std.proofs.Common.{sym, ap, ◌∙◌, inl, inr, append_assoc, append-nil, arith, length-append, take_all, length-take-le, take-suc, drop-cons}
+use Rattle.std.proofs.Common.{sym, ap, ◌∙◌, inl, inr, append_assoc, append-nil, arith, length-append, take_all}
+use Rattle.std.proofs.Common.{length-take-le, take-suc, drop-cons}
 use Rattle.std.proofs.Math.ListN.{get_or-append}
 use Rattle.std.proofs.Math.Seq.{take-length, drop-length}
 use Rattle.facts.specs.Numbers.{less_or_not}

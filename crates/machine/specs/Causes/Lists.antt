@@ -10,7 +10,8 @@ use Rattle.sheet.specs.Check.{◌else◌, first_cause, AllClear}
 use Rattle.sheet.specs.Check.Laws.{else_clear, refusal_stays, both_clear, cause_none, cause_one, cause_two}
 use Rattle.sheet.specs.Check.Laws.{cause_append, clear_all, all_clear}
 use Rattle.sheet.specs.Format.{Format, standard}
-use Rattle.sheet.specs.Reader.{sheet_causes, when, needed, Reads, machine_payload, word_in, sequence_in, machine_record}
+use Rattle.sheet.specs.Reader.{sheet_causes, when, needed, Reads, machine_payload, word_in, sequence_in}
+use Rattle.sheet.specs.Reader.{machine_record}
 use Rattle.sheet.specs.Reader.{word_record, sequence_record}
 use Rattle.sheet.specs.Reader.Laws.{needed_without_answers, needed_clear, clear_reads}
 use Rattle.machine.specs.Limits.{most_machine, most_word, most_sequence}

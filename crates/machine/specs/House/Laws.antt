@@ -1,6 +1,7 @@
 -- The laws of the house unit: a table whose sixteen entries pass one test, which antt computes, has the specified
 -- entries; so has its machine.
-use Rattle.std.specs.Prelude.{ℕ, zero, suc, ◌+◌, ◌*◌, ◌/◌, ◌%◌, ◌≤◌, ◌<◌, ◌≡◌, refl, Bool, true, ◌&&◌, eqb, length, get_or}
+use Rattle.std.specs.Prelude.{ℕ, zero, suc, ◌+◌, ◌*◌, ◌/◌, ◌%◌, ◌≤◌, ◌<◌, ◌≡◌, refl, Bool, true, ◌&&◌, eqb, length}
+use Rattle.std.specs.Prelude.{get_or}
 use Rattle.std.proofs.Common.{ap₂, ◌∙◌, inl, inr, arith, le_of_suc-le-suc, not-suc-le-zero, eq-or-lt_of_le, eqb-true}
 use Rattle.facts.specs.Tests.{both_true}
 use Rattle.machine.specs.Machine.{pair_at, machine_of}

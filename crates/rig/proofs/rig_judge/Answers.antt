@@ -16,7 +16,10 @@ pack-requires c =
 pub returns : goal.returns
 returns c =
     let s = c.args.sheet.now in
-    let bytes : Bytes s = λ i.
-    omega (arith, c.shared_slice_known-1.given i) in
+    let bytes : Bytes s = λ i. omega (arith, c.shared_slice_known-1.given i) in
     let h = c.judge-answer.ensures.judges in
-    let number = c.pack.ensures ∙ ap packed (c.values_of.ensures ∙ ap values_of h.answer.is) in record { rig_judges = record { number = number; marks = h.marks }; rig_identity = subst (λ (r : ℕ). RigIdentity s r) (sym number) (number_identity _ s bytes) }
+    let number = c.pack.ensures ∙ ap packed (c.values_of.ensures ∙ ap values_of h.answer.is) in
+    record {
+      rig_judges = record { number = number; marks = h.marks };
+      rig_identity = subst (λ (r : ℕ). RigIdentity s r) (sym number) (number_identity _ s bytes);
+    }

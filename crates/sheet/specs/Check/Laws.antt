@@ -1,6 +1,8 @@
 -- The laws of checks: how a cause, two checks in a row, a list of causes and a first cause answer.
-use Rattle.std.specs.Prelude.{ℕ, zero, suc, ◌+◌, ◌*◌, ◌≤◌, ◌<◌, ◌≡◌, refl, Bool, true, false, ◌||◌, List, [], ◌∷◌, ◌++◌, ◌⊎◌}
-use Rattle.std.proofs.Common.{sym, ap, ◌∙◌, arith, le_of_suc-le-suc, eq-or-lt_of_le, not-suc-le-zero, add-zero, add-suc, zero-mul, suc-mul, add-one, inl, inr}
+use Rattle.std.specs.Prelude.{ℕ, zero, suc, ◌+◌, ◌*◌, ◌≤◌, ◌<◌, ◌≡◌, refl, Bool, true, false, ◌||◌, List, [], ◌∷◌}
+use Rattle.std.specs.Prelude.{◌++◌, ◌⊎◌}
+use Rattle.std.proofs.Common.{sym, ap, ◌∙◌, arith, le_of_suc-le-suc, eq-or-lt_of_le, not-suc-le-zero, add-zero}
+use Rattle.std.proofs.Common.{add-suc, zero-mul, suc-mul, add-one, inl, inr}
 use Rattle.sheet.specs.declared.check.Check.{Check}
 use Rattle.sheet.specs.declared.check.Check.TheVariants.{Clear, Refused}
 use Rattle.sheet.specs.Check.{refusal◌with◌if◌, ◌else◌, first_cause, AllClear, first}

@@ -14,7 +14,8 @@ use Rattle.sheet.specs.Check.Laws.{absent, else_clear, cause_none, cause_cons, c
 use Rattle.sheet.specs.Format.{Format, standard, header, record_at, end, role_of, rank, Parsed, ◌before◌, parse}
 use Rattle.sheet.specs.Format.{parsed, of_kind, ◌or◌, find}
 use Rattle.sheet.specs.Format.Laws.{parse_end, parse_as, parsed_is}
-use Rattle.sheet.specs.Reader.{too_long, is_missing, missing, sheet_causes, refusal_of, found_in, record_or, record_of}
+use Rattle.sheet.specs.Reader.{too_long, is_missing, missing, sheet_causes, refusal_of, found_in, record_or}
+use Rattle.sheet.specs.Reader.{record_of}
 use Rattle.sheet.specs.Reader.{payload_part, part, part_bytes, content, Reads}
 use Rattle.sheet.specs.Reader.Laws.{found_clear, needed_clear, clear_reads}
 use Rattle.sheet.specs.Writing.{header_of, Puts}

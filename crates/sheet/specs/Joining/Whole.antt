@@ -1,7 +1,8 @@
 -- A sheet without causes 1 and 2 is the joining of what it holds.
 use Rattle.std.specs.Prelude.{ℕ, ◌+◌, ◌^◌, ◌≤◌, ◌<◌, ◌≡◌, List, ◌∷◌, ◌++◌, length, take}
 use Rattle.std.proofs.Math.Path.{refl}
-use Rattle.std.proofs.Common.{append_assoc, arith, add-one, length-drop, take-append-drop, drop-cons, drop-drop, length-take-le}
+use Rattle.std.proofs.Common.{append_assoc, arith, add-one, length-drop, take-append-drop, drop-cons, drop-drop}
+use Rattle.std.proofs.Common.{length-take-le}
 use Rattle.std.proofs.Math.ListN.{get_or, drop, drop_of_length-le}
 use Rattle.facts.specs.Bytes.{Bytes, of_two_bytes, of_four_bytes}
 use Rattle.sheet.specs.declared.check.Check.TheVariants.{Clear}

@@ -1,7 +1,8 @@
 -- The laws of putting bytes into a buffer, where all of them fit and where they do not, and one part after the other;
 -- and of a record's header: it reads back.
 use Rattle.std.specs.Prelude.{ℕ, ◌+◌, ◌%◌, ◌^◌, ◌≤◌, ◌<◌, ◌≡◌, refl, List, [], ◌++◌, drop}
-use Rattle.std.proofs.Common.{sym, ap₂, subst, ◌∙◌, inl, inr, arith, add-zero, zero-add, le-leb, length-append, get_or-append-add}
+use Rattle.std.proofs.Common.{sym, ap₂, subst, ◌∙◌, inl, inr, arith, add-zero, zero-add, le-leb, length-append}
+use Rattle.std.proofs.Common.{get_or-append-add}
 use Rattle.std.proofs.Math.Path.{ap}
 use Rattle.std.proofs.lemmas.Bool.{lt-leb}
 use Rattle.std.proofs.Math.ListN.{length, get_or, get_or-append}

@@ -13,7 +13,8 @@ use Rattle.sheet.specs.declared.writing.Answer.TheVariants.{Written}
 use Rattle.sheet.specs.Check.{◌else◌, first_cause}
 use Rattle.sheet.specs.Check.Laws.{absent, present, else_clear}
 use Rattle.sheet.specs.Format.{standard, header, longest, of_kind, ◌or◌, find}
-use Rattle.sheet.specs.Reader.{is_missing, when, needed, refusal_of, record_or, record_of, payload_part, part, content}
+use Rattle.sheet.specs.Reader.{is_missing, when, needed, refusal_of, record_or, record_of, payload_part, part}
+use Rattle.sheet.specs.Reader.{content}
 use Rattle.sheet.specs.Reader.{machine_payload, word_in, sequence_in, answers_in, machine_record, word_record}
 use Rattle.sheet.specs.Reader.{sequence_record, answers_record}
 use Rattle.sheet.specs.Promise.Laws.{writes_first}

@@ -10,7 +10,8 @@ use Rattle.sheet.specs.declared.writing.Answer.{Answer}
 use Rattle.sheet.specs.declared.writing.Answer.TheVariants.{Written}
 use Rattle.sheet.specs.Check.{first_cause}
 use Rattle.sheet.specs.Format.{standard, Parsed, parsed, of_kind, ◌or◌, find}
-use Rattle.sheet.specs.Reader.{is_missing, sheet_causes, needed, machine_payload, sequence_in, answers_in, machine_record}
+use Rattle.sheet.specs.Reader.{is_missing, sheet_causes, needed, machine_payload, sequence_in, answers_in}
+use Rattle.sheet.specs.Reader.{machine_record}
 use Rattle.sheet.specs.Reader.{answers_record}
 use Rattle.sheet.specs.Writing.{written}
 use Rattle.sheet.specs.Promise.Laws.{Outcome, wrote, outcome_writing, written_leaves}

@@ -1,4 +1,4 @@
-use Rattle.std.proofs.Common.{sym, ap, ◌∙◌, map}
+use Rattle.std.proofs.Common.{sym, ap, ◌∙◌, map, rules}
 use Rattle.report.specs.Output.Laws.{writes_same}
 use Rattle.report.specs.Services.{sheet_written, answers_written}
 use Rattle.bench.specs.declared.words.Service.{Service}
@@ -7,18 +7,10 @@ use Rattle.bench.proofs.Handing.{slice_at, parts_at}
 use Rattle.bench.proofs.services.perform.Goals as goal
 
 pub returns-in-Wrong : goal.returns-in-Wrong
-returns-in-Wrong c =
-    let args = c.args in
-    let x = inputs_of args.sheet.now (map (λ x. x.now) args.parts.now) in
-    writes_same c.tell.ensures
-    (ap (λ (service : Service). output service x) c.in-Wrong.is)
+returns-in-Wrong c = rw c.in-Wrong.is (search rules)
 
 pub returns-in-OnSheet : goal.returns-in-OnSheet
-returns-in-OnSheet c =
-    let args = c.args in
-    let x = inputs_of args.sheet.now (map (λ x. x.now) args.parts.now) in
-    writes_same c.perform_on_sheet.ensures
-    (ap (λ (service : Service). output service x) c.in-OnSheet.is)
+returns-in-OnSheet c = rw c.in-OnSheet.is (search rules)
 
 pub returns-in-Write : goal.returns-in-Write
 returns-in-Write c =
@@ -37,15 +29,7 @@ returns-in-AddAnswers c =
     ∙ ap (answers_written _) (sym (slice_at args.parts.now 3)))
 
 pub returns-in-House : goal.returns-in-House
-returns-in-House c =
-    let args = c.args in
-    let x = inputs_of args.sheet.now (map (λ x. x.now) args.parts.now) in
-    writes_same c.house_sheet.ensures
-    (ap (λ (service : Service). output service x) c.in-House.is)
+returns-in-House c = rw c.in-House.is (search rules)
 
 pub returns-in-Help : goal.returns-in-Help
-returns-in-Help c =
-    let args = c.args in
-    let x = inputs_of args.sheet.now (map (λ x. x.now) args.parts.now) in
-    writes_same c.help.ensures
-    (ap (λ (service : Service). output service x) c.in-Help.is)
+returns-in-Help c = rw c.in-Help.is (search rules)

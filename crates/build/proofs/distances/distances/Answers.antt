@@ -11,7 +11,7 @@ loop-d-init c =
     ]
 
 pub widen-requires : goal.widen-requires
-widen-requires c = record { d_bound = search rules; distance_len = rounded_long c.loop-d.invariant }
+widen-requires c = record { reachable = search rules; distance_len = rounded_long c.loop-d.invariant }
 
 pub loop-d-preserved : goal.loop-d-preserved
 loop-d-preserved c =

@@ -7,10 +7,10 @@ loop-s-init c = widening_none c.requires.distance_len
 
 pub loop-s-preserved : goal.loop-s-preserved
 loop-s-preserved c =
-    widening_on c.requires.d_bound (search rules) c.loop-s-test.true
+    widening_on c.requires.reachable (search rules) c.loop-s-test.true
     c.loop-s.invariant c.widened-wider.ensures
 
 pub returns : goal.returns
 returns c =
-    widening_all (search rules) c.requires.d_bound
+    widening_all (search rules) c.requires.reachable
     (λ i. omega (arith, c.shared_slice_known-1.given i)) c.loop-s.invariant c.loop-s-test.false

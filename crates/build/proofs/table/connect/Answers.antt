@@ -30,12 +30,15 @@ store-requires c =
     let b : c.transfer-p.result.length < 256 = search rules in
     let few : c.transfer-p.result.length ≤ length c.transfer-p.result.commands = omega arith in
     record {
-      s_lt_most_states = omega (arith, below_same (sym (meaning_states c.args.m)) c.loop-s-test.true, c.requires.proper.few_states);
+      s_lt_most_states = omega (
+        arith,
+        below_same (sym (meaning_states c.args.m)) c.loop-s-test.true,
+        c.requires.proper.few_states,
+      );
       size_lt_row_size = size_low (meaning c.args.m) c.args.w.now c.loop-s.s c.transfer-p.result
           c.word_end-from.result c.following.result (sym (meaning_states c.args.m))
-          (c.word_end-from.ensures c.args.m.n c.args.m.start c.args.m.answer)
-          c.following.ensures c.transfer-p.ensures c.refuse-check.ensures c.loop-s.invariant.1
-          c.requires.proper few c.in_default.is;
+          (c.word_end-from.ensures c.args.m.n c.args.m.start c.args.m.answer) c.following.ensures c.transfer-p.ensures
+          c.refuse-check.ensures c.loop-s.invariant.1 c.requires.proper few c.in_default.is;
       size_in_bounds = few;
       rows_len = c.loop-s.invariant.1.filled.long;
     }
@@ -59,4 +62,8 @@ shape_of-rows c = c.loop-s.invariant.0
 
 pub returns : goal.returns
 returns c =
-    let l = not_below_same (sym (meaning_states c.args.m)) c.loop-s-test.false in record { value = connecting_clear (meaning c.args.m) c.args.w.now _ c.loop-s.invariant.1 l; filled = λ e. connecting_filled (meaning c.args.m) c.args.w.now _ c.loop-s.invariant.1 l }
+    let l = not_below_same (sym (meaning_states c.args.m)) c.loop-s-test.false in
+    record {
+      value = connecting_clear (meaning c.args.m) c.args.w.now _ c.loop-s.invariant.1 l;
+      filled = λ e. connecting_filled (meaning c.args.m) c.args.w.now _ c.loop-s.invariant.1 l;
+    }

@@ -12,5 +12,5 @@ shape_of-rows c =
 
 pub returns : goal.returns
 returns c =
-    row_stored c.args.rows.now c.args.commands.now c.args.s c.args.size
-    c.requires.s_lt_most_states c.requires.size_lt_row_size c.requires.size_in_bounds c.requires.rows_len c.put.ensures.buffer_after
+    row_stored c.args.rows.now c.args.commands.now c.args.s c.args.size c.requires.s_lt_most_states
+    c.requires.size_lt_row_size c.requires.size_in_bounds c.requires.rows_len c.put.ensures.buffer_after

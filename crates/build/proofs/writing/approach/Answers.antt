@@ -45,5 +45,5 @@ shape_of-buffer c = c.loop-present.invariant.0
 
 pub returns : goal.returns
 returns c =
-    approaching_end (meaning c.args.m) c.args.w.now c.args.rows.now
-    c.requires.part_requires.write_requires _ _ _ _ c.loop-present.invariant.1 c.requires.s_bound c.loop-present-test.false
+    approaching_end (meaning c.args.m) c.args.w.now c.args.rows.now c.requires.part_requires.write_requires _ _ _ _
+    c.loop-present.invariant.1 c.requires.s_bound c.loop-present-test.false

@@ -5,7 +5,8 @@ use Rattle.build.proofs.writing.tests.Given as goal
 
 abbrev pub invariant-loop-s : goal.invariant-loop-s
 invariant-loop-s l =
-    (length l.buffer ≡ length l.initial.buffer) × Testing (meaning l.m) l.w l.initial.buffer l.initial.p l.buffer l.p l.s
+    (length l.buffer ≡ length l.initial.buffer) × Testing (meaning l.m) l.w l.initial.buffer l.initial.p l.buffer
+    l.p l.s
 
 abbrev pub decreases-loop-s : goal.decreases-loop-s
 decreases-loop-s l = l.m.n - l.s

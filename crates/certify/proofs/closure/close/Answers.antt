@@ -32,12 +32,8 @@ shape_of-marks-then-all_known c =
 
 pub returns-then-all_known : goal.returns-then-all_known
 returns-then-all_known c =
-    let h =
-    settling_on c.loop-changed.invariant
-    c.sweep-changed.ensures in
-    known_closed h (entries_tabled c.args.m)
-    (c.all_known.ensures c.if-all_known.true)
-    c.mark_behind.ensures
+    let h = settling_on c.loop-changed.invariant c.sweep-changed.ensures in
+    known_closed h (entries_tabled c.args.m) (c.all_known.ensures c.if-all_known.true) c.mark_behind.ensures
 
 pub loop-changed-smaller : goal.loop-changed-smaller
 loop-changed-smaller c =

@@ -22,11 +22,18 @@ pub slice_bounds-recognise-end : goal.slice_bounds-recognise-end
 slice_bounds-recognise-end c = let room = fits c in search rules
 
 pub slice_bounds-recognise-end-2 : goal.slice_bounds-recognise-end-2
-slice_bounds-recognise-end-2 c = sym (length-take-le _ c.args.marks.now (fits (goal.at.slice_bounds-recognise-end-2 c).After-payload-xs))
+slice_bounds-recognise-end-2 c =
+    sym (length-take-le _ c.args.marks.now (fits (goal.at.slice_bounds-recognise-end-2 c).After-payload-xs))
 
 pub recognise-requires : goal.recognise-requires
 recognise-requires c =
-    let h = c.requires in record { proper = certifiable_proper _ _ h; commands = rw (sequence_is (goal.at.recognise-requires c).After-payload-xs) (certifiable_commands _ _ h); marks_len = length-take-le _ _ (fits (goal.at.recognise-requires c).After-payload-xs) }
+    let d = (goal.at.recognise-requires c).After-payload-xs in
+    let h = c.requires in
+    record {
+      proper = certifiable_proper _ _ h;
+      commands = rw (sequence_is d) (certifiable_commands _ _ h);
+      marks_len = length-take-le _ _ (fits d);
+    }
 
 pub shape_of-marks : goal.shape_of-marks
 shape_of-marks c =
@@ -35,6 +42,6 @@ shape_of-marks c =
 
 pub returns : goal.returns
 returns c =
-    certifies_clear c.args.sheet.now c.args.marks.now c.requires.clear c.requires.machine
-    (word_is (goal.at.returns c).After-payload-xs) (sequence_is (goal.at.returns c).After-payload-xs) c.recognise.ensures.value c.recognise.ensures.marks_after
-    refl
+    let d = (goal.at.returns c).After-payload-xs in
+    certifies_clear c.args.sheet.now c.args.marks.now c.requires.clear c.requires.machine (word_is d)
+    (sequence_is d) c.recognise.ensures.value c.recognise.ensures.marks_after refl

@@ -13,7 +13,10 @@ overflow_mul-entries c =
     omega (arith, few_tabled c.args.m c.requires.proper)
 
 pub open_check-check-requires : goal.open_check-check-requires
-open_check-check-requires c = record { marks_nonzero = omega (arith, c.close-known.ensures.exact.long); entries_le_most_entries = few_tabled c.args.m c.requires.proper }
+open_check-check-requires c = record {
+  some_marks = omega (arith, c.close-known.ensures.exact.long);
+  entries_le_most_entries = few_tabled c.args.m c.requires.proper;
+}
 
 pub shape_of-marks : goal.shape_of-marks
 shape_of-marks c =
@@ -25,13 +28,11 @@ shape_of-marks c =
 
 pub returns : goal.returns
 returns c =
-    let words =
-    c.mark_words.ensures in
-    let closed = c.close-known.ensures in record {
-      value = outcome_is (meaning c.args.m) c.args.w.now c.args.xs.now c.requires.proper
-          c.requires.commands words closed
-          (entries_tabled c.args.m) c.open_check-check.ensures c.count-recognised.ensures
-          c.answer_of.ensures;
-      marks_after = marks_are (meaning c.args.m) c.args.w.now c.args.xs.now c.requires.proper
-          c.requires.commands words closed;
+    let words = c.mark_words.ensures in
+    let closed = c.close-known.ensures in
+    record {
+      value = outcome_is (meaning c.args.m) c.args.w.now c.args.xs.now c.requires.proper c.requires.commands words
+          closed (entries_tabled c.args.m) c.open_check-check.ensures c.count-recognised.ensures c.answer_of.ensures;
+      marks_after = marks_are (meaning c.args.m) c.args.w.now c.args.xs.now c.requires.proper c.requires.commands
+          words closed;
     }

@@ -7,7 +7,8 @@ pub returns-then-marks-t-eq0 : goal.returns-then-marks-t-eq0
 returns-then-marks-t-eq0 c = NextRepresented.unmarked c.if-marks-t-eq0.true refl c.advance.ensures
 
 pub returns-then-marks-after-ne0 : goal.returns-then-marks-after-ne0
-returns-then-marks-after-ne0 c = NextRepresented.between c.if-marks-t-eq0.false c.if-marks-after-ne0.true refl refl refl
+returns-then-marks-after-ne0 c =
+    NextRepresented.between c.if-marks-t-eq0.false c.if-marks-after-ne0.true refl refl refl
 
 pub advance-requires-2 : goal.advance-requires-2
 advance-requires-2 c =

@@ -23,4 +23,7 @@ shape_of-marks c = c.loop-p.invariant.0
 pub returns : goal.returns
 returns c =
     let head = c.loop-p in
-    record { long = head.invariant.0; cells = λ p l. head.invariant.1 p (omega (arith, head.invariant.0, c.loop-p-test.false)) }
+    record {
+      long = head.invariant.0;
+      cells = λ p l. head.invariant.1 p (omega (arith, head.invariant.0, c.loop-p-test.false));
+    }

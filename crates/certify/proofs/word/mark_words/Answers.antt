@@ -11,7 +11,10 @@ pub pass-requires : goal.pass-requires
 pass-requires c =
     let count = c.places-count.ensures in
     let taken = c.loop-j-test.true in
-    record { by_index = λ p l. omega (arith, count, taken); count_in_bounds = omega (arith, count, c.loop-j.invariant.long) }
+    record {
+      by_index = λ p l. omega (arith, count, taken);
+      count_in_bounds = omega (arith, count, c.loop-j.invariant.long);
+    }
 
 pub loop-j-preserved : goal.loop-j-preserved
 loop-j-preserved c =

@@ -21,7 +21,7 @@ find-requires c =
     record {
       size_le_most_word = c.if-size-gt-WORD.false;
       heard_len = length-take-le c.args.desk.size c.heard_with-heard.result inside;
-      position_value = c.if-at-size.true;
+      last_position = c.if-at-size.true;
     }
 
 pub returns-then-at-size : goal.returns-then-at-size

@@ -65,7 +65,8 @@ returns-in-Refused c =
 
 pub certify_loaded-certified-requires : goal.certify_loaded-certified-requires
 certify_loaded-certified-requires c =
-    certifiable (goal.at.certify_loaded-certified-requires c).After-refuse-ten c.first_of-check.ensures c.in_default.is
+    certifiable (goal.at.certify_loaded-certified-requires c).After-refuse-ten c.first_of-check.ensures
+    c.in_default.is
 
 pub compare-requires : goal.compare-requires
 compare-requires c =

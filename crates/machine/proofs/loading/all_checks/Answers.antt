@@ -16,14 +16,14 @@ returns-in-Refused c =
 pub needed_word-word-requires : goal.needed_word-word-requires
 needed_word-word-requires c =
     needed_required c.args.needs c.args.sheet.now
-    (sym c.machine_check-table.ensures ∙ c.in_default.is) c.requires.m_value
-    standard.word (ap (λ (r : Reading). r.records.word) c.requires.reading_value)
+    (sym c.machine_check-table.ensures ∙ c.in_default.is) c.requires.as_held
+    standard.word (ap (λ (r : Reading). r.records.word) c.requires.as_read)
 
 pub needed_sequence-sequence-requires : goal.needed_sequence-sequence-requires
 needed_sequence-sequence-requires c =
     needed_required c.args.needs c.args.sheet.now
     (sym c.machine_check-table.ensures ∙ c.in_default.is)
-    c.requires.m_value standard.sequence (ap (λ (r : Reading). r.records.sequence) c.requires.reading_value)
+    c.requires.as_held standard.sequence (ap (λ (r : Reading). r.records.sequence) c.requires.as_read)
 
 pub returns : goal.returns
 returns c =

@@ -19,9 +19,10 @@ machine_is c =
     c.load-machine.ensures
 
 pub all_checks-check-requires : goal.all_checks-check-requires
-all_checks-check-requires c = record { reading_value = c.read_sheet-reading.ensures; m_value = machine_is c }
+all_checks-check-requires c = record { as_read = c.read_sheet-reading.ensures; as_held = machine_is c }
 
 pub returns : goal.returns
 returns c =
-    loaded_by c.args.needs c.args.sheet.now _ c.all_checks-check.ensures (machine_is (goal.at.returns c).After-load-machine)
+    loaded_by c.args.needs c.args.sheet.now _ c.all_checks-check.ensures
+    (machine_is (goal.at.returns c).After-load-machine)
     (ap (λ (r : Reading). r.records) c.read_sheet-reading.ensures)

@@ -17,20 +17,13 @@ returns-then-byte c =
 
 pub loop-p-preserved : goal.loop-p-preserved
 loop-p-preserved c =
-    let start =
-    c in
-    alike_next _ _ _ _ c.loop-p.invariant
-    c.loop-p-test.true
-    (tabled_answer _ _ _ start.args.next.now start.args.answer.now _ _
-    c.byte.ensures
-    c.entry_at-a.ensures)
-    (tabled_answer _ _ _ start.args.next.now start.args.answer.now _ _
-    c.byte-in-loop-p.ensures c.entry_at-b.ensures)
+    let start = c in
+    alike_next _ _ _ _ c.loop-p.invariant c.loop-p-test.true
+    (tabled_answer _ _ _ start.args.next.now start.args.answer.now _ _ c.byte.ensures c.entry_at-a.ensures)
+    (tabled_answer _ _ _ start.args.next.now start.args.answer.now _ _ c.byte-in-loop-p.ensures c.entry_at-b.ensures)
     c.if-byte.false
-    (tabled_next _ _ _ start.args.next.now start.args.answer.now _ _ c.byte-s.ensures
-    c.entry_at-a.ensures)
-    (tabled_next _ _ _ start.args.next.now start.args.answer.now _ _ c.byte-t.ensures
-    c.entry_at-b.ensures)
+    (tabled_next _ _ _ start.args.next.now start.args.answer.now _ _ c.byte-s.ensures c.entry_at-a.ensures)
+    (tabled_next _ _ _ start.args.next.now start.args.answer.now _ _ c.byte-t.ensures c.entry_at-b.ensures)
 
 pub returns : goal.returns
 returns c = alike_end _ _ _ _ c.loop-p.invariant c.loop-p-test.false

@@ -7,14 +7,12 @@ use Rattle.report.proofs.dialogue.begin.Goals as goal
 
 pub returns : goal.returns
 unfolding begun
-returns c =
-    record {
-      started = c.start-started.result;
-      starts = c.start-started.ensures;
-      desk = refl;
-      left = refl;
-      over = c.is_refused.ensures ∙ ap is_refused c.start-started.ensures.first.is;
-      written =
-          writes_output _ refl
-          (prints_same (ap first_line (sym c.start-started.ensures.first.is)) c.first_line-size.ensures);
-    }
+returns c = record {
+  started = c.start-started.result;
+  starts = c.start-started.ensures;
+  desk = refl;
+  left = refl;
+  over = c.is_refused.ensures ∙ ap is_refused c.start-started.ensures.first.is;
+  written = writes_output _ refl
+      (prints_same (ap first_line (sym c.start-started.ensures.first.is)) c.first_line-size.ensures);
+}

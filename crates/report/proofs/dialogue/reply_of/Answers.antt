@@ -15,8 +15,8 @@ returns-then-line-gt3 c = reply_more c.args.line.now c.if-line-gt-LINE.false
 pub overflow_cast-result : goal.overflow_cast-result
 overflow_cast-result c =
     let line = c.args.line.now in
-    let small : c.number_in-number.result.value < 256 =
-    number_small line c.number_in-number.result c.number_in-number.ensures c.if-number.true in
+    let small : c.number_in-number.result.value < 256 = number_small line c.number_in-number.result
+    c.number_in-number.ensures c.if-number.true in
     search rules
 
 pub returns-then-number : goal.returns-then-number

@@ -6,4 +6,7 @@ pub returns : goal.returns
 returns c =
     let text = c.put-next in
     let number = c.put_decimal in
-    record { puts = puts_append _ _ text.ensures number.ensures.puts; upper_bound = omega (arith, number.ensures.upper_bound, text.ensures.ends) }
+    record {
+      puts = puts_append _ _ text.ensures number.ensures.puts;
+      upper_bound = omega (arith, number.ensures.upper_bound, text.ensures.ends);
+    }

@@ -22,6 +22,6 @@ pub shape_of-out : goal.shape_of-out
 shape_of-out c = c.loop-i.invariant.long
 
 pub returns : goal.returns
-returns c = let whole = listing_end c.args.numbers.now c.args.at c.args.out.now c.loop-i.invariant
-    c.loop-i-test.false in
+returns c =
+    let whole = listing_end c.args.numbers.now c.args.at c.args.out.now c.loop-i.invariant c.loop-i-test.false in
     record { puts = whole.0; upper_bound = whole.1 }

@@ -23,13 +23,10 @@ put-requires c =
 
 pub returns : goal.returns
 returns c =
-    let p =
-    c.phrase_of-p in record {
-      puts = puts_same (some_phrase p.result.bytes _ p.ensures.prefix_len
-          c.if-size-eq0.false
-          p.ensures.bytes_value)
-          (puts_append _ _ c.put-next.ensures
-          c.put.ensures);
+    let p = c.phrase_of-p in
+    record {
+      puts = puts_same (some_phrase p.result.bytes _ p.ensures.prefix_len c.if-size-eq0.false p.ensures.bytes_value)
+          (puts_append _ _ c.put-next.ensures c.put.ensures);
       upper_bound = omega (
         arith,
         p.ensures.size_le_longest_phrase,

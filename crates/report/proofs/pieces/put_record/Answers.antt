@@ -5,4 +5,5 @@ use Rattle.report.proofs.pieces.put_record.Goals as goal
 pub returns : goal.returns
 returns c =
     record_puts c.args.out.now c.args.at c.args.kind c.args.payload.now
-    (omega (arith, c.requires.payload_len_bound)) (omega (arith, c.requires.payload_in_bounds)) (c.put_record.ensures.buffer_after, c.put_record.ensures.value)
+    (omega (arith, c.requires.short)) (omega (arith, c.requires.room))
+    (c.put_record.ensures.buffer_after, c.put_record.ensures.value)

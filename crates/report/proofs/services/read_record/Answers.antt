@@ -9,25 +9,18 @@ use Rattle.report.proofs.services.read_record.Goals as goal
 
 pub put-size-requires : goal.put-size-requires
 put-size-requires c =
-    let clear =
-    sym c.refusal-check.ensures.is ∙ c.in-Clear.is in
+    let clear = sym c.refusal-check.ensures.is ∙ c.in-Clear.is in
     let short = read_short (c.args.kind ∷ []) c.args.sheet.now clear in
     let handed = handed_content standard _ c.args.sheet c.read.result c.read.ensures in
     omega (arith, short, ap length handed)
 
 pub returns-in-Clear : goal.returns-in-Clear
 returns-in-Clear c =
-    let clear =
-    sym c.refusal-check.ensures.is
-    ∙ c.in-Clear.is in
-    let handed =
-    handed_content standard _ c.args.sheet c.read.result
-    c.read.ensures in
+    let clear = sym c.refusal-check.ensures.is ∙ c.in-Clear.is in
+    let handed = handed_content standard _ c.args.sheet c.read.result c.read.ensures in
     writes_output _ (unless_clear _ clear) (puts_same handed c.put-size.ensures)
 
 pub returns-in-Refused : goal.returns-in-Refused
 returns-in-Refused c =
-    let refusal =
-    sym c.refusal-check.ensures.is
-    ∙ c.in-Refused.is in
+    let refusal = sym c.refusal-check.ensures.is ∙ c.in-Refused.is in
     writes_same c.refused.ensures (unless_refused _ refusal)

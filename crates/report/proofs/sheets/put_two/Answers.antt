@@ -6,7 +6,10 @@ use Rattle.report.proofs.sheets.put_two.Goals as goal
 use Rattle.report.proofs.sheets.put_two.Goals.{After-put_role-arg-1}
 
 pub put_record-next-requires : goal.put_record-next-requires
-put_record-next-requires c = record { payload_len_bound = omega (arith, c.requires.word_bound); payload_in_bounds = omega (arith, c.requires.word_bound, c.requires.longest_in_bounds) }
+put_record-next-requires c = record {
+  short = omega (arith, c.requires.short);
+  room = omega (arith, c.requires.short, c.requires.room);
+}
 
 abbrev machine : After-put_role-arg-1 → ℕ × List ℕ
 machine d = (d.args.kind, d.args.machine.now)
@@ -16,22 +19,24 @@ word d = fresh standard.word d.args.word.now
 
 pub put_role-requires : goal.put_role-requires
 put_role-requires c = record {
-  payload_len_bound = omega (arith, c.requires.word_bound);
-  payload_in_bounds = omega (
+  short = omega (arith, c.requires.short);
+  room = omega (
     arith,
     record_ends (machine c) c.put_record-next.ensures,
-    c.requires.word_bound,
-    c.requires.longest_in_bounds,
+    c.requires.short,
+    c.requires.room,
     c.put_record-next.auto.out,
   );
 }
 
 pub returns : goal.returns
-returns c = record {
-  puts = puts_more (machine (goal.at.returns c).After-put_role-arg-1) (word (goal.at.returns c).After-put_role-arg-1 ∷ []) c.put_record-next.ensures (puts_last (word (goal.at.returns c).After-put_role-arg-1) c.put_role.ensures);
-  value = omega (
-    arith,
-    record_ends (machine (goal.at.returns c).After-put_role-arg-1) c.put_record-next.ensures,
-    record_ends (word (goal.at.returns c).After-put_role-arg-1) c.put_role.ensures,
-  );
-}
+returns c =
+    let d = (goal.at.returns c).After-put_role-arg-1 in
+    record {
+      puts = puts_more (machine d) (word d ∷ []) c.put_record-next.ensures (puts_last (word d) c.put_role.ensures);
+      value = omega (
+        arith,
+        record_ends (machine d) c.put_record-next.ensures,
+        record_ends (word d) c.put_role.ensures,
+      );
+    }

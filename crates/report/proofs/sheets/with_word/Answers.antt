@@ -12,7 +12,15 @@ use Rattle.report.proofs.sheets.with_word.Goals as goal
 use Rattle.report.proofs.sheets.with_word.Goals.{After-put-arg-3-1}
 
 pub put_two-size-requires : goal.put_two-size-requires
-put_two-size-requires c = record { word_bound = omega (arith, ap length (payload_content standard _ c.args.sheet c.payload.result c.requires.found c.payload.ensures), c.requires.machine, c.requires.few); longest_in_bounds = search rules }
+put_two-size-requires c = record {
+  short = omega (
+    arith,
+    ap length (payload_content standard _ c.args.sheet c.payload.result c.requires.found c.payload.ensures),
+    c.requires.machine,
+    c.requires.few,
+  );
+  room = search rules;
+}
 
 -- the records leave room for the line
 sized : (u : After-put-arg-3-1) → u.put_two-size.result ≤ header + most_machine standard + (header + most_sought)
@@ -58,5 +66,6 @@ returns c =
     (puts_same
     (ap₂ (λ (kind : ℕ) (p : List ℕ). joined ((kind, p) ∷ fresh standard.word w ∷ []))
     (ap (λ (r : Record). r.kind) (c.record_or-r.ensures ∙ record_is standard _ _ c.requires.found))
-    (payload_content standard _ c.args.sheet c.payload.result c.requires.found c.payload.ensures)) c.put_two-size.ensures.puts)
+    (payload_content standard _ c.args.sheet c.payload.result c.requires.found c.payload.ensures))
+    c.put_two-size.ensures.puts)
     (word_line_lem w c.put-a.ensures c.put_list-b.ensures.puts c.put-end.ensures)

@@ -36,7 +36,10 @@ word_is d =
     word_read d.args.sheet d.payload.result (records-are d) d.payload.ensures
 
 pub put_two-next-requires : goal.put_two-next-requires
-put_two-next-requires c = record { word_bound = omega (arith, ap length (payload-is c), ap length (word_is c), (holds c).machine, (holds c).word); longest_in_bounds = c.requires }
+put_two-next-requires c = record {
+  short = omega (arith, ap length (payload-is c), ap length (word_is c), (holds c).machine, (holds c).word);
+  room = c.requires;
+}
 
 pub slice_bounds-sequence-end : goal.slice_bounds-sequence-end
 slice_bounds-sequence-end c = (holds (goal.at.slice_bounds-sequence-end c).After-put_two-arg-1).inside
@@ -45,37 +48,42 @@ pub slice_bounds-put_role-end : goal.slice_bounds-put_role-end
 slice_bounds-put_role-end c = (holds (goal.at.slice_bounds-put_role-end c).After-put_two-arg-1).sized
 
 pub put_role-size-requires : goal.put_role-size-requires
-put_role-size-requires c = record {
-  payload_len_bound = omega (arith, (holds (goal.at.put_role-size-requires c).After-put_two-arg-1).few, (holds (goal.at.put_role-size-requires c).After-put_two-arg-1).sized);
-  payload_in_bounds = omega (
-    arith,
-    c.put_two-next.ensures.value,
-    ap length (payload-is (goal.at.put_role-size-requires c).After-put_two-arg-1),
-    ap length (word_is (goal.at.put_role-size-requires c).After-put_two-arg-1),
-    (holds (goal.at.put_role-size-requires c).After-put_two-arg-1).machine,
-    (holds (goal.at.put_role-size-requires c).After-put_two-arg-1).word,
-    (holds (goal.at.put_role-size-requires c).After-put_two-arg-1).few,
-    (holds (goal.at.put_role-size-requires c).After-put_two-arg-1).sized,
-    c.requires,
-    c.put_two-next.auto.out,
-  );
-}
+put_role-size-requires c =
+    let d = (goal.at.put_role-size-requires c).After-put_two-arg-1 in
+    record {
+      short = omega (arith, (holds d).few, (holds d).sized);
+      room = omega (
+        arith,
+        c.put_two-next.ensures.value,
+        ap length (payload-is d),
+        ap length (word_is d),
+        (holds d).machine,
+        (holds d).word,
+        (holds d).few,
+        (holds d).sized,
+        c.requires,
+        c.put_two-next.auto.out,
+      );
+    }
 
 pub returns-in-Written : goal.returns-in-Written
 unfolding built_sheet
 returns-in-Written c =
+    let d = (goal.at.returns-in-Written c).After-put_two-arg-1 in
     let machine : ℕ × List ℕ = record_in standard c.args.sheet.now standard.machine in
     let word = fresh standard.word (word_in c.args.sheet.now) in
     let built = puts_last (fresh standard.sequence _) c.put_role-size.ensures in
-    puts_writes _ (holds (goal.at.returns-in-Written c).After-put_two-arg-1).clear
+    puts_writes _ (holds d).clear
     (puts_same
     (ap₂ (λ (rs qs : List (ℕ × List ℕ)). joined rs ++ joined qs)
-    (ap₂ (λ (r q : ℕ × List ℕ). r ∷ q ∷ []) (ap₂ (λ (kind : ℕ) (p : List ℕ). (kind, p))
-    (ap (λ (r : Record). r.kind) (c.record_or-r.ensures
-    ∙ record_is standard _ _ (ap (λ (r : Records). r.machine) (records-are (goal.at.returns-in-Written c).After-put_two-arg-1)))) (payload-is (goal.at.returns-in-Written c).After-put_two-arg-1))
-    (ap (fresh standard.word) (word_is (goal.at.returns-in-Written c).After-put_two-arg-1)))
-    (ap (λ (xs : List ℕ). fresh standard.sequence xs ∷ []) (holds (goal.at.returns-in-Written c).After-put_two-arg-1).built)
-    ∙ sym (joined_append (machine ∷ word ∷ []) (fresh standard.sequence _ ∷ [])))
+    (ap₂ (λ (r q : ℕ × List ℕ). r ∷ q ∷ [])
+    (ap₂ (λ (kind : ℕ) (p : List ℕ). (kind, p))
+    (ap (λ (r : Record). r.kind)
+    (c.record_or-r.ensures ∙ record_is standard _ _ (ap (λ (r : Records). r.machine) (records-are d))))
+    (payload-is d))
+    (ap (fresh standard.word) (word_is d)))
+    (ap (λ (xs : List ℕ). fresh standard.sequence xs ∷ []) (holds d).built) ∙ sym
+    (joined_append (machine ∷ word ∷ []) (fresh standard.sequence _ ∷ [])))
     (puts_append _ _ c.put_two-next.ensures.puts built))
 
 pub returns-in-Refused : goal.returns-in-Refused

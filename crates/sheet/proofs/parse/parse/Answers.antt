@@ -8,7 +8,8 @@ pub loop-at-init : goal.loop-at-init
 loop-at-init c = head_start _ c.no_records-records.ensures
 
 pub returns-in-Refused : goal.returns-in-Refused
-returns-in-Refused c = let whole = head_stop c.loop-at.invariant c.requires (search rules) c.record_at-r.ensures
+returns-in-Refused c =
+    let whole = head_stop c.loop-at.invariant c.requires (search rules) c.record_at-r.ensures
     c.check_record-check.ensures c.in-Refused.is c.no_records.ensures in
     record { check = whole.0; records = whole.1 }
 
@@ -47,5 +48,6 @@ pub loop-at-preserved : goal.loop-at-preserved
 loop-at-preserved c = turn_next c.loop-at.invariant (turn c)
 
 pub returns : goal.returns
-returns c = let whole = head_end c.loop-at.invariant c.requires (search rules) in
+returns c =
+    let whole = head_end c.loop-at.invariant c.requires (search rules) in
     record { check = whole.0; records = whole.1 }

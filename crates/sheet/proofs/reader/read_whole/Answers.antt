@@ -9,7 +9,10 @@ returns-in-Refused c =
     let s = c.args.sheet.now in
     let long = sym c.too_long-long.ensures ∙ c.in-Refused.is in
     let whole = refusal_stays (parsed standard s).stop long in
-    record { check = c.in-Refused.is ∙ sym whole; records = c.no_records.ensures ∙ sym (records_refused standard s whole) }
+    record {
+      check = c.in-Refused.is ∙ sym whole;
+      records = c.no_records.ensures ∙ sym (records_refused standard s whole);
+    }
 
 pub parse-requires : goal.parse-requires
 parse-requires c =

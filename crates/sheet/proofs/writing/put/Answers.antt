@@ -2,15 +2,15 @@ use Rattle.std.proofs.Common.{◌+◌, ◌<◌, refl, sym, ◌∙◌, arith, len
 use Rattle.sheet.specs.Writing.Laws.{put_fits, end_fits, put_not, end_not}
 use Rattle.sheet.proofs.Copying.{copying_start, copying_on, copying_done}
 use Rattle.sheet.proofs.writing.put.Goals as goal
-use Rattle.sheet.proofs.writing.put.Goals.{then-buffer-at-via-then-buffer-at, then-buffer-at-via-else-buffer-at+then-buffer-at-2}
+use Rattle.sheet.proofs.writing.put.Goals.{then-buffer-at-via-then-buffer-at}
+use Rattle.sheet.proofs.writing.put.Goals.{then-buffer-at-via-else-buffer-at+then-buffer-at-2}
 
 pub returns-then-buffer-at : goal.returns-then-buffer-at
 returns-then-buffer-at c =
     let bytes = c.args.bytes.now in
     let at = c.args.at in
     let buffer = c.args.buffer.now in
-    let over : length buffer < at + length bytes =
-    elim c.then-buffer-at.branch [
+    let over : length buffer < at + length bytes = elim c.then-buffer-at.branch [
       | then-buffer-at-via-then-buffer-at w ↦ omega arith
       | then-buffer-at-via-else-buffer-at+then-buffer-at-2 w ↦ omega arith
     ] in

@@ -2,7 +2,9 @@ use Rattle.std.proofs.Common.{arith}
 use Rattle.sheet.specs.Writing.Laws.{record_size}
 use Rattle.sheet.proofs.Copying.{record_put_lem, record_not_put}
 use Rattle.sheet.proofs.writing.put_record.Goals as goal
-use Rattle.sheet.proofs.writing.put_record.Goals.{then-size-gt-MOST_PAYLOAD-via-then-size-gt-MOST_PAYLOAD, then-size-gt-MOST_PAYLOAD-via-else-size-gt-MOST_PAYLOAD+then-buffer-at, then-size-gt-MOST_PAYLOAD-via-else-size-gt-MOST_PAYLOAD+else-buffer-at+then-buffer-at-2}
+use Rattle.sheet.proofs.writing.put_record.Goals.{then-size-gt-MOST_PAYLOAD-via-then-size-gt-MOST_PAYLOAD}
+use Rattle.sheet.proofs.writing.put_record.Goals.{then-size-gt-MOST_PAYLOAD-via-else-size-gt-MOST_PAYLOAD+then-buffer-at}
+use Rattle.sheet.proofs.writing.put_record.Goals.{then-size-gt-MOST_PAYLOAD-via-else-size-gt-MOST_PAYLOAD+else-buffer-at+then-buffer-at-2}
 
 pub returns-then-size-gt-MOST_PAYLOAD : goal.returns-then-size-gt-MOST_PAYLOAD
 returns-then-size-gt-MOST_PAYLOAD c =

@@ -14,23 +14,23 @@ parts_at start =
 
 pub returns-in-Refused : goal.returns-in-Refused
 returns-in-Refused c =
-    table_stops c.args.wanted (parts_at (goal.at.returns-in-Refused c).After-shared_slice_known-4-1) c.table_check-check.ensures
-    c.in-Refused.is
+    table_stops c.args.wanted (parts_at (goal.at.returns-in-Refused c).After-shared_slice_known-4-1)
+    c.table_check-check.ensures c.in-Refused.is
 
 pub overflow_cast-next : goal.overflow_cast-next
 overflow_cast-next c =
     omega (
       arith,
-      machine_few c.args.wanted (parts_at (goal.at.overflow_cast-next c).After-shared_slice_known-4-1) c.table_check-check.ensures
-          c.in_default.is,
+      machine_few c.args.wanted (parts_at (goal.at.overflow_cast-next c).After-shared_slice_known-4-1)
+          c.table_check-check.ensures c.in_default.is,
     )
 
 pub word_and_later-requires : goal.word_and_later-requires
 word_and_later-requires c =
     omega (
       arith,
-      machine_few c.args.wanted (parts_at (goal.at.word_and_later-requires c).After-shared_slice_known-4-1) c.table_check-check.ensures
-          c.in_default.is,
+      machine_few c.args.wanted (parts_at (goal.at.word_and_later-requires c).After-shared_slice_known-4-1)
+          c.table_check-check.ensures c.in_default.is,
     )
 
 pub returns : goal.returns

@@ -11,16 +11,24 @@ parts_at start =
 
 pub returns-in-Word : goal.returns-in-Word
 returns-in-Word c =
-    puts_sheet (parts_at (goal.at.returns-in-Word c).After-put_role-arg-1) c.in-Word.is (c.requires.answers_len_bound, c.requires.answers_in_bounds)
-    (more (c.put_role-a.ensures.buffer_after, c.put_role-a.ensures.value) (more (c.put_role-b.ensures.buffer_after, c.put_role-b.ensures.value) done))
+    puts_sheet (parts_at (goal.at.returns-in-Word c).After-put_role-arg-1) c.in-Word.is
+    (c.requires.short, c.requires.room)
+    (more (c.put_role-a.ensures.buffer_after, c.put_role-a.ensures.value)
+    (more (c.put_role-b.ensures.buffer_after, c.put_role-b.ensures.value) done))
 
 pub returns-in-Sequence : goal.returns-in-Sequence
 returns-in-Sequence c =
-    puts_sheet (parts_at (goal.at.returns-in-Sequence c).After-put_role-arg-1) c.in-Sequence.is (c.requires.answers_len_bound, c.requires.answers_in_bounds)
-    (more (c.put_role-a.ensures.buffer_after, c.put_role-a.ensures.value) (more (c.put_role-b.ensures.buffer_after, c.put_role-b.ensures.value) (more (c.put_role.ensures.buffer_after, c.put_role.ensures.value) done)))
+    puts_sheet (parts_at (goal.at.returns-in-Sequence c).After-put_role-arg-1) c.in-Sequence.is
+    (c.requires.short, c.requires.room)
+    (more (c.put_role-a.ensures.buffer_after, c.put_role-a.ensures.value)
+    (more (c.put_role-b.ensures.buffer_after, c.put_role-b.ensures.value)
+    (more (c.put_role.ensures.buffer_after, c.put_role.ensures.value) done)))
 
 pub returns-in-Answers : goal.returns-in-Answers
 returns-in-Answers c =
-    puts_sheet (parts_at (goal.at.returns-in-Answers c).After-put_role-arg-1) c.in-Answers.is (c.requires.answers_len_bound, c.requires.answers_in_bounds)
-    (more (c.put_role-a.ensures.buffer_after, c.put_role-a.ensures.value) (more (c.put_role-b.ensures.buffer_after, c.put_role-b.ensures.value)
-    (more (c.put_role-c.ensures.buffer_after, c.put_role-c.ensures.value) (more (c.put_role-in-Answers.ensures.buffer_after, c.put_role-in-Answers.ensures.value) done))))
+    puts_sheet (parts_at (goal.at.returns-in-Answers c).After-put_role-arg-1) c.in-Answers.is
+    (c.requires.short, c.requires.room)
+    (more (c.put_role-a.ensures.buffer_after, c.put_role-a.ensures.value)
+    (more (c.put_role-b.ensures.buffer_after, c.put_role-b.ensures.value)
+    (more (c.put_role-c.ensures.buffer_after, c.put_role-c.ensures.value)
+    (more (c.put_role-in-Answers.ensures.buffer_after, c.put_role-in-Answers.ensures.value) done))))
