@@ -7,6 +7,7 @@ use Rattle.report.specs.Output.{Output}
 use Rattle.report.specs.Services.{judged, certified, searched, built, record_read, house_written, helped, mistaken}
 use Rattle.report.specs.Services.{sheet_written, answers_written}
 use Rattle.report.specs.Dialogue.{begun}
+use Rattle.bench.specs.declared.services.Inputs.{Inputs as GivenInputs}
 use Rattle.bench.specs.declared.words.Service.{Service}
 use Rattle.bench.specs.declared.words.Service.TheVariants.{Wrong, OnSheet, Write, AddAnswers, House, Help}
 use Rattle.bench.specs.declared.words.SheetService.{SheetService}
@@ -24,10 +25,15 @@ pub record Inputs : Type 0 where
   pub sheet : List ℕ
   pub parts : Parts
 
--- the same as the program has them: the sheet, and the parts in the order of their kinds
+-- the same by the sheet, and the parts in the order of their kinds
 abbrev pub inputs_of : List ℕ → List (List ℕ) → Inputs
 inputs_of s ps =
     record { sheet = s; parts = parts_of (get_or ps 0 []) (get_or ps 1 []) (get_or ps 2 []) (get_or ps 3 []) }
+
+-- the same as the program has them
+abbrev pub inputs_in : GivenInputs → Inputs
+inputs_in x =
+    record { sheet = x.sheet.now; parts = parts_of x.machine.now x.word.now x.sequence.now x.answers.now }
 
 -- what a service on a sheet writes
 abbrev pub sheet_output : SheetService → List ℕ → Output

@@ -1,5 +1,5 @@
 -- From the arguments of the bench, here called words, to the service that they ask for (§8.2). The laws: Words.Laws.
-use Rattle.std.specs.Prelude.{ℕ, zero, suc, cond, List, [], ◌∷◌, eqb, ltb, length, get_or, drop}
+use Rattle.std.specs.Prelude.{ℕ, zero, suc, cond, List, [], ◌∷◌, eqb, ltb, map, length, get_or, drop}
 use Prim.Native.String.{String}
 use Rattle.std.proofs.Math.Option.{Option, none, some}
 use Rattle.facts.specs.Lists.{same}
@@ -8,6 +8,8 @@ use Rattle.report.specs.declared.words.Mistake.TheVariants.{Unknown, Empty, Long
 use Rattle.writer.specs.declared.wanted.Wanted.{Wanted}
 use Rattle.writer.specs.declared.wanted.Wanted.TheVariants.{Word as WordWanted, Sequence as SequenceWanted}
 use Rattle.writer.specs.declared.wanted.Wanted.TheVariants.{Answers as AnswersWanted}
+use Rattle.bench.specs.declared.words.Words.{Words}
+use Rattle.bench.specs.declared.words.Row.{Row as GivenRow}
 use Rattle.bench.specs.declared.words.Service.{Service}
 use Rattle.bench.specs.declared.words.Service.TheVariants.{Wrong, OnSheet, Write, AddAnswers, House, Help}
 use Rattle.bench.specs.declared.words.SheetService.TheVariants.{Judge, Certify, Word, Build, Read, Desk}
@@ -121,3 +123,12 @@ service_of (w ∷ ws) = unless_unfit w (named services w ws)
 unfoldable pub words_of : ℕ → List (List ℕ) → List (List ℕ)
 words_of zero ws = []
 words_of (suc n) ws = get_or ws 0 [] ∷ words_of n (drop 1 ws)
+
+-- the words that the program has
+abbrev pub words_in : Words → List (List ℕ)
+words_in words = words_of words.count (map (λ x. x.now) words.first)
+
+-- the service of the first of these rows whose name is w, with so many arguments behind it
+unfoldable pub named_among : List GivenRow → List ℕ → ℕ → Service
+named_among [] w n = Wrong Unknown
+named_among (r ∷ rows) w n = found_or w r.name.now (counted n r.least r.most r.service) (named_among rows w n)

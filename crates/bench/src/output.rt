@@ -1,20 +1,19 @@
 // What is written, to both streams.
-ghost use Rattle.std.specs.Prelude.{◌≤◌, length, take};
+ghost use Rattle.std.specs.Prelude.{◌≤◌, is_ok, length, take};
 ghost use Rattle.streams.specs.Output.{WrittenAll};
 
-use streams::{write_error, write_output};
+use report::{OUTPUT, Written};
+use streams::{Told, write_error, write_output};
 
-// Writes the first bytes to standard output, and those behind them to standard error. Once standard
-// output has failed, which is told, nothing more is written; says whether it took all. Where
-// standard error fails nothing is left to tell it on, and a program has no exit status to set: its
-// answer is not used.
-pub fn write_both(rt: &HostRuntime, bytes: &[u8], out: usize) -> bool
-    requires { out ≤ length bytes.now }
-    ensures { WrittenAll (take out bytes.now) result }
+// Writes to standard output what is for it, and to standard error what stands behind that. Once
+// standard output has failed nothing more is written. Where standard error fails nothing is left to
+// tell it on, and a program has no exit status to set: its answer is not used.
+pub fn write_both(rt: &HostRuntime, bytes: &[u8; OUTPUT], written: Written) -> Result<(), Told>
+    requires out { written.out ≤ written.end }
+    requires end { written.end ≤ length bytes.now }
+    ensures { WrittenAll (take written.out bytes.now) (is_ok result) }
 {
-    let wrote = write_output(rt, &bytes[..out]);
-    if wrote {
-        write_error(rt, &bytes[out..]);
-    }
-    wrote
+    write_output(rt, &bytes[..written.out])?;
+    let _ = write_error(rt, &bytes[written.out..written.end]);
+    Ok(())
 }

@@ -1,10 +1,9 @@
 // From the words that the bench is started with to the service that they ask for.
-ghost use Rattle.std.specs.Prelude.{◌≡◌, ◌-◌, [], ◌∷◌, map, get_or, take, drop};
-ghost use Rattle.bench.specs.Words.{kind_in, kind_of, on_files, wanted_by, write_of, unless_unfit, found_or};
-ghost use Rattle.bench.specs.Words.{sheet_services, services, words_of, service_of};
+ghost use Rattle.std.specs.Prelude.{◌≡◌, ◌-◌, ◌<◌, [], map, get_or, drop};
+ghost use Rattle.bench.specs.Words.{kind_in, kind_of, on_files, wanted_by, unless_unfit};
+ghost use Rattle.bench.specs.Words.{services, words_of, words_in, service_of, named_among};
 ghost use Rattle.bench.specs.Words.{named as named_in, counted as counted_of};
 
-use check::same;
 use report::{Mistake, number_in};
 use writer::Wanted;
 
@@ -20,6 +19,14 @@ pub const WORDS: usize = 5;
 
 // The largest number of a kind.
 const KIND: u16 = 65_535;
+
+// The words that the bench is started with: how many there are, which may be more than the array has,
+// and the first of them.
+#[derive(Clone, Copy)]
+pub struct Words<'a> {
+    pub count: usize,
+    pub first: [&'a [u8]; WORDS],
+}
 
 // The services on a sheet.
 #[derive(Clone, Copy)]
@@ -44,7 +51,8 @@ pub enum Source {
     Answers,
 }
 
-// What the words ask for: to be told what is wrong with them, or a service.
+// What the words ask for: to be told what is wrong with them, or a service. No `Result`: what is wrong
+// is told as any service's answer is (`output`).
 #[derive(Clone, Copy)]
 pub enum Service {
     Wrong { mistake: Mistake },
@@ -55,12 +63,14 @@ pub enum Service {
     Help,
 }
 
+// The words are wrong, and this is why.
 fn wrong(mistake: Mistake) -> Service
     ensures { result ≡ Service.Wrong mistake }
 {
     Service::Wrong { mistake }
 }
 
+// A service on a sheet.
 fn on_sheet(service: SheetService) -> Service
     ensures { result ≡ Service.OnSheet service }
 {
@@ -68,6 +78,7 @@ fn on_sheet(service: SheetService) -> Service
 }
 
 // What a word stands for, unless it is empty or too long.
+#[tactic(auto, unfolding(crate::specs::Words::unless_unfit))]
 fn unless_unfit(word: &[u8], service: Service) -> Service
     ensures { result ≡ unless_unfit word.now service }
 {
@@ -84,42 +95,51 @@ fn unless_unfit(word: &[u8], service: Service) -> Service
 fn kind_in(word: &[u8]) -> Service
     ensures { result ≡ kind_in word.now }
 {
-    let number = number_in(word, KIND);
-    if number.found {
-        return on_sheet(SheetService::Read { kind: number.value });
+    match number_in(word, KIND) {
+        Some(kind) => on_sheet(SheetService::Read { kind }),
+        None => wrong(Mistake::Kind),
     }
-    wrong(Mistake::Kind)
 }
 
 // A word that is to be a kind.
+#[tactic(auto, unfolding(crate::specs::Words::kind_of))]
 fn kind_of(word: &[u8]) -> Service
     ensures { result ≡ kind_of word.now }
 {
     unless_unfit(word, kind_in(word))
 }
 
+// Writing a sheet of these parts.
 fn write(wanted: Wanted) -> Service
     ensures { result ≡ Service.Write wanted }
 {
     Service::Write { wanted }
 }
 
-// Writing by so many names of files, with what is wrong with those of sequence and answers.
-fn write_by(n: usize, sequence: &[u8], answers: &[u8]) -> Service
-    ensures { result ≡ on_files (Service.Write (wanted_by n))
-        (take (n - 2) (sequence.now ∷ answers.now ∷ [])) }
+// What is wanted by so many names of files.
+fn wanted_by(n: usize) -> Wanted
+    ensures { result ≡ wanted_by n }
 {
-    if n < 3 {
-        return write(Wanted::Word);
+    match n {
+        0..=2 => Wanted::Word,
+        3 => Wanted::Sequence,
+        _ => Wanted::Answers,
     }
-    if n < 4 {
-        return unless_unfit(sequence, write(Wanted::Sequence));
+}
+
+// The service, with inputs in the files that these words name, or what is wrong with the first unfit
+// one.
+fn on_files(service: Service, files: &[&[u8]]) -> Service
+    ensures { result ≡ on_files service (map (λ x. x.now) files.now) }
+{
+    match files {
+        [] => service,
+        [first, rest @ ..] => unless_unfit(first, on_files(service, rest)),
     }
-    let service = unless_unfit(answers, write(Wanted::Answers));
-    unless_unfit(sequence, service)
 }
 
 // The service, where so many words as it may have stand behind its name: at least and at most.
+#[tactic(auto, unfolding(crate::specs::Words::counted))]
 fn counted(n: usize, least: usize, most: usize, service: Service) -> Service
     ensures { result ≡ counted_of n least most service }
 {
@@ -132,76 +152,76 @@ fn counted(n: usize, least: usize, most: usize, service: Service) -> Service
     service
 }
 
-// A service without words behind its name.
-fn alone(n: usize, service: Service) -> Service
-    ensures { result ≡ counted_of n 0 0 service }
-{
-    counted(n, 0, 0, service)
+// A service's name, how many words may stand behind it, at least and at most, and which service it
+// is.
+#[derive(Clone, Copy)]
+struct Row {
+    name: &'static [u8],
+    least: usize,
+    most: usize,
+    service: Service,
 }
 
-// One with a single word behind its name, and what that asks for.
-fn single(n: usize, service: Service) -> Service
-    ensures { result ≡ counted_of n 1 1 service }
-{
-    counted(n, 1, 1, service)
-}
-
-// Writing, of two to four files that the words behind its name name.
-fn write_of(n: usize, words: &[&[u8]; WORDS]) -> Service
-    ensures { result ≡ counted_of n 2 4 (write_of (words_of n (drop 1 (map (λ x. x.now) words.now)))) }
-{
-    let later = write_by(n, words[3], words[4]);
-    let names = unless_unfit(words[1], unless_unfit(words[2], later));
-    counted(n, 2, 4, names)
-}
-
-// The service where a word is this name, else the other.
-fn found_or(word: &[u8], name: &[u8], service: Service, other: Service) -> Service
-    ensures { result ≡ found_or word.now name.now service other }
-{
-    if same(word, name) { service } else { other }
-}
-
-// The service that the first word names, with so many words behind it, of those that read
-// one sheet from standard input and nothing else.
-fn named_on_sheet(n: usize, words: &[&[u8]; WORDS]) -> Service
-    ensures { result ≡ named_in sheet_services (get_or (map (λ x. x.now) words.now) 0 [])
-        (words_of n (drop 1 (map (λ x. x.now) words.now))) }
-{
-    let w = words[0];
-    let none = wrong(Mistake::Unknown);
-    let a = found_or(w, b"judge", alone(n, on_sheet(SheetService::Judge)), none);
-    let b = found_or(w, b"certify", alone(n, on_sheet(SheetService::Certify)), a);
-    let c = found_or(w, b"word", alone(n, on_sheet(SheetService::Word)), b);
-    let d = found_or(w, b"build", alone(n, on_sheet(SheetService::Build)), c);
-    found_or(w, b"read", single(n, kind_of(words[1])), d)
-}
-
-// The same, of all services.
-fn named(n: usize, words: &[&[u8]; WORDS]) -> Service
-    ensures { result ≡ named_in services (get_or (map (λ x. x.now) words.now) 0 [])
-        (words_of n (drop 1 (map (λ x. x.now) words.now))) }
-{
-    let a = named_on_sheet(n, words);
-    let w = words[0];
-    let b = found_or(w, b"write", write_of(n, words), a);
-    let answers = unless_unfit(words[1], Service::AddAnswers);
-    let c = found_or(w, b"answers", single(n, answers), b);
-    let desk = unless_unfit(words[1], on_sheet(SheetService::Desk));
-    let d = found_or(w, b"desk", single(n, desk), c);
-    let e = found_or(w, b"house", alone(n, Service::House), d);
-    let f = found_or(w, b"help", alone(n, Service::Help), e);
-    let g = found_or(w, b"--help", alone(n, Service::Help), f);
-    found_or(w, b"-h", alone(n, Service::Help), g)
-}
-
-// What the words ask for: how many there are, and the first of them.
-pub fn service_of(count: usize, words: &[&[u8]; WORDS]) -> Service
-    ensures { result ≡ service_of (words_of count (map (λ x. x.now) words.now)) }
-{
-    if count == 0 {
-        return on_sheet(SheetService::Judge);
+impl Row {
+    // The row of these fields.
+    fn new(name: &'static [u8], least: usize, most: usize, service: Service) -> Row
+        ensures { result ≡ record { name = name.entry; least = least; most = most; service = service } }
+    {
+        Row {
+            name,
+            least,
+            most,
+            service,
+        }
     }
-    let found = named(count - 1, words);
-    unless_unfit(words[0], found)
+}
+
+// The service of the row that has the name, with so many words behind it; no such row is a mistake.
+fn named(name: &[u8], n: usize, rows: &[Row]) -> Service
+    ensures { result ≡ named_among rows.now name.now n }
+{
+    for row in rows {
+        if row.name == name {
+            return counted(n, row.least, row.most, row.service);
+        }
+    }
+    wrong(Mistake::Unknown)
+}
+
+impl Words<'_> {
+    // The service that the first word names, with the words behind it.
+    fn named(&self) -> Service
+        requires { 0 < self.now.count }
+        ensures { result ≡ named_in services (get_or (map (λ x. x.now) self.now.first) 0 [])
+            (words_of (self.now.count - 1) (drop 1 (map (λ x. x.now) self.now.first))) }
+    {
+        let n = self.count - 1;
+        let files = &self.first[1..self.count.min(WORDS)];
+        // The last service first, as `services` has them.
+        let rows = [
+            Row::new(b"-h", 0, 0, Service::Help),
+            Row::new(b"--help", 0, 0, Service::Help),
+            Row::new(b"help", 0, 0, Service::Help),
+            Row::new(b"house", 0, 0, Service::House),
+            Row::new(b"desk", 1, 1, on_files(on_sheet(SheetService::Desk), files)),
+            Row::new(b"answers", 1, 1, on_files(Service::AddAnswers, files)),
+            Row::new(b"write", 2, 4, on_files(write(wanted_by(n)), files)),
+            Row::new(b"read", 1, 1, kind_of(self.first[1])),
+            Row::new(b"build", 0, 0, on_sheet(SheetService::Build)),
+            Row::new(b"word", 0, 0, on_sheet(SheetService::Word)),
+            Row::new(b"certify", 0, 0, on_sheet(SheetService::Certify)),
+            Row::new(b"judge", 0, 0, on_sheet(SheetService::Judge)),
+        ];
+        named(self.first[0], n, &rows)
+    }
+
+    // What the words ask for.
+    pub fn service_of(&self) -> Service
+        ensures { result ≡ service_of (words_in self.now) }
+    {
+        if self.count == 0 {
+            return on_sheet(SheetService::Judge);
+        }
+        unless_unfit(self.first[0], self.named())
+    }
 }

@@ -5,14 +5,11 @@ use mathlib.Core.Path.{◌≡◌, refl, sym, ap, ap₂, subst, ◌∙◌}
 use mathlib.Core.List.{List, [], ◌∷◌, ◌++◌}
 use native.Mathlib.Omega.{arith}
 use lib.ListN.{length, drop}
-use Rattle.sheet.specs.declared.check.Check.{Check}
-use Rattle.sheet.specs.declared.check.Check.TheVariants.{Clear, Refused}
-use Rattle.sheet.specs.declared.writing.Answer.TheVariants.{Written, Refused as RefusedAnswer}
-use Rattle.sheet.specs.Check.{first_cause}
+use Rattle.sheet.specs.Check.{first_cause, Check, Clear, Refused}
+use Rattle.sheet.specs.Promise.{cause9, Written}
 use Rattle.sheet.specs.Reader.{word_in}
 use Rattle.sheet.specs.Writing.{Puts}
 use Rattle.sheet.specs.Writing.Laws.{puts_same}
-use Rattle.sheet.specs.Promise.{cause9}
 use Rattle.sheet.specs.Promise.Laws.{clear_room, room_refused, by_cause, by_room, refused_writes, puts_writes}
 use Rattle.machine.specs.Limits.{most_word}
 use Rattle.machine.specs.declared.loading.Loaded.{Loaded}
@@ -20,7 +17,7 @@ use Rattle.machine.specs.Machine.{meaning, Proper, Commands}
 use Rattle.machine.specs.Causes.{machine_in}
 use Rattle.build.specs.Sequence.{sequence}
 use Rattle.build.specs.Building.{cause8, connected_causes, Builds}
-use Rattle.build.specs.Building.Connection.{clear_blocks, clear_eight, clear_proper, clear_distinguishes}
+use Rattle.build.specs.Building.Connection.{clear_eight, clear_proper, clear_distinguishes}
 use Rattle.machine.specs.Loading.{LoadedBy}
 use Rattle.build.specs.Table.{Filled}
 use Rattle.build.specs.Writing.{WriteRequires, Adds}
@@ -31,7 +28,7 @@ front_none [] before e = refl
 front_none (x ∷ front) before e = let z : ⊥ = omega arith in absurd z
 
 module _ (s before : List ℕ) (l : Loaded) (h : LoadedBy (connected_causes s) s l) where
-  pub early_refused : {a b : ℕ} → l.check ≡ Refused a b → Builds s before before (RefusedAnswer a b)
+  pub early_refused : {a b : ℕ} → l.check ≡ Refused a b → Builds s before before (Refused a b)
   early_refused e = refused_writes before (by_cause (sym h.check ∙ e)) refl
 
   module _ (clear : l.check ≡ Clear) (w : List ℕ) (we : w ≡ word_in s) where
@@ -55,17 +52,16 @@ module _ (s before : List ℕ) (l : Loaded) (h : LoadedBy (connected_causes s) s
         → Filled (meaning l.machine) (word_in s) (meaning l.machine).n rows
         → WriteRequires (meaning l.machine) w rows
     write_required rows f = record {
-      blocks =
-          clear_blocks (meaning l.machine) w proper commands
-          (ap₂ cause8 machine_is we ∙ clear_eight s connected);
-      few = commands.few;
+      proper = proper;
+      commands = commands;
+      connected = ap₂ cause8 machine_is we ∙ clear_eight s connected;
       filled = rw we f;
     }
 
     -- cause 9, of the length that writing into an empty part tells, after which the buffer is as it was
     module _ {size : ℕ} (size_is : size ≡ 0 + length (sequence (meaning l.machine) w)) {middle : List ℕ}
         (me : middle ≡ before) {nine : Check} (ne : nine ≡ cause9 (length middle) size) where
-      pub nine_refused : {a b : ℕ} → nine ≡ Refused a b → Builds s before middle (RefusedAnswer a b)
+      pub nine_refused : {a b : ℕ} → nine ≡ Refused a b → Builds s before middle (Refused a b)
       nine_refused e =
           let t = room_refused _ _ (sym ne ∙ e) in
           refused_writes before

@@ -2,15 +2,14 @@
 -- built shows of the sequence, and that 20,355 bytes are always enough room. An edit of the formula is refused below them.
 use Rattle.std.specs.Prelude.{ℕ, ◌≤◌, ◌≡◌, refl, List, length}
 use Rattle.std.proofs.Common.{◌∙◌, arith}
-use Rattle.sheet.specs.declared.check.Check.TheVariants.{Clear}
-use Rattle.sheet.specs.declared.writing.Answer.TheVariants.{Written}
-use Rattle.sheet.specs.Check.{first_cause}
+use Rattle.sheet.specs.Check.{first_cause, Clear}
+use Rattle.sheet.specs.Promise.{Written}
+use Rattle.certify.specs.Answer.{Certified as CertifiedAnswer}
 use Rattle.sheet.specs.Check.Laws.{else_clear}
 use Rattle.sheet.specs.Reader.{word_in, sequence_in}
 use Rattle.sheet.specs.Promise.Laws.{room_clear, writing_outcome, written_clear}
 use Rattle.machine.specs.Limits.{most_sequence}
 use Rattle.machine.specs.Causes.{machine_in, load_causes}
-use Rattle.certify.specs.declared.answer.Answer.TheVariants.{Certified as CertifiedAnswer}
 use Rattle.certify.specs.Marks.{count, marks}
 use Rattle.certify.specs.Certification.{certify_causes, certification}
 use Rattle.certify.specs.Certification.Laws.{outcome_clear, certification_clear}

@@ -2,23 +2,18 @@
 -- Assumes nothing.
 use Prim.Native.Nat.{ℕ, ◌+◌, ◌*◌, ◌≤◌, ◌<◌}
 use mathlib.Core.Path.{◌≡◌, refl, sym, ap, ap₂, subst, ◌∙◌}
-use mathlib.Core.Bool.{Bool, true, false, not}
+use mathlib.Core.Bool.{true}
 use mathlib.Core.List.{List, []}
 use mathlib.Core.Option
-use mathlib.Core.Option.{some}
+use mathlib.Core.Option.{Option, none, some}
 use native.Mathlib.Omega.{arith}
-use borrow.Author.Tests.{not-false}
-use lib.ListN.{length, get_or, take}
-use lib.Seq.{length-take-le}
+use lib.ListN.{length, get_or}
+use lib.Seq.{take-length}
 use borrow.Author.Count.{below_more}
-use Rattle.facts.specs.FirstOf.{guard, guard_true, guard_false}
-use Rattle.sheet.specs.declared.check.Check.{Check}
-use Rattle.sheet.specs.declared.check.Check.TheVariants.{Clear, Refused}
-use Rattle.sheet.specs.Check.{refusal◌with◌if◌, first}
-use Rattle.sheet.specs.Check.Laws.{clear_absent, first_none, first_stops, first_goes_on, first_ends}
+use Rattle.sheet.specs.Check.{first, Clear, Refused}
+use Rattle.sheet.specs.Check.Laws.{absent, present, first_none, first_stops, first_goes_on, first_ends}
 use Rattle.machine.specs.Machine.{Mealy, run, Proper}
-use Rattle.build.specs.declared.transfers.MaybeTransfer.{MaybeTransfer}
-use Rattle.build.specs.Transfer.{transfer, transfer_in}
+use Rattle.build.specs.Transfer.{transfer}
 use Rattle.build.specs.Transfer.Laws.{transfer_below}
 use Rattle.build.specs.Sequence.{following, B}
 use Rattle.build.specs.Building.{no_transfer, cause8}
@@ -42,37 +37,29 @@ connecting_start M w rows e = record {
   };
 }
 
--- ---- one state: from and to as the program has them, what its search answers, and its check
-guard_missing : (b : Bool) (xs : List ℕ) → no_transfer (guard b (some xs)) ≡ not b
-guard_missing true xs = ap no_transfer (guard_true (some xs) refl)
-guard_missing false xs = ap no_transfer (guard_false (some xs) refl)
-
-module _ (M : Mealy) (w : List ℕ) (s : ℕ) (p : MaybeTransfer) (from to : ℕ) {N : ℕ} {c : Check} (ne : N ≡ M.n)
-    (fe : from ≡ run M s w) (te : to ≡ following N s) (e : transfer_in p ≡ transfer M from to)
-    (ce : c ≡ (refusal 8 with s if not p.found)) where
-  transfer_of : transfer_in p ≡ B M w s
+-- ---- one state: from and to as the program has them, and what its search answers
+module _ (M : Mealy) (w : List ℕ) (s : ℕ) (from to : ℕ) {N : ℕ} (ne : N ≡ M.n) (fe : from ≡ run M s w)
+    (te : to ≡ following N s) {o : Option (List ℕ)} (e : o ≡ transfer M from to) where
+  transfer_of : o ≡ B M w s
   transfer_of = e ∙ ap₂ (transfer M) fe (te ∙ ap (λ (n : ℕ). following n s) ne)
 
-  check_of : c ≡ transfer_cause M w s
-  check_of = rw (ce, ← transfer_of, guard_missing)
-
-  module _ {rows : List ℕ} (h : Connecting M w rows s) where
+  module _ {rows : List ℕ} (h : Connecting M w rows s) (l : s < M.n) where
     -- no transfer: the loop stops
-    pub connecting_stops : s < M.n → {a b : ℕ} → c ≡ Refused a b → c ≡ cause8 M w
-    connecting_stops l r = first_stops (transfer_cause M w) l h.clear check_of r ∙ cause8_is M w
+    pub connecting_stops : o ≡ none → Refused 8 s ≡ cause8 M w
+    connecting_stops z =
+        let here : no_transfer (B M w s) ≡ true = ap no_transfer (sym transfer_of ∙ z) in
+        first_stops (transfer_cause M w) l h.clear (sym (present 8 s here)) refl ∙ cause8_is M w
 
-    module _ (proper : Proper M) (few : p.length ≤ length p.commands) (clear : c ≡ Clear) where
-      B_is : B M w s ≡ some (take p.length p.commands)
-      B_is =
-          let yes : p.found ≡ true = not-false p.found (clear_absent 8 s (not p.found) (sym ce ∙ clear)) in
-          sym transfer_of ∙ guard_true (some (take p.length p.commands)) yes
+    module _ (proper : Proper M) {xs : List ℕ} (found : o ≡ some xs) where
+      B_is : B M w s ≡ some xs
+      B_is = sym transfer_of ∙ found
 
-      pub size_low : p.length < row_size
+      pub size_low : length xs < row_size
       size_low =
           let low = transfer_below M (run M s w) (following M.n s) B_is in
-          omega (arith, length-take-le p.length p.commands few, proper.few_states)
+          omega (arith, proper.few_states)
 
-      filled_on : {after : List ℕ} → Stored rows after s p.length p.commands → Filled M w (s + 1) after
+      filled_on : {after : List ℕ} → Stored rows after s (length xs) xs → Filled M w (s + 1) after
       filled_on {after} st = record {
         long = st.long;
         short =
@@ -81,14 +68,13 @@ module _ (M : Mealy) (w : List ℕ) (s : ℕ) (p : MaybeTransfer) (from to : ℕ
         stored =
             below_more (λ i. Option.get_or (B M w i) [] ≡ row after i) s
             (λ i q. h.filled.stored i q ∙ sym (st.rows i q (h.filled.short i q)))
-            (rw (B_is, st.stored));
+            (rw (B_is, st.stored, take-length));
       }
 
-      pub connecting_on : s < M.n → {after : List ℕ} → Stored rows after s p.length p.commands
-          → Connecting M w after (s + 1)
-      connecting_on l st = record {
+      pub connecting_on : {after : List ℕ} → Stored rows after s (length xs) xs → Connecting M w after (s + 1)
+      connecting_on st = record {
         inside = omega arith;
-        clear = first_goes_on (transfer_cause M w) s h.clear check_of clear;
+        clear = first_goes_on (transfer_cause M w) s h.clear refl (absent 8 s (ap no_transfer B_is));
         filled = filled_on st;
       }
 

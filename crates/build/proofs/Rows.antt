@@ -1,14 +1,12 @@
 -- The table of transfers: a row stored, and the rows before it kept.
 -- Assumes nothing.
 use Prim.Native.Nat.{ℕ, ◌+◌, ◌-◌, ◌*◌, ◌≤◌, ◌<◌}
-use mathlib.Core.Path.{◌≡◌, sym, ap, ap₂, ◌∙◌}
+use mathlib.Core.Path.{◌≡◌, refl, sym, ap, ap₂, ◌∙◌}
 use mathlib.Core.List.{List, ◌++◌, append_assoc}
 use native.Mathlib.Omega.{arith}
 use lib.ListN.{length, get_or, set, take, drop, length-set}
 use lib.Seq.{paste, length-paste, length-take-le, take-take, take-set-le, take-add, take_at, drop_at, get_or-take}
 use lib.Seq.{get_or-set_same, take-length}
-use Rattle.sheet.specs.Writing.{put_at}
-use Rattle.sheet.specs.Writing.Laws.{put_fits}
 use Rattle.machine.specs.Limits.{most_states}
 use Rattle.build.specs.Table.{row_size, table_size, row, Stored}
 use Rattle.build.specs.Writing.{Adds}
@@ -28,31 +26,24 @@ same_cell : (l m : List ℕ) (a i : ℕ) → take a l ≡ take a m → i < a →
 same_cell l m a i e h = sym (get_or-take a l i 0 h) ∙ ap (λ (x : List ℕ). get_or x i 0) e ∙ get_or-take a m i 0 h
 
 -- the size stored at the front of a row, the commands behind it
-module _ (before commands : List ℕ) (s size : ℕ) (sl : s < most_states) (zl : size < row_size)
-    (few : size ≤ length commands) (long : length before ≡ table_size) where
+module _ (before xs : List ℕ) (s : ℕ) (sl : s < most_states) (few : length xs < row_size)
+    (long : length before ≡ table_size) where
   a : ℕ
   a = s * row_size
 
   d : List ℕ
-  d = set before a size
-
-  xs : List ℕ
-  xs = take size commands
-
-  sized : length xs ≡ size
-  unfolding xs
-  sized = length-take-le size commands few
+  d = set before a (length xs)
 
   after : List ℕ
   after = paste d (a + 1) xs (length xs)
 
   d_long : length d ≡ table_size
   unfolding d
-  d_long = length-set before a size ∙ long
+  d_long = length-set before a (length xs) ∙ long
 
   after_long : length after ≡ table_size
   unfolding after a
-  after_long = length-paste d (a + 1) xs (length xs) (omega (arith, d_long, sized)) (omega arith) ∙ d_long
+  after_long = length-paste d (a + 1) xs (length xs) (omega (arith, d_long)) (omega arith) ∙ d_long
 
   head_long : length (take (a + 1) d) ≡ a + 1
   unfolding a
@@ -73,18 +64,18 @@ module _ (before commands : List ℕ) (s size : ℕ) (sl : s < most_states) (zl 
       sym (take-take a (a + 1) after (omega arith))
       ∙ ap (take a) front
       ∙ take-take a (a + 1) d (omega arith)
-      ∙ take-set-le a before a size (omega arith)
+      ∙ take-set-le a before a (length xs) (omega arith)
 
-  cell : get_or after a 0 ≡ size
+  cell : get_or after a 0 ≡ length xs
   unfolding d a
-  cell = same_cell after d (a + 1) a front (omega arith) ∙ get_or-set_same before a size 0 (omega arith)
+  cell = same_cell after d (a + 1) a front (omega arith) ∙ get_or-set_same before a (length xs) 0 (omega arith)
 
   stored_row : row after s ≡ xs
   unfolding row a
   stored_row =
       ap₂ (λ (n : ℕ) (l : List ℕ). take n l) cell
       (ap (drop (a + 1)) after_split ∙ drop_at (take (a + 1) d) _ (a + 1) head_long)
-      ∙ take_at xs (drop (a + 1 + length xs) d) size sized
+      ∙ take_at xs (drop (a + 1 + length xs) d) (length xs) refl
 
   other_cell : (i : ℕ) → i < s → get_or after (i * row_size) 0 ≡ get_or before (i * row_size) 0
   unfolding a
@@ -97,12 +88,17 @@ module _ (before commands : List ℕ) (s size : ℕ) (sl : s < most_states) (zl 
       ∙ same_middle after before a (i * row_size + 1) (get_or before (i * row_size) 0) (after_long ∙ sym long) kept
       (omega arith) (omega arith)
 
-  pub row_stored : {now : List ℕ} → now ≡ put_at (set before (s * row_size) size) (s * row_size + 1) (take size commands)
-      → Stored before now s size commands
-  unfolding after d a xs
-  row_stored h =
-      let e = h ∙ put_fits d (a + 1) xs (omega (arith, d_long, sized)) in
-      rw e (record { long = after_long; sized = cell; stored = stored_row; sizes = other_cell; rows = other_row })
+  pub row_stored : {now : List ℕ}
+      → now ≡ paste (set before (s * row_size) (length xs)) (s * row_size + 1) xs (length xs)
+      → Stored before now s (length xs) xs
+  unfolding after d a
+  row_stored e = rw e (record {
+    long = after_long;
+    sized = cell;
+    stored = stored_row ∙ sym (take-length xs);
+    sizes = other_cell;
+    rows = other_row;
+  })
 
 -- a row written as the part of the table that it is
 pub adds_row : (rows : List ℕ) (s : ℕ) {before after xs : List ℕ} {at end : ℕ}

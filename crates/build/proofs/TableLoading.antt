@@ -3,8 +3,7 @@
 use Prim.Native.Nat.{ℕ}
 use mathlib.Core.Path.{◌≡◌, refl, ap₂, ◌∙◌}
 use mathlib.Core.List.{List}
-use Rattle.sheet.specs.declared.check.Check.{Check}
-use Rattle.sheet.specs.declared.check.Check.TheVariants.{Clear, Refused}
+use Rattle.sheet.specs.Check.{Check, Clear, Refused}
 use Rattle.sheet.specs.Check.Laws.{stops_at, goes_on}
 use Rattle.sheet.specs.Reader.{word_in}
 use Rattle.machine.specs.declared.loading.Loaded.{Loaded}

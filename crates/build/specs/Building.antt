@@ -3,13 +3,10 @@
 -- the built sequence, in proofs/BuildingService.antt; in Building.Twin the starred cases are computed.
 use Rattle.std.specs.Prelude.{ℕ, ◌≤◌, ◌<◌, ◌≡◌, Bool, true, false, List, [], ◌∷◌, ◌++◌, length}
 use Rattle.std.proofs.Math.Option.{Option, none, some}
-use Rattle.sheet.specs.declared.check.Check.{Check}
-use Rattle.sheet.specs.declared.check.Check.TheVariants.{Clear}
+use Rattle.sheet.specs.Check.{refusal◌with◌if◌, first_cause, first, Check, Clear}
+use Rattle.sheet.specs.Promise.{cause_to_write, writing, leaving, Writes, Answer}
 use Rattle.sheet.specs.declared.reader.Needs.{Needs}
-use Rattle.sheet.specs.declared.writing.Answer.{Answer}
-use Rattle.sheet.specs.Check.{refusal◌with◌if◌, first_cause, first}
 use Rattle.sheet.specs.Reader.{word_in, word_record}
-use Rattle.sheet.specs.Promise.{cause_to_write, writing, leaving, Writes}
 use Rattle.machine.specs.Machine.{Mealy, Separates}
 use Rattle.machine.specs.Causes.{cause5, machine_in, machine_causes, load_causes}
 use Rattle.build.specs.Transfer.{Leads}

@@ -1,13 +1,14 @@
 -- Transfers (§6.1). `IsTransfer` says what one is and `transfer` computes it; Transfer.Laws shows that both agree for a
 -- machine within its limits and any two numbers, by the laws of Transfer.Paths.
 use Rattle.std.specs.Prelude.{ℕ, ◌<◌, ◌≡◌, List, ltb, eqb, take}
-use Rattle.std.proofs.Math.Option.{Option, some}
+use Rattle.std.specs.Prelude.{Option as Returned, None, Some}
+use Rattle.std.proofs.Math.Option.{Option, none, some}
 use Rattle.facts.specs.Lists.{Below}
-use Rattle.facts.specs.FirstOf.{guard, first_of}
+use Rattle.facts.specs.FirstOf.{first_of}
 use Rattle.facts.specs.ByteOrder.{IsFirst}
 use Rattle.facts.specs.FirstString.{first_string}
 use Rattle.machine.specs.Machine.{Mealy, run}
-use Rattle.build.specs.declared.transfers.MaybeTransfer.{MaybeTransfer}
+use Rattle.build.specs.declared.transfers.Path.{Path}
 pub mod Laws
 pub mod Paths
 
@@ -36,5 +37,6 @@ unfoldable pub transfer : Mealy → ℕ → ℕ → Option (List ℕ)
 transfer M a b = first_of M.n (λ m. first_path M b m a)
 
 -- the transfer in what `build::transfer` returns: the first commands of its array where one was found, else none
-abbrev pub transfer_in : MaybeTransfer → Option (List ℕ)
-transfer_in p = guard p.found (some (take p.length p.commands))
+abbrev pub transfer_in : Returned Path → Option (List ℕ)
+transfer_in None = none
+transfer_in (Some p) = some (take p.length p.commands)

@@ -9,5 +9,5 @@ mod transfers;
 mod writing;
 
 pub use loading::load_connected;
-pub use service::{WithRecords, build, build_with_records};
-pub use transfers::{MaybeTransfer, transfer};
+pub use service::{build, build_with_records};
+pub use transfers::{Path, transfer};

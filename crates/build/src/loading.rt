@@ -1,19 +1,18 @@
 // The causes of loading and 8 of a sheet, its machine, and the table of the transfers B(s).
-ghost use Rattle.std.specs.Prelude.{◌≡◌, length};
-ghost use Rattle.sheet.specs.declared.check.Check.TheVariants.{Clear};
+ghost use Rattle.std.specs.Prelude.{◌≡◌};
+ghost use Rattle.sheet.specs.Check.{Clear};
 ghost use Rattle.sheet.specs.Reader.{word_in};
 ghost use Rattle.machine.specs.Machine.{meaning};
-ghost use Rattle.build.specs.Table.{table_size, Filled};
+ghost use Rattle.build.specs.Table.{Filled};
 ghost use Rattle.machine.specs.Loading.{LoadedBy};
 ghost use Rattle.build.specs.Building.{connected_causes};
 
 use crate::table::{ROWS, connect};
 use machine::{Loaded, load_sheet};
-use sheet::{Check, Needs, payload};
+use sheet::{Needs, payload};
 
 // Loads a sheet, and fills the table of transfers unless the sheet is refused.
-pub fn load_table(sheet: &[u8], rows: &mut [u8]) -> Loaded
-    requires { length rows.old ≡ table_size }
+pub fn load_table(sheet: &[u8], rows: &mut [u8; ROWS]) -> Loaded
     ensures loaded_by { LoadedBy (connected_causes sheet.now) sheet.now result }
     ensures filled { result.check ≡ Clear
         → Filled (meaning result.machine) (word_in sheet.now) (meaning result.machine).n
@@ -25,22 +24,12 @@ pub fn load_table(sheet: &[u8], rows: &mut [u8]) -> Loaded
         answers: false,
     };
     let loaded = load_sheet(sheet, needs);
-    let earlier = loaded.check;
-    if let Check::Refused {
-        number: _,
-        place: _,
-    } = earlier
-    {
-        return loaded;
-    }
-    let machine = loaded.machine;
-    let records = loaded.records;
-    let found = records.word;
-    let check = connect(machine, payload(sheet, found), rows);
-    Loaded {
-        check,
-        machine,
-        records,
+    match loaded.check {
+        Ok(()) => Loaded {
+            check: connect(&loaded.machine, payload(sheet, loaded.records.word), rows),
+            ..loaded
+        },
+        Err(_) => loaded,
     }
 }
 

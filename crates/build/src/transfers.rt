@@ -1,58 +1,56 @@
 // The transfer from a state to a state (§6.1), or that there is none.
-ghost use Rattle.std.specs.Prelude.{◌≡◌, take};
+ghost use Rattle.std.specs.Prelude.{◌≡◌, take, MatchOption};
 ghost use Rattle.machine.specs.Machine.{meaning};
-ghost use Rattle.build.specs.Distances.{Descent};
+ghost use Rattle.build.specs.Distances.{Descent, Blocked};
 ghost use Rattle.build.specs.Transfer.{transfer_in};
 ghost use Rattle.build.specs.Transfer.{transfer as transfer_of};
 
-use crate::distances::{UNREACHED, distances, first_step};
-use machine::{Machine, entry_at};
-use sheet::byte;
+use crate::distances::{first_step, measure};
+use machine::Machine;
 
-// A transfer, the first `length` of the commands, or none; the rest of the array is free.
+// The commands of a transfer, the first `length` of the array; the rest of it is free. No `ArrayVec`:
+// how many they are is known before the first of them.
 #[derive(Clone, Copy)]
-pub struct MaybeTransfer {
-    pub found: bool,
+pub struct Path {
     pub length: u8,
     pub commands: [u8; 256],
 }
 
-// The commands from a state whose distance is `length`: each time the least that leads to a state
-// one nearer.
-fn descend(next: &[u8], k: u8, distance: &[u8; 256], from: u8, length: u8) -> [u8; 256]
-    ensures { Descent next.now k distance.now from length (take length result) }
-{
-    let mut commands = [0u8; 256];
-    let mut s = from;
-    let mut i: u8 = 0;
-    while i < length {
-        let c = first_step(next, k, distance, s, length - 1 - i);
-        commands[i as usize] = c;
-        s = byte(next, entry_at(k, s, c));
-        i += 1;
+impl Path {
+    // The commands.
+    pub fn as_slice(&self) -> &[u8]
+        ensures { result.now ≡ take self.now.length self.now.commands }
+    {
+        &self.commands[..self.length as usize]
     }
-    commands
+}
+
+// The path from a state whose distance is `length`: each time the least command that leads to a
+// state one nearer. None where there is none such, which distances that are right rule out.
+fn descend(m: &Machine, distance: &[Option<u8>; 256], from: u8, length: u8) -> Option<Path>
+    ensures { MatchOption result (Blocked m.now.next m.now.k distance.now from length)
+        (λ p. Descent m.now.next m.now.k distance.now from length (take p.length p.commands)) }
+{
+    let mut path = Path {
+        length,
+        commands: [0; 256],
+    };
+    let mut s = from;
+    for i in 0..length {
+        let c = first_step(m, distance, s, length - 1 - i)?;
+        path.commands[i as usize] = c;
+        s = m.next_state(s, c);
+    }
+    Some(path)
 }
 
 // The transfer of any machine, from any byte to any byte; to or from what is no state of it there
 // is none.
-pub fn transfer(m: Machine, from: u8, to: u8) -> MaybeTransfer
-    ensures { transfer_in result ≡ transfer_of (meaning m) from to }
+pub fn transfer(m: &Machine, from: u8, to: u8) -> Option<Path>
+    ensures { transfer_in result ≡ transfer_of (meaning m.now) from to }
 {
-    let next = m.next;
-    let distance = distances(&next, m.n, m.k, to);
-    let length = distance[from as usize];
-    if length == UNREACHED {
-        return MaybeTransfer {
-            found: false,
-            length: 0,
-            commands: [0u8; 256],
-        };
-    }
-    let commands = descend(&next, m.k, &distance, from, length);
-    MaybeTransfer {
-        found: true,
-        length,
-        commands,
-    }
+    let mut distance = [None; 256];
+    measure(m, to, &mut distance);
+    let length = distance[from as usize]?;
+    descend(m, &distance, from, length)
 }

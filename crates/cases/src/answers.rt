@@ -1,168 +1,122 @@
 // The answers of the services, as text.
 use crate::buffers::front;
-use crate::bytes::bytes;
-use crate::output::{labelled, text};
-use build::MaybeTransfer;
-use certify::Answer as Certification;
-use desk::{First, Order};
-use judge::Answer as Judgement;
+use crate::bytes::Bytes;
+use crate::output::Output;
+use build::Path;
+use certify::Certification;
+use desk::Order;
+use judge::Judgement;
 use machine::{Entry, Limits};
-use sheet::{Answer, Check};
-use word::{Answer as Search, Searched};
+use sheet::{Check, Refusal};
+use std::fmt;
+use std::fmt::Write;
+use word::Searched;
 
 // A buffer, or what reading gave, behind its bar.
-pub(crate) fn buffer(rt: &HostRuntime, part: &[u8], out: &mut [u8], used: usize) -> usize {
-    let at = text(rt, b" | ", out, used);
-    bytes(rt, part, out, at)
+pub(crate) fn buffer(part: &[u8], out: &mut Output<'_>) -> fmt::Result {
+    write!(out, " | {}", Bytes(part))
 }
 
-fn refused(rt: &HostRuntime, number: u8, place: usize, out: &mut [u8], used: usize) -> usize {
-    let at = labelled(rt, b"refused ", number as usize, out, used);
-    labelled(rt, b" at ", place, out, at)
+fn refused(refusal: Refusal, out: &mut Output<'_>) -> fmt::Result {
+    write!(out, "refused {} at {}", refusal.number, refusal.place)
 }
 
-fn pass(rt: &HostRuntime, size: usize, end: u8, out: &mut [u8], used: usize) -> usize {
-    let at = labelled(rt, b"pass ", size, out, used);
-    labelled(rt, b" end ", end as usize, out, at)
-}
-
-fn wrong(
-    rt: &HostRuntime,
-    place: usize,
-    specified: u8,
-    given: u8,
-    out: &mut [u8],
-    used: usize,
-) -> usize {
-    let at = labelled(rt, b"wrong at ", place, out, used);
-    let next = labelled(rt, b" want ", specified as usize, out, at);
-    labelled(rt, b" got ", given as usize, out, next)
-}
-
-pub(crate) fn judged(rt: &HostRuntime, a: Judgement, out: &mut [u8], used: usize) -> usize {
-    match a {
-        Judgement::Pass { size, end } => pass(rt, size, end, out, used),
-        Judgement::Wrong {
-            place,
-            specified,
-            given,
-        } => wrong(rt, place, specified, given, out, used),
-        Judgement::Unheard { place } => labelled(rt, b"unheard at ", place, out, used),
-        Judgement::Unfinished { number } => labelled(rt, b"unfinished ", number, out, used),
-        Judgement::Refused { number, place } => refused(rt, number, place, out, used),
+pub(crate) fn judged(answer: Result<Judgement, Refusal>, out: &mut Output<'_>) -> fmt::Result {
+    match answer {
+        Ok(Judgement::Pass { size, end }) => write!(out, "pass {size} end {end}"),
+        Ok(
+            Judgement::Wrong {
+                place,
+                specified,
+                given,
+            },
+        ) => write!(out, "wrong at {place} want {specified} got {given}"),
+        Ok(Judgement::Unheard { place }) => write!(out, "unheard at {place}"),
+        Ok(Judgement::Unfinished { number }) => write!(out, "unfinished {number}"),
+        Err(refusal) => refused(refusal, out),
     }
 }
 
-fn open(rt: &HostRuntime, recognised: usize, number: usize, out: &mut [u8], used: usize) -> usize {
-    let at = labelled(rt, b"open ", number, out, used);
-    labelled(rt, b" recognised ", recognised, out, at)
-}
-
-pub(crate) fn certified(rt: &HostRuntime, a: Certification, out: &mut [u8], used: usize) -> usize {
-    match a {
-        Certification::Certified { recognised } => labelled(
-            rt,
-            b"certified ",
-            recognised,
-            out,
-            used,
-        ),
-        Certification::Open { recognised, number } => open(rt, recognised, number, out, used),
-        Certification::Refused { number, place } => refused(rt, number, place, out, used),
+pub(crate) fn certified(
+    answer: Result<Certification, Refusal>,
+    out: &mut Output<'_>,
+) -> fmt::Result {
+    match answer {
+        Ok(Certification::Certified { recognised }) => write!(out, "certified {recognised}"),
+        Ok(Certification::Open { recognised, number }) => {
+            write!(out, "open {number} recognised {recognised}")
+        }
+        Err(refusal) => refused(refusal, out),
     }
 }
 
 // The answer of a service that writes, with its word for having done so.
 pub(crate) fn written(
-    rt: &HostRuntime,
-    done: &[u8],
-    a: Answer,
-    out: &mut [u8],
-    used: usize,
-) -> usize {
-    match a {
-        Answer::Written { length } => labelled(rt, done, length, out, used),
-        Answer::Refused { number, place } => refused(rt, number, place, out, used),
+    done: &str,
+    answer: Result<usize, Refusal>,
+    out: &mut Output<'_>,
+) -> fmt::Result {
+    match answer {
+        Ok(length) => write!(out, "{done} {length}"),
+        Err(refusal) => refused(refusal, out),
     }
 }
 
 // A refusal, or the word for none.
-pub(crate) fn checked(rt: &HostRuntime, check: Check, out: &mut [u8], used: usize) -> usize {
+pub(crate) fn checked(check: Check, out: &mut Output<'_>) -> fmt::Result {
     match check {
-        Check::Clear => text(rt, b"none", out, used),
-        Check::Refused { number, place } => refused(rt, number, place, out, used),
+        Ok(()) => write!(out, "none"),
+        Err(refusal) => refused(refusal, out),
     }
 }
 
 // Where a part lies, and its bytes.
-pub(crate) fn handed(
-    rt: &HostRuntime,
-    from: usize,
-    part: &[u8],
-    out: &mut [u8],
-    used: usize,
-) -> usize {
-    let at = labelled(rt, b"from ", from, out, used);
-    let next = labelled(rt, b" size ", part.len(), out, at);
-    buffer(rt, part, out, next)
+pub(crate) fn handed(from: usize, part: &[u8], out: &mut Output<'_>) -> fmt::Result {
+    write!(out, "from {from} size {}", part.len())?;
+    buffer(part, out)
 }
 
-pub(crate) fn transferred(
-    rt: &HostRuntime,
-    t: MaybeTransfer,
-    out: &mut [u8],
-    used: usize,
-) -> usize {
-    let commands = t.commands;
-    if t.found {
-        let at = text(rt, b"commands ", out, used);
-        bytes(rt, front(&commands, t.length as usize), out, at)
-    } else {
-        text(rt, b"none", out, used)
+pub(crate) fn transferred(path: Option<Path>, out: &mut Output<'_>) -> fmt::Result {
+    match path {
+        Some(path) => write!(out, "commands {}", Bytes(path.as_slice())),
+        None => write!(out, "none"),
     }
 }
 
 // The desk's first command, or its refusal.
-pub(crate) fn begun(rt: &HostRuntime, first: First, out: &mut [u8], used: usize) -> usize {
+pub(crate) fn begun(first: Result<u8, Refusal>, out: &mut Output<'_>) -> fmt::Result {
     match first {
-        First::Command { command } => labelled(rt, b"command ", command as usize, out, used),
-        First::Refused { number, place } => refused(rt, number, place, out, used),
+        Ok(command) => write!(out, "command {command}"),
+        Err(refusal) => refused(refusal, out),
     }
 }
 
 // An order behind another.
-pub(crate) fn ordered(rt: &HostRuntime, order: Order, out: &mut [u8], used: usize) -> usize {
+pub(crate) fn ordered(order: Order, out: &mut Output<'_>) -> fmt::Result {
     match order {
-        Order::Command { command } => labelled(rt, b" command ", command as usize, out, used),
-        Order::Home { after } => labelled(rt, b" home after ", after as usize, out, used),
-        Order::Stranger { at } => labelled(rt, b" stranger at ", at as usize, out, used),
+        Order::Command { command } => write!(out, " command {command}"),
+        Order::Home { after } => write!(out, " home after {after}"),
+        Order::Stranger { at } => write!(out, " stranger at {at}"),
     }
-}
-
-fn found(rt: &HostRuntime, length: usize, word: &[u8], out: &mut [u8], used: usize) -> usize {
-    let at = text(rt, b"word ", out, used);
-    bytes(rt, front(word, length), out, at)
 }
 
 // What the search for a word gave.
-pub(crate) fn sought(rt: &HostRuntime, s: Searched, out: &mut [u8], used: usize) -> usize {
-    let answer = s.answer;
-    let word = s.word;
-    match answer {
-        Search::Found { length } => found(rt, length, &word, out, used),
-        Search::Nothing => text(rt, b"none", out, used),
-        Search::Refused { number, place } => refused(rt, number, place, out, used),
+pub(crate) fn sought(searched: Searched, out: &mut Output<'_>) -> fmt::Result {
+    match searched.answer {
+        Ok(Some(length)) => write!(out, "word {}", Bytes(front(&searched.word, length))),
+        Ok(None) => write!(out, "none"),
+        Err(refusal) => refused(refusal, out),
     }
 }
 
-pub(crate) fn entry(rt: &HostRuntime, e: Entry, out: &mut [u8], used: usize) -> usize {
-    let at = labelled(rt, b"next ", e.next as usize, out, used);
-    labelled(rt, b" answer ", e.answer as usize, out, at)
+pub(crate) fn entry(e: Entry, out: &mut Output<'_>) -> fmt::Result {
+    write!(out, "next {} answer {}", e.next, e.answer)
 }
 
-pub(crate) fn limits(rt: &HostRuntime, l: Limits, out: &mut [u8], used: usize) -> usize {
-    let at = labelled(rt, b"states ", l.states, out, used);
-    let next = labelled(rt, b" commands ", l.commands, out, at);
-    let later = labelled(rt, b" word ", l.word, out, next);
-    labelled(rt, b" sequence ", l.sequence, out, later)
+pub(crate) fn limits(l: Limits, out: &mut Output<'_>) -> fmt::Result {
+    write!(
+        out,
+        "states {} commands {} word {} sequence {}",
+        l.states, l.commands, l.word, l.sequence
+    )
 }

@@ -1,145 +1,120 @@
-// The fields of a case behind its service's name.
-use crate::numbers::{BYTE, Cursor, Decimal, expect, expect_end, next_is, read_number};
-use crate::parts::{Filled, read_part};
+// A case: a service with the fields behind its name.
+ghost use Rattle.std.specs.Prelude.{◌≤◌, IfOk};
 
-// The most parts of a case.
-const MOST_PARTS: usize = 4;
+use crate::names::Service;
+use crate::parts::Parts;
+use crate::reader::{BYTE, KIND, Reader, Unreadable};
 
-// How many parts there are; where each ends in the buffer, in which they lie one behind the other, 0
-// for those that are not there; and where reading has come to.
+// A case, its parts as bytes.
 #[derive(Clone, Copy)]
-pub struct Parts {
-    pub count: usize,
-    pub ends: [usize; MOST_PARTS],
-    pub cursor: Cursor,
+pub(crate) enum Case<'a> {
+    // The room and the sheet.
+    Judge(usize, &'a [u8]),
+    Certify(usize, &'a [u8]),
+    Build(usize, &'a [u8]),
+    // The kind and the sheet.
+    Refusal(u16, &'a [u8]),
+    Part(u16, &'a [u8]),
+    // The two states and the sheet.
+    Transfer(u8, u8, &'a [u8]),
+    // The sheet and the answers.
+    Desk(&'a [u8], &'a [u8]),
+    // The sheet.
+    Word(&'a [u8]),
+    // The room and what is to be written.
+    Write(usize, Payloads<'a>),
+    // The state and the command.
+    House(u8, u8),
+    Limits,
 }
 
-// Up to two numbers, and the parts behind them.
+// The payloads of a sheet's records, those that it has.
 #[derive(Clone, Copy)]
-pub struct Fields {
-    pub first: u32,
-    pub second: u32,
-    pub parts: Parts,
+pub(crate) struct Payloads<'a> {
+    pub(crate) machine: &'a [u8],
+    pub(crate) word: &'a [u8],
+    pub(crate) sequence: Option<&'a [u8]>,
+    pub(crate) answers: Option<&'a [u8]>,
 }
 
-// No parts: the line ends here.
-fn no_parts(line: &[u8], c: Cursor) -> Parts {
-    let cursor = expect_end(line, c);
-    Parts {
-        count: 0,
-        ends: [0usize; MOST_PARTS],
-        cursor,
+impl Reader<'_> {
+    // A number with the space behind it.
+    fn spaced(&mut self, most: usize) -> Result<usize, Unreadable>
+        ensures { IfOk result (λ n. n ≤ most) }
+    {
+        let number = self.number(most)?;
+        self.expect(b' ')?;
+        Ok(number)
+    }
+
+    // A part behind another, with the ` / ` between them.
+    fn next_part<'a>(&mut self, last: bool, parts: &mut Parts<'a>) -> Result<&'a [u8], Unreadable> {
+        self.expect(b' ')?;
+        self.expect(b'/')?;
+        self.expect(b' ')?;
+        self.part(last, parts)
+    }
+
+    // The same, where the line goes on.
+    fn optional_part<'a>(
+        &mut self,
+        last: bool,
+        parts: &mut Parts<'a>,
+    ) -> Result<Option<&'a [u8]>, Unreadable> {
+        if self.next_is(b' ') {
+            Ok(Some(self.next_part(last, parts)?))
+        } else {
+            Ok(None)
+        }
+    }
+
+    // Two, three or four payloads.
+    fn payloads<'a>(&mut self, parts: &mut Parts<'a>) -> Result<Payloads<'a>, Unreadable> {
+        Ok(Payloads {
+            machine: self.part(false, parts)?,
+            word: self.next_part(false, parts)?,
+            sequence: self.optional_part(false, parts)?,
+            answers: self.optional_part(true, parts)?,
+        })
+    }
+
+    // The fields of a service, with a room of at most so many bytes: an arm for each, of other fields.
+    fn fields<'a>(
+        &mut self,
+        service: Service,
+        most: usize,
+        parts: &mut Parts<'a>,
+    ) -> Result<Case<'a>, Unreadable> {
+        Ok(match service {
+            Service::Judge => Case::Judge(self.spaced(most)?, self.part(true, parts)?),
+            Service::Certify => Case::Certify(self.spaced(most)?, self.part(true, parts)?),
+            Service::Build => Case::Build(self.spaced(most)?, self.part(true, parts)?),
+            Service::Refusal => Case::Refusal(self.spaced(KIND)? as u16, self.part(true, parts)?),
+            Service::Part => Case::Part(self.spaced(KIND)? as u16, self.part(true, parts)?),
+            Service::Transfer => Case::Transfer(
+                self.spaced(BYTE)? as u8,
+                self.spaced(BYTE)? as u8,
+                self.part(true, parts)?,
+            ),
+            Service::Desk => Case::Desk(self.part(false, parts)?, self.next_part(true, parts)?),
+            Service::Word => Case::Word(self.part(true, parts)?),
+            Service::Write => Case::Write(self.spaced(most)?, self.payloads(parts)?),
+            Service::House => Case::House(self.spaced(BYTE)? as u8, self.number(BYTE)? as u8),
+            Service::Limits => Case::Limits,
+        })
     }
 }
 
-// No fields: the line ends here.
-pub(crate) fn no_fields(line: &[u8], c: Cursor) -> Fields {
-    Fields {
-        first: 0,
-        second: 0,
-        parts: no_parts(line, c),
-    }
-}
-
-// A number with the space behind it.
-fn spaced(line: &[u8], c: Cursor, most: u32) -> Decimal {
-    let n = read_number(line, c, most);
-    let cursor = expect(line, n.cursor, b' ');
-    Decimal {
-        value: n.value,
-        cursor,
-    }
-}
-
-// A part behind another, with the ` / ` between them.
-fn next_part(line: &[u8], f: Filled, last: bool, parts: &mut [u8]) -> Filled {
-    let spaced = expect(line, f.cursor, b' ');
-    let divided = expect(line, spaced, b'/');
-    let cursor = expect(line, divided, b' ');
-    let used = f.used;
-    read_part(line, Filled { cursor, used }, last, parts)
-}
-
-// Whether one more part is to be read: it is needed, or the line goes on.
-fn another(line: &[u8], c: Cursor, needed: bool) -> bool {
-    needed || next_is(line, c, b' ')
-}
-
-// At least so many parts and at most so many, the last fields of a case.
-fn read_parts(line: &[u8], c: Cursor, least: usize, most: usize, parts: &mut [u8]) -> Parts {
-    let mut filled = read_part(line, Filled { cursor: c, used: 0 }, most == 1, parts);
-    let mut ends = [0usize; MOST_PARTS];
-    ends[0] = filled.used;
-    let mut count = 1;
-    while count < MOST_PARTS && count < most && another(line, filled.cursor, count < least) {
-        filled = next_part(line, filled, count + 1 == most, parts);
-        ends[count] = filled.used;
-        count += 1;
-    }
-    let cursor = expect_end(line, filled.cursor);
-    Parts {
-        count,
-        ends,
-        cursor,
-    }
-}
-
-// A sheet.
-pub(crate) fn one_sheet(line: &[u8], c: Cursor, parts: &mut [u8]) -> Fields {
-    Fields {
-        first: 0,
-        second: 0,
-        parts: read_parts(line, c, 1, 1, parts),
-    }
-}
-
-// A number and a sheet.
-pub(crate) fn number_and_sheet(line: &[u8], c: Cursor, most: u32, parts: &mut [u8]) -> Fields {
-    let n = spaced(line, c, most);
-    Fields {
-        first: n.value,
-        second: 0,
-        parts: read_parts(line, n.cursor, 1, 1, parts),
-    }
-}
-
-// Two bytes and a sheet.
-pub(crate) fn bytes_and_sheet(line: &[u8], c: Cursor, parts: &mut [u8]) -> Fields {
-    let a = spaced(line, c, BYTE);
-    let b = spaced(line, a.cursor, BYTE);
-    Fields {
-        first: a.value,
-        second: b.value,
-        parts: read_parts(line, b.cursor, 1, 1, parts),
-    }
-}
-
-// A sheet and a part behind it.
-pub(crate) fn sheet_and_part(line: &[u8], c: Cursor, parts: &mut [u8]) -> Fields {
-    Fields {
-        first: 0,
-        second: 0,
-        parts: read_parts(line, c, 2, 2, parts),
-    }
-}
-
-// A number and two, three or four parts.
-pub(crate) fn number_and_parts(line: &[u8], c: Cursor, most: u32, parts: &mut [u8]) -> Fields {
-    let n = spaced(line, c, most);
-    Fields {
-        first: n.value,
-        second: 0,
-        parts: read_parts(line, n.cursor, 2, MOST_PARTS, parts),
-    }
-}
-
-// Two bytes.
-pub(crate) fn two_bytes(line: &[u8], c: Cursor) -> Fields {
-    let a = spaced(line, c, BYTE);
-    let b = read_number(line, a.cursor, BYTE);
-    Fields {
-        first: a.value,
-        second: b.value,
-        parts: no_parts(line, b.cursor),
-    }
+// The case that a line is, with a room of at most so many bytes; its parts are put into a buffer.
+pub(crate) fn read_case<'a>(
+    line: &[u8],
+    most: usize,
+    buffer: &'a mut [u8],
+) -> Result<Case<'a>, Unreadable> {
+    let mut reader = Reader { rest: line };
+    let mut parts = Parts::new(buffer);
+    let service = reader.service()?;
+    let case = reader.fields(service, most, &mut parts)?;
+    reader.end()?;
+    Ok(case)
 }

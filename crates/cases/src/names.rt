@@ -1,7 +1,8 @@
 // The services by name.
+use crate::reader::{Reader, Unreadable};
+
 #[derive(Clone, Copy)]
-pub enum Service {
-    Unknown,
+pub(crate) enum Service {
     Judge,
     Certify,
     Build,
@@ -15,54 +16,40 @@ pub enum Service {
     Limits,
 }
 
-// A service, and the place behind its name; for an unknown one, the first place at which the line
-// is no name's beginning any more.
-#[derive(Clone, Copy)]
-pub struct Found {
-    pub service: Service,
-    pub at: usize,
-}
+// To a name belongs the space behind it where fields follow.
+const NAMES: [(&[u8], Service); 11] = [
+    (b"judge ", Service::Judge),
+    (b"certify ", Service::Certify),
+    (b"build ", Service::Build),
+    (b"refusal ", Service::Refusal),
+    (b"part ", Service::Part),
+    (b"transfer ", Service::Transfer),
+    (b"desk ", Service::Desk),
+    (b"word ", Service::Word),
+    (b"write ", Service::Write),
+    (b"house ", Service::House),
+    (b"limits", Service::Limits),
+];
 
 // How many bytes of a line are the first ones of a name.
 fn agreed(line: &[u8], name: &[u8]) -> usize {
-    let mut i = 0;
-    while i < name.len() && i < line.len() && line[i] == name[i] {
-        i += 1;
-    }
-    i
+    line.iter().zip(name).take_while(|(a, b)| a == b).count()
 }
 
-// The service where the line begins with its name, else the other, or how far the line is this
-// name's beginning where that is farther.
-fn named_or(line: &[u8], name: &[u8], service: Service, other: Found) -> Found {
-    let at = agreed(line, name);
-    if at == name.len() {
-        Found { service, at }
-    } else if other.at < at {
-        Found {
-            service: Service::Unknown,
-            at,
+impl Reader<'_> {
+    // The service whose name stands next. Where none does, the line cannot be read from the first byte
+    // on with which no name goes on.
+    pub(crate) fn service(&mut self) -> Result<Service, Unreadable> {
+        let mut most = 0;
+        for (name, service) in NAMES {
+            if let Some(rest) = self.rest.strip_prefix(name) {
+                self.rest = rest;
+                return Ok(service);
+            }
+            most = most.max(agreed(self.rest, name));
         }
-    } else {
-        other
+        Err(Unreadable {
+            left: self.rest.len().saturating_sub(most),
+        })
     }
-}
-
-// The service that a line names. To the name belongs the space behind it where fields follow.
-pub(crate) fn named(line: &[u8]) -> Found {
-    let none = Found {
-        service: Service::Unknown,
-        at: 0,
-    };
-    let a = named_or(line, b"judge ", Service::Judge, none);
-    let b = named_or(line, b"certify ", Service::Certify, a);
-    let c = named_or(line, b"build ", Service::Build, b);
-    let d = named_or(line, b"refusal ", Service::Refusal, c);
-    let e = named_or(line, b"part ", Service::Part, d);
-    let f = named_or(line, b"transfer ", Service::Transfer, e);
-    let g = named_or(line, b"desk ", Service::Desk, f);
-    let h = named_or(line, b"word ", Service::Word, g);
-    let i = named_or(line, b"write ", Service::Write, h);
-    let j = named_or(line, b"house ", Service::House, i);
-    named_or(line, b"limits", Service::Limits, j)
 }

@@ -1,240 +1,179 @@
 // Reading a part: bytes, runs of them and records, put into a buffer one behind the other.
-use crate::buffers::fill;
-use crate::numbers::{BYTE, Cursor, Decimal, expect, failed_at, next_is, read_number};
-use sheet::{HEADER, byte, header_of, put};
+ghost use Rattle.std.specs.Prelude.{◌+◌, ◌-◌, ◌<◌, ◌≤◌, ◌≡◌, length, IfOk, OnOk};
 
-// The largest kind, and the largest length in a header, which is the largest number that is read.
-pub const KIND: u32 = 65_535;
+use crate::reader::{BYTE, KIND, LENGTH, Reader, Unreadable};
+use sheet::{HEADER, header_of, put};
 
-const LENGTH: u32 = u32::MAX;
-
-// Where reading has come to, and how many bytes of the buffer are used.
-#[derive(Clone, Copy)]
-pub struct Filled {
-    pub cursor: Cursor,
-    pub used: usize,
+// The parts of a case: a buffer behind those that are read, and how many of its first bytes the one has
+// that is read now. The buffer is lent, since programs have no heap.
+#[derive(Drop)]
+pub(crate) struct Parts<'a> {
+    buffer: &'a mut [u8],
+    used: usize,
+    ghost in_bounds: { used ≤ length buffer.now },
 }
 
-// The length for a record's header, where one is given.
-#[derive(Clone, Copy)]
-struct Length {
-    given: bool,
-    value: u32,
-    cursor: Cursor,
-}
+impl<'a> Parts<'a> {
+    pub(crate) fn new(buffer: &'a mut [u8]) -> Self {
+        Parts { buffer, used: 0 }
+    }
 
-// How many bytes of a buffer are left; none where more are used than it has.
-fn left(parts: &[u8], used: usize) -> usize {
-    if parts.len() < used {
-        0
-    } else {
-        parts.len() - used
+    // How many bytes of the buffer are left.
+    fn left(&self) -> usize
+        ensures { result ≡ length self.now.buffer.now - self.now.used }
+    {
+        self.buffer.len() - self.used
+    }
+
+    // Puts a byte behind the part, many times.
+    fn push(&mut self, b: u8, count: usize)
+        requires { count ≤ length self.old.buffer.now - self.old.used }
+    {
+        let end = self.used + count;
+        self.buffer[self.used..end].fill(b);
+        self.used = end;
+    }
+
+    // The part, which is read to its end; the next one begins behind it.
+    fn finished(&mut self) -> &'a [u8] {
+        let size = self.used;
+        self.used = 0;
+        self.buffer.split_off_mut(..size).unwrap_or(&mut [])
     }
 }
 
 // A number of bytes in 32 bits; the largest such number where there are more.
 fn narrow(bytes: usize) -> u32 {
-    if bytes < LENGTH as usize {
-        bytes as u32
-    } else {
-        LENGTH
-    }
+    u32::try_from(bytes).unwrap_or(u32::MAX)
 }
 
-// How many are left, as the limit of a number that is read.
-pub(crate) fn limit(parts: &[u8], used: usize) -> u32 {
-    narrow(left(parts, used))
-}
-
-// Puts a byte many times where all of them fit, else not at all; gives how many bytes are used then.
-fn put_run(b: u8, count: usize, used: usize, parts: &mut [u8]) -> usize {
-    if parts.len() < used {
-        return used;
-    }
-    if parts.len() - used < count {
-        return used;
-    }
-    let end = used + count;
-    fill(b, &mut parts[used..end]);
-    end
-}
-
-// How often a byte is meant, by what stands behind it: `*N`, or nothing for once.
-fn read_times(line: &[u8], c: Cursor, most: u32) -> Decimal {
-    if next_is(line, c, b'*') {
-        read_number(line, expect(line, c, b'*'), most)
-    } else if most == 0 {
-        Decimal {
-            value: 0,
-            cursor: failed_at(c.at),
-        }
-    } else {
-        Decimal {
-            value: 1,
-            cursor: c,
+impl Reader<'_> {
+    // How often a byte is meant, by what stands behind it: `*N`, or nothing for once.
+    fn times(&mut self, most: usize) -> Result<usize, Unreadable>
+        ensures value { IfOk result (λ n. n ≤ most) }
+        ensures no_longer { OnOk result (length self.new.rest.now ≤ length self.old.rest.now) }
+    {
+        if self.accept(b'*') {
+            self.number(most)
+        } else if most == 0 {
+            Err(self.unreadable())
+        } else {
+            Ok(1)
         }
     }
-}
 
-// `B` or `B*N`.
-fn read_run(line: &[u8], f: Filled, parts: &mut [u8]) -> Filled {
-    let b = read_number(line, f.cursor, BYTE);
-    let n = read_times(line, b.cursor, limit(parts, f.used));
-    let used = put_run((b.value % 256) as u8, n.value as usize, f.used, parts);
-    let cursor = n.cursor;
-    Filled { cursor, used }
-}
-
-// Runs with a space before each but the first. No line has more of them than bytes.
-fn read_runs(line: &[u8], f: Filled, parts: &mut [u8]) -> Filled {
-    let mut filled = read_run(line, f, parts);
-    let mut turns = line.len();
-    while turns > 0 && next_is(line, filled.cursor, b' ') {
-        let cursor = expect(line, filled.cursor, b' ');
-        let used = filled.used;
-        filled = read_run(line, Filled { cursor, used }, parts);
-        turns -= 1;
+    // `B` or `B*N`.
+    fn run(&mut self, parts: &mut Parts<'_>) -> Result<(), Unreadable>
+        ensures { OnOk result (length self.new.rest.now < length self.old.rest.now) }
+    {
+        let b = self.number(BYTE)? as u8;
+        let count = self.times(parts.left())?;
+        parts.push(b, count);
+        Ok(())
     }
-    filled
-}
 
-// `:LEN`, or nothing.
-fn read_length(line: &[u8], c: Cursor) -> Length {
-    if next_is(line, c, b':') {
-        let n = read_number(line, expect(line, c, b':'), LENGTH);
-        let cursor = n.cursor;
-        Length {
-            given: true,
-            value: n.value,
-            cursor,
+    // Runs with a space before each but the first: a `while`, since reading tells whether one more is
+    // there.
+    fn runs(&mut self, parts: &mut Parts<'_>) -> Result<(), Unreadable>
+        ensures { OnOk result (length self.new.rest.now < length self.old.rest.now) }
+    {
+        self.run(parts)?;
+        while self.accept(b' ') {
+            self.run(parts)?;
         }
-    } else {
-        Length {
-            given: false,
-            value: 0,
-            cursor: c,
+        Ok(())
+    }
+
+    // `:LEN`, or nothing.
+    fn length(&mut self) -> Result<Option<u32>, Unreadable>
+        ensures { OnOk result (length self.new.rest.now ≤ length self.old.rest.now) }
+    {
+        if self.accept(b':') {
+            Ok(Some(self.number(LENGTH)? as u32))
+        } else {
+            Ok(None)
         }
     }
-}
 
-// A payload behind its space: runs, `-` or nothing.
-fn read_spaced_payload(line: &[u8], f: Filled, parts: &mut [u8]) -> Filled {
-    let used = f.used;
-    if next_is(line, f.cursor, b'}') {
-        return f;
+    // What stands in a record behind its kind and length: nothing, or a space and behind it nothing, `-`
+    // or runs.
+    fn payload(&mut self, parts: &mut Parts<'_>) -> Result<(), Unreadable>
+        ensures { OnOk result (length self.new.rest.now ≤ length self.old.rest.now) }
+    {
+        if self.next_is(b'}') {
+            return Ok(());
+        }
+        self.expect(b' ')?;
+        if self.next_is(b'}') || self.accept(b'-') {
+            return Ok(());
+        }
+        self.runs(parts)
     }
-    if next_is(line, f.cursor, b'-') {
-        let cursor = expect(line, f.cursor, b'-');
-        return Filled { cursor, used };
+
+    // `{K ..}` or `{K:LEN ..}`, where there is room for its header, whose place is kept free while the
+    // payload is read.
+    fn record(&mut self, parts: &mut Parts<'_>) -> Result<(), Unreadable>
+        ensures { OnOk result (length self.new.rest.now < length self.old.rest.now) }
+    {
+        if parts.left() < HEADER {
+            return Err(self.unreadable());
+        }
+        self.expect(b'{')?;
+        let kind = self.number(KIND)? as u16;
+        let given = self.length()?;
+        let start = parts.used;
+        parts.push(0, HEADER);
+        let from = parts.used;
+        self.payload(parts)?;
+        let length = given.unwrap_or(narrow(parts.used.saturating_sub(from)));
+        put(&header_of(kind, length), start, parts.buffer);
+        self.expect(b'}')
     }
-    read_runs(line, f, parts)
-}
 
-// What stands in a record behind its kind and length.
-fn read_payload(line: &[u8], f: Filled, parts: &mut [u8]) -> Filled {
-    if next_is(line, f.cursor, b'}') {
-        return f;
+    // A record or a run; says whether it was a record.
+    fn item(&mut self, parts: &mut Parts<'_>) -> Result<bool, Unreadable>
+        ensures { OnOk result (length self.new.rest.now < length self.old.rest.now) }
+    {
+        let is_record = self.next_is(b'{');
+        if is_record {
+            self.record(parts)?;
+        } else {
+            self.run(parts)?;
+        }
+        Ok(is_record)
     }
-    let cursor = expect(line, f.cursor, b' ');
-    let used = f.used;
-    read_spaced_payload(line, Filled { cursor, used }, parts)
-}
 
-// The header of a record whose payload lies between two places; its length is that of the payload
-// where none is given.
-fn header(kind: Decimal, length: Length, from: usize, end: usize) -> [u8; HEADER] {
-    let number = (kind.value % 65_536) as u16;
-    if length.given {
-        header_of(number, length.value)
-    } else if end < from {
-        header_of(number, 0)
-    } else {
-        header_of(number, narrow(end - from))
+    // Whether the ` /` before the next part stands here; behind the last one it is not looked for.
+    fn is_divided(&self, last: bool) -> bool {
+        !last && self.rest.starts_with(b" /")
     }
-}
 
-// A record behind its brace. The header's place is kept free while the payload is read, whose
-// length it has.
-fn read_body(line: &[u8], f: Filled, parts: &mut [u8]) -> Filled {
-    let kind = read_number(line, f.cursor, KIND);
-    let length = read_length(line, kind.cursor);
-    let cursor = length.cursor;
-    let from = put_run(0, HEADER, f.used, parts);
-    let filled = read_payload(line, Filled { cursor, used: from }, parts);
-    let bytes = header(kind, length, from, filled.used);
-    put(&bytes, f.used, parts);
-    filled
-}
-
-// `{K ..}` or `{K:LEN ..}`, where there is room for its header.
-fn read_record(line: &[u8], f: Filled, parts: &mut [u8]) -> Filled {
-    if left(parts, f.used) < HEADER {
-        let cursor = failed_at(f.cursor.at);
-        let used = f.used;
-        return Filled { cursor, used };
+    // Whether one more item begins here: a record right behind another, or any behind a space, which is
+    // read.
+    fn goes_on(&mut self, behind_record: bool, last: bool) -> bool
+        ensures { length self.new.rest.now ≤ length self.old.rest.now }
+    {
+        behind_record && self.next_is(b'{') || !self.is_divided(last) && self.accept(b' ')
     }
-    let opened = expect(line, f.cursor, b'{');
-    let start = Filled {
-        cursor: opened,
-        used: f.used,
-    };
-    let filled = read_body(line, start, parts);
-    let cursor = expect(line, filled.cursor, b'}');
-    let used = filled.used;
-    Filled { cursor, used }
-}
 
-fn read_item(line: &[u8], f: Filled, parts: &mut [u8]) -> Filled {
-    if next_is(line, f.cursor, b'{') {
-        read_record(line, f, parts)
-    } else {
-        read_run(line, f, parts)
+    // Items, one behind the other, likewise.
+    fn items(&mut self, last: bool, parts: &mut Parts<'_>) -> Result<(), Unreadable> {
+        let mut is_record = self.item(parts)?;
+        while self.goes_on(is_record, last) {
+            is_record = self.item(parts)?;
+        }
+        Ok(())
     }
-}
 
-// Whether a record stands next, right behind another.
-fn joined(line: &[u8], c: Cursor) -> bool {
-    0 < c.at && byte(line, c.at - 1) == b'}' && next_is(line, c, b'{')
-}
-
-// Where the next item begins: behind a space, or right here where two records join.
-fn next_item(line: &[u8], c: Cursor) -> Cursor {
-    if joined(line, c) {
-        c
-    } else {
-        expect(line, c, b' ')
+    // A part, the last one that the case can have or not: `-`, or items.
+    pub(crate) fn part<'a>(
+        &mut self,
+        last: bool,
+        parts: &mut Parts<'a>,
+    ) -> Result<&'a [u8], Unreadable> {
+        if !self.accept(b'-') {
+            self.items(last, parts)?;
+        }
+        Ok(parts.finished())
     }
-}
-
-// Whether the ` /` before the next part stands here; behind the last one it is not looked for.
-fn divided(line: &[u8], c: Cursor, last: bool) -> bool {
-    !last && next_is(line, expect(line, c, b' '), b'/')
-}
-
-// Whether one more item begins here.
-fn goes_on(line: &[u8], c: Cursor, last: bool) -> bool {
-    !divided(line, c, last) && (joined(line, c) || next_is(line, c, b' '))
-}
-
-// Items, one behind the other. No line has more of them than bytes.
-fn read_items(line: &[u8], f: Filled, last: bool, parts: &mut [u8]) -> Filled {
-    let mut filled = read_item(line, f, parts);
-    let mut turns = line.len();
-    while turns > 0 && goes_on(line, filled.cursor, last) {
-        let cursor = next_item(line, filled.cursor);
-        let used = filled.used;
-        filled = read_item(line, Filled { cursor, used }, parts);
-        turns -= 1;
-    }
-    filled
-}
-
-// A part, the last one that the case can have or not: `-`, or items.
-pub(crate) fn read_part(line: &[u8], f: Filled, last: bool, parts: &mut [u8]) -> Filled {
-    if next_is(line, f.cursor, b'-') {
-        let cursor = expect(line, f.cursor, b'-');
-        let used = f.used;
-        return Filled { cursor, used };
-    }
-    read_items(line, f, last, parts)
 }

@@ -1,11 +1,13 @@
 -- Chains of alternatives: going on along one, and the loop that does so.
 -- Assumes nothing.
-use Prim.Native.Nat.{ℕ, ◌+◌, ◌<◌}
-use mathlib.Core.Path.{◌≡◌, refl, sym, ◌∙◌}
+use Prim.Native.Nat.{ℕ, ◌≤◌, ◌<◌}
+use mathlib.Core.Path.{◌≡◌, refl, ap, ◌∙◌}
 use mathlib.Core.List.{List}
 use native.Mathlib.Omega.{arith}
-use lib.ListN.{length, get_or}
-use Rattle.certify.specs.Folding.{Past, here, past, Reached, Rising, Rooted}
+use lib.Arith.{lt_of_le-ne}
+use lib.ListN.{length, get_or, set, replicate}
+use Rattle.facts.specs.Lists.{zeros, set_cell}
+use Rattle.certify.specs.Folding.{Past, here, past, Rising}
 
 -- one alternative further
 pub past_on : {xs alt : List ℕ} {c r v : ℕ} → Past xs alt c r v → (get_or xs v 0 ≡ c → ⊥) → (get_or alt v 0 ≡ 0 → ⊥)
@@ -19,23 +21,30 @@ pub record Along (xs alt : List ℕ) (r c v : ℕ) : Type 0 where
   pub path : Past xs alt c r v
 
 module _ {xs alt : List ℕ} {r c v : ℕ} (h : Along xs alt r c v) where
-  -- the chain ends here, or this place has the command
-  pub along_last : {u : ℕ} → u ≡ get_or alt v 0 → u ≡ 0 → Reached xs alt c r v
-  along_last e z = record { path = h.path; inside = h.inside; last = λ o. sym e ∙ z }
-
-  pub along_found : get_or xs v 0 ≡ c → Reached xs alt c r v
-  along_found e = record { path = h.path; inside = h.inside; last = λ o. absurd (o e) }
-
   module _ (rising : Rising xs alt) {u : ℕ} (e : u ≡ get_or alt v 0) (n : u ≡ 0 → ⊥) where
-    pub along_less : (v < u) × (u < length xs)
+    along_less : (v < u) × (u < length xs)
     along_less = rw e (rising v (λ q. n (e ∙ q)))
 
     -- one alternative further
     pub along_on : (get_or xs v 0 ≡ c → ⊥) → Along xs alt r c u
     along_on o = record { inside = along_less.1; path = rw e (past_on h.path o (λ q. n (e ∙ q))) }
 
--- a state's representative is a place with a command
-pub rooted_inside : {root root' : List ℕ} {s t r bound : ℕ} → t < bound
-    → ((x y : ℕ) → get_or root x 0 ≡ y + 1 → y < bound) → Rooted root s t root' r → r < bound
-rooted_inside l h (Rooted.first z re e) = omega arith
-rooted_inside l h (Rooted.again e re) = h _ _ e
+-- no place has an alternative yet
+pub rising_none : (xs : List ℕ) (n : ℕ) → Rising xs (replicate n 0)
+rising_none xs n v o = absurd (o (zeros n v))
+
+-- places that differ in their commands are not one
+pub below : (xs : List ℕ) (v t : ℕ) → v ≤ t → (get_or xs v 0 ≡ get_or xs t 0 → ⊥) → v < t
+below xs v t l o = lt_of_le-ne l (λ e. o (ap (λ (i : ℕ). get_or xs i 0) e))
+
+module _ {xs alt : List ℕ} {t : ℕ} (upto : (v : ℕ) → get_or alt v 0 ≤ t) where
+  pub past_upto : {c r v : ℕ} → Past xs alt c r v → r ≤ t → v ≤ t
+  past_upto (here e) l = omega arith
+  past_upto (past o n k) l = past_upto k (upto _)
+
+  -- t becomes the alternative of a place that has another command
+  pub rising_on : {c r v : ℕ} → Rising xs alt → Past xs alt c r v → r ≤ t → t < length xs
+      → (get_or xs v 0 ≡ get_or xs t 0 → ⊥) → v < length alt → Rising xs (set alt v t)
+  rising_on {v = v} h k rl tl o vl =
+      set_cell (λ u x. (x ≡ 0 → ⊥) → (u < x) × (x < length xs)) alt v t vl
+      (λ u q. h u) (λ n. (below xs v t (past_upto k rl) o, tl))

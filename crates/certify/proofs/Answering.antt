@@ -7,17 +7,14 @@ use mathlib.Core.List.{List, ◌++◌}
 use native.Mathlib.Omega.{arith}
 use lib.ListN.{length, get_or, drop}
 use Rattle.facts.specs.Numbers.{digits_one}
-use Rattle.sheet.specs.declared.check.Check.{Check}
-use Rattle.sheet.specs.declared.check.Check.TheVariants.{Clear, Refused}
-use Rattle.sheet.specs.Check.{first_cause}
+use Rattle.sheet.specs.Check.{first_cause, Check, Clear, Refused}
+use Rattle.certify.specs.Answer.{Answer}
 use Rattle.sheet.specs.Reader.{word_in, sequence_in}
 use Rattle.machine.specs.Limits.{most_sequence, most_entries}
 use Rattle.machine.specs.declared.machine.Machine.{Machine}
 use Rattle.machine.specs.Machine.{Mealy, meaning, Proper, Commands}
 use Rattle.machine.specs.Machine.Laws.{meaning_states, meaning_commands, proper_entries}
 use Rattle.machine.specs.Causes.{machine_in}
-use Rattle.certify.specs.declared.answer.Answer.{Answer}
-use Rattle.certify.specs.declared.answer.Answer.TheVariants.{Refused as RefusedAnswer}
 use Rattle.certify.specs.Recognition.{OccursAt}
 use Rattle.certify.specs.Recognition.Laws.{closure_more}
 use Rattle.certify.specs.Marks.{marks_by, count, occurs_at, marks}
@@ -95,7 +92,7 @@ module _ (M : Mealy) (w xs : List ℕ) {given ms known : List ℕ} (proper : Pro
 
 -- ---- the promise
 pub certifies_refused : (s before : List ℕ) {c : Check} {n p : ℕ} → c ≡ first_cause (certify_causes (length before) s)
-    → c ≡ Refused n p → Certifies s before before (RefusedAnswer n p)
+    → c ≡ Refused n p → Certifies s before before (Refused n p)
 certifies_refused s before ce e =
     certifies s before (sym (certification_refused (length before) s (sym ce ∙ e)))
     (sym (after_refused s before (sym ce ∙ e)))

@@ -1,9 +1,10 @@
 -- The values of certifying's answer are small: places of refusals lie inside the longest sheet, counts at most N+1,
 -- open numbers at most n·k. So the capture rig's number holds each of them in its own bits.
+use Rattle.std.specs.Prelude.{Err}
 use Rattle.std.specs.Prelude.{ℕ, ◌+◌, ◌≤◌, ◌≡◌, refl, false, List}
 use Rattle.std.proofs.Common.{arith}
-use Rattle.sheet.specs.declared.check.Check.TheVariants.{Clear}
-use Rattle.sheet.specs.Check.{first_cause}
+use Rattle.sheet.specs.Check.{first_cause, Clear}
+use Rattle.certify.specs.Answer.{Answer, Certified, Open}
 use Rattle.sheet.specs.Values.{Fits}
 use Rattle.sheet.specs.Reader.{word_in, sequence_in}
 use Rattle.machine.specs.Limits.{most_sequence}
@@ -11,8 +12,6 @@ use Rattle.machine.specs.Machine.{Mealy}
 use Rattle.machine.specs.Machine.Laws.{proper_entries}
 use Rattle.machine.specs.Causes.{machine_in}
 use Rattle.machine.specs.Causes.Lists.{load_proper}
-use Rattle.certify.specs.declared.answer.Answer.{Answer}
-use Rattle.certify.specs.declared.answer.Answer.TheVariants.{Certified, Open, Refused as RefusedAnswer}
 use Rattle.certify.specs.Recognition.{RecognisedNumber}
 use Rattle.certify.specs.Recognition.Laws.{open_small}
 use Rattle.certify.specs.Marks.{marks}
@@ -54,9 +53,9 @@ certification_fits room s = go (certification room s) refl
             proper_entries (machine_in s) proper,
           );
         })
-    go (RefusedAnswer n p) e =
+    go (Err r) e =
         rw e (record {
-          place = omega (arith, (marking_small false room s n p (((certification_says room s).refused n p).0 e)).place);
+          place = omega (arith, (marking_small false room s r.number r.place (((certification_says room s).refused r.number r.place).0 e)).place);
           a = omega arith;
           b = omega arith;
         })

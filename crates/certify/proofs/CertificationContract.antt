@@ -1,17 +1,15 @@
 -- The contract of certifying holds of the definitions: what the answer says, and what stands in the buffer.
+use Rattle.std.specs.Prelude.{Err}
 use Rattle.std.specs.Prelude.{ℕ, ◌≡◌, refl, List, length, get_or, drop}
 use Rattle.std.proofs.Common.{ap, ◌∙◌, inl, inr, arith}
 use Rattle.std.proofs.Math.Seq.{take-append_seam, drop-append_seam}
 use Rattle.facts.specs.Numbers.{bit_zero, equal_or_not}
-use Rattle.sheet.specs.declared.check.Check.{Check}
-use Rattle.sheet.specs.declared.check.Check.TheVariants.{Clear, Refused}
-use Rattle.sheet.specs.Check.{first_cause}
+use Rattle.sheet.specs.Check.{first_cause, Check, Clear}
+use Rattle.certify.specs.Answer.{Answer, Certified as CertifiedAnswer, Open}
 use Rattle.sheet.specs.Values.Laws.{returns_specified}
 use Rattle.sheet.specs.Reader.{word_in, sequence_in}
 use Rattle.machine.specs.Machine.{Mealy, state_at}
 use Rattle.machine.specs.Causes.{machine_in}
-use Rattle.certify.specs.declared.answer.Answer.{Answer}
-use Rattle.certify.specs.declared.answer.Answer.TheVariants.{Certified as CertifiedAnswer, Open}
 use Rattle.certify.specs.Recognition.{OccursAt, MarksOf, RecognisedNumber}
 use Rattle.certify.specs.Recognition.Laws.{closure_recognised, recognised_closure}
 use Rattle.certify.specs.Marks.{count, marks}
@@ -112,7 +110,7 @@ module _ (s before : List ℕ) where
   later_by : (c : Check) → first_cause (certify_causes (length before) s) ≡ c
       → drop (mark_bytes (sequence_in s)) (marks_after s before) ≡ drop (mark_bytes (sequence_in s)) before
   later_by Clear e = rw (after_clear s before e) (kept_later (machine_in s) (word_in s) (sequence_in s) before)
-  later_by (Refused n p) e = ap (drop (mark_bytes (sequence_in s))) (after_refused s before e)
+  later_by (Err r) e = ap (drop (mark_bytes (sequence_in s))) (after_refused s before e)
 
   holds : Certifies s before (marks_after s before) (certification (length before) s)
   holds = record {

@@ -6,10 +6,8 @@ use Rattle.std.proofs.Math.Bool.{not}
 use Rattle.std.proofs.Math.Logic.{inl, inr}
 use borrow.Author.Tests.{ne_eqb, eqb-false, not-true, not-false}
 use Rattle.facts.specs.Tests.{true_or_false}
-use Rattle.sheet.specs.declared.check.Check.{Check}
-use Rattle.sheet.specs.declared.check.Check.TheVariants.{Clear, Refused}
-use Rattle.sheet.specs.Check.{◌else◌, first}
-use Rattle.sheet.specs.Check.Laws.{absent, present, clear_absent, both_clear, else_clear}
+use Rattle.sheet.specs.Check.{◌else◌, first, Check, Clear, Refused}
+use Rattle.sheet.specs.Check.Laws.{same_refusal, absent, present, clear_absent, both_clear, else_clear}
 use Rattle.sheet.specs.Check.Laws.{else_refused, first_clear, first_clear_at, first_found, Present, first_present}
 use Rattle.sheet.specs.Check.Laws.{present_test}
 use Rattle.machine.specs.Machine.{Mealy}
@@ -103,7 +101,8 @@ module _ (M : Mealy) (w xs : List ℕ) where
     | inr m ↦ (let zero : Refused 11 0 ≡ Refused a v =
         sym (open_in_is M w xs
         ∙ ap (λ (c : Check). c else rows) (present 11 0 (ap not m)) ∙ else_refused 11 0 rows) ∙ e in
-        (cc, start_open (λ r. eqb-false _ _ m (recognised_marked M w xs 0 r)) cc))
+        let same = same_refusal zero in
+        (sym same.0, start_open (λ r. eqb-false _ _ m (recognised_marked M w xs 0 r)) (sym same.1)))
   ]
 
   -- the other direction: an open number is the one that is refused with

@@ -2,7 +2,7 @@
 -- computed from the definitions. The others are in specs/Certification/Twin.antt.
 use Rattle.std.specs.Prelude.{ℕ, ◌≡◌, [], ◌∷◌}
 use Rattle.std.proofs.Common.{◌∙◌}
-use Rattle.certify.specs.declared.answer.Answer.TheVariants.{Open}
+use Rattle.certify.specs.Answer.{Open}
 use Rattle.certify.specs.Marks.Twin.{twin, single, marks_mutual, marks_one, marks_late, marks_single_short}
 use Rattle.certify.specs.Certification.{outcome}
 use Rattle.certify.specs.Certification.Laws.{outcome_of}

@@ -1,6 +1,5 @@
 mod Alternatives
 mod Answering
-mod Behind
 mod Ends
 mod Entries
 mod Following

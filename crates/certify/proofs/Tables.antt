@@ -1,19 +1,20 @@
 -- The tables of a sweep: chains of alternatives and representatives of states, and what going on from place t leaves
 -- of them. Assumes nothing.
-use Prim.Native.Nat.{ℕ, ◌+◌, ◌≤◌, ◌<◌}
+use Prim.Native.Nat.{ℕ, ◌+◌, ◌-◌, ◌≤◌, ◌<◌}
 use mathlib.Core.Path.{◌≡◌, refl, sym, ap, ◌∙◌}
 use mathlib.Core.List.{List}
+use mathlib.Core.Logic.{inl, inr}
 use native.Mathlib.Omega.{arith}
-use lib.Arith.{lt_of_le-ne}
 use lib.ListN.{length, get_or, length-set}
 use lib.Seq.{get_or-set_other}
-use Rattle.facts.specs.Numbers.{bit_one}
+use Rattle.facts.specs.Numbers.{bit_one, equal_or_not}
 use Rattle.facts.specs.Lists.{set_cell}
 use Rattle.machine.specs.Limits.{most_sequence}
 use Rattle.machine.specs.Machine.{Mealy, state_at}
-use Rattle.certify.specs.Folding.{From, Marking, Paired, same, tops, step, Past, here, past, Rising, byte_states}
+use Rattle.certify.specs.Folding.{From, Marking, Paired, same, tops, step, Past, byte_states}
 use Rattle.certify.specs.Folding.{Rooted, Advanced, found, added, Folds}
 use Rattle.certify.specs.Sweep.{NextRepresented}
+use Rattle.certify.proofs.Alternatives.{below, past_upto}
 use Rattle.certify.proofs.Paired.{paired_sym, paired_trans, paired_past}
 
 -- ---- the tables grow
@@ -30,10 +31,6 @@ links_grow (found v k e ae ce) x n = ap (λ (l : List ℕ). get_or l x 0) ae
 links_grow {xs} {alt} {alt'} {r} {t} (added v k o z ae ce) x n =
     ap (λ (l : List ℕ). get_or l x 0) ae ∙ get_or-set_other alt v x t 0 (λ q. n (ap (λ (i : ℕ). get_or alt i 0) q ∙ z))
 
--- v is below t where they have different commands
-pub below : (xs : List ℕ) (v t : ℕ) → v ≤ t → (get_or xs v 0 ≡ get_or xs t 0 → ⊥) → v < t
-below xs v t l o = lt_of_le-ne l (λ e. o (ap (λ (i : ℕ). get_or xs i 0) e))
-
 module _ (M : Mealy) (xs given : List ℕ) where
   -- ---- each alternative is paired with the next, a later place below t
   pub record Linked (alt : List ℕ) (t : ℕ) : Type 0 where
@@ -44,9 +41,14 @@ module _ (M : Mealy) (xs given : List ℕ) where
   pub linked_more : {alt : List ℕ} {t : ℕ} → Linked alt t → Linked alt (t + 1)
   linked_more h = record { long = h.long; links = λ u n. let l = h.links u n in (l.0, omega (arith, l.1), l.2) }
 
+  pub links_upto : {alt : List ℕ} {t : ℕ} → Linked alt t → (v : ℕ) → get_or alt v 0 ≤ t
+  links_upto {alt} h v = elim (equal_or_not (get_or alt v 0) 0) [
+    | inl e ↦ omega arith
+    | inr n ↦ omega (arith, (h.links v n).1)
+  ]
+
   pub past_low : {alt : List ℕ} {t : ℕ} → Linked alt t → {c r v : ℕ} → Past xs alt c r v → r ≤ t → v ≤ t
-  past_low h (here e) l = omega arith
-  past_low h (past o n k) l = past_low h k (omega (arith, (h.links _ n).1))
+  past_low h = past_upto (links_upto h)
 
   -- ---- the representative of a state is a place of it below t, in the closure
   pub record Topped (root : List ℕ) (t : ℕ) : Type 0 where
@@ -56,15 +58,18 @@ module _ (M : Mealy) (xs given : List ℕ) where
   pub topped_more : {root : List ℕ} {t : ℕ} → Topped root t → Topped root (t + 1)
   topped_more h = record { long = h.long; tops = λ x y d. let l = h.tops x y d in (omega (arith, l.0), l.1, l.2) }
 
+  pub roots_upto : {root : List ℕ} {t : ℕ} → Topped root t → (x : ℕ) → get_or root x 0 ≤ t
+  roots_upto {root} h x = elim (equal_or_not (get_or root x 0) 0) [
+    | inl e ↦ omega arith
+    | inr n ↦ omega (arith, (h.tops x (get_or root x 0 - 1) (omega arith)).0)
+  ]
+
   -- ---- both fold places
   pub folding : {alt root : List ℕ} {t : ℕ} → t ≤ length xs → Linked alt t → Topped root t → Folds M xs given alt root
   folding l h k = record {
     links = λ v n. (h.links v n).2;
     roots = λ s r e. let q = k.tops s r e in (omega (arith, q.0), q.1, q.2);
   }
-
-  pub rising : {alt : List ℕ} {t : ℕ} → t ≤ length xs → Linked alt t → Rising xs alt
-  rising l h v n = let q = h.links v n in (q.0, omega (arith, q.1))
 
   -- ---- going on from t
   -- the tables up to t, and the place that the sweep comes to t + 1 from

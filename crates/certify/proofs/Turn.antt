@@ -14,13 +14,13 @@ use Rattle.machine.specs.Limits.{most_entries, most_sequence}
 use Rattle.machine.specs.Machine.{Mealy, state_at}
 use Rattle.certify.specs.Folding.{Paired, Past, byte_states, Rooted, Advanced, found, added}
 use Rattle.certify.specs.Sweep.{place_entry, Merged, Learnt, NextRepresented, SweepRequires}
-use Rattle.certify.proofs.Alternatives.{past_on}
+use Rattle.certify.proofs.Alternatives.{past_on, below}
 use Rattle.certify.proofs.Entries.{Learning, learning, learnt_still}
 use Rattle.certify.proofs.Growing.{marking_flat}
 use Rattle.certify.proofs.Marking.{was_zero}
 use Rattle.certify.proofs.Represented.{Rep, top, Comes, from, between, comes_rep, Walked, comes_walked}
 use Rattle.certify.proofs.Represented.{past_grows, rep_grows, walked_grows}
-use Rattle.certify.proofs.Tables.{roots_grow, links_grow, below, Linked, past_low, Topped, gone}
+use Rattle.certify.proofs.Tables.{roots_grow, links_grow, Linked, past_low, Topped, gone}
 
 -- nothing changed where cur and t merged: their marks are equal
 pub merged_still : {M : Mealy} {xs ms ms' : List ℕ} {cur t : ℕ} {changed changed' : Bool}

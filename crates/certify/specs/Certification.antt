@@ -4,24 +4,22 @@
 -- Certification.Laws has the laws of causes, answer and buffer (those by the rules in proofs/CertificationLaws.antt),
 -- proofs/CertificationBounds.antt how large the values are, Certification.Program what the program's own functions
 -- need; Certification.Twin and proofs/CertificationTwin.antt compute the starred sequences.
+use Rattle.std.specs.Prelude.{Err}
 use Rattle.std.specs.Prelude.{ℕ, ◌+◌, ◌*◌, ◌≡◌, Bool, true, false, not, ◌&&◌, List, [], ◌∷◌, ◌++◌, ◌↔◌, eqb, length}
 use Rattle.std.specs.Prelude.{get_or, take, drop}
-use Rattle.sheet.specs.declared.check.Check.{Check}
-use Rattle.sheet.specs.declared.check.Check.TheVariants.{Clear, Refused}
+use Rattle.sheet.specs.Check.{unless_refused, Check, Clear, Refused, refusal◌with◌if◌, ◌else◌, first_cause, first}
+use Rattle.sheet.specs.Check.{refused_or}
+use Rattle.sheet.specs.Promise.{cause9}
+use Rattle.certify.specs.Answer.{Answer, Certified as CertifiedAnswer, Open}
 use Rattle.sheet.specs.declared.check.Values.{Values}
 use Rattle.sheet.specs.declared.reader.Needs.{Needs}
-use Rattle.sheet.specs.Check.{refusal◌with◌if◌, ◌else◌, first_cause, first, refused_or, unless_refused}
 use Rattle.sheet.specs.Values.{refusal_values, Returns}
 use Rattle.sheet.specs.Format.{standard}
 use Rattle.sheet.specs.Reader.{word_in, sequence_in, records_in}
 use Rattle.sheet.specs.Writing.{written}
-use Rattle.sheet.specs.Promise.{cause9}
 use Rattle.machine.specs.declared.loading.Loaded.{Loaded}
 use Rattle.machine.specs.Machine.{Mealy, state_at, meaning}
 use Rattle.machine.specs.Causes.{machine_in, load_causes}
-use Rattle.certify.specs.declared.answer.Answer.{Answer}
-use Rattle.certify.specs.declared.answer.Answer.TheVariants.{Certified as CertifiedAnswer, Open}
-use Rattle.certify.specs.declared.answer.Answer.TheVariants.{Refused as RefusedAnswer}
 use Rattle.certify.specs.Recognition.{Certified, OpenNumber, MarksOf, RecognisedNumber}
 use Rattle.certify.specs.Marks.{any, marked, count, marks}
 pub mod Laws
@@ -73,7 +71,7 @@ open_in M w xs = open_cause M xs (marks M w xs)
 -- certified where there is no open number, else open (§5.4); both with the number of recognised places
 abbrev pub answer_of : Check → ℕ → Answer
 answer_of Clear recognised = CertifiedAnswer recognised
-answer_of (Refused number place) recognised = Open recognised place
+answer_of (Err r) recognised = Open recognised r.place
 
 -- what certifying answers where nothing is refused (§5.4)
 pub outcome : Mealy → List ℕ → List ℕ → Answer
@@ -83,7 +81,7 @@ outcome M w xs = answer_of (open_in M w xs) (count (marks M w xs))
 -- what certifying answers to a sheet and a room for marks (§4.1, §5.4)
 pub certification : ℕ → List ℕ → Answer
 certification room s =
-    refused_or RefusedAnswer (first_cause (certify_causes room s)) (outcome (machine_in s) (word_in s) (sequence_in s))
+    refused_or Refused (first_cause (certify_causes room s)) (outcome (machine_in s) (word_in s) (sequence_in s))
 
 -- marks in a buffer (§5.4): one byte each, written to its start, and the bytes after them keep their values
 unfoldable pub kept : List ℕ → List ℕ → List ℕ
@@ -105,7 +103,7 @@ kept_in xs buffer = take (mark_bytes xs) buffer
 abbrev pub values_of : Answer → Values
 values_of (CertifiedAnswer recognised) = record { class = 110; place = recognised; a = 0; b = 0 }
 values_of (Open recognised number) = record { class = 111; place = recognised; a = 0; b = number }
-values_of (RefusedAnswer number place) = refusal_values number place
+values_of (Err r) = refusal_values r.number r.place
 
 -- certified with a number (§5.4): no cause is present, the rules certify the sequence, and so many places are
 -- recognised
@@ -124,7 +122,7 @@ pub record OpenWith (room : ℕ) (s : List ℕ) (recognised v : ℕ) : Type 0 wh
 pub record Says (room : ℕ) (s : List ℕ) (a : Answer) : Type 0 where
   pub certified : (n : ℕ) → (a ≡ CertifiedAnswer n) ↔ CertifiedWith room s n
   pub opened : (n v : ℕ) → (a ≡ Open n v) ↔ OpenWith room s n v
-  pub refused : (n p : ℕ) → (a ≡ RefusedAnswer n p) ↔ (first_cause (certify_causes room s) ≡ Refused n p)
+  pub refused : (n p : ℕ) → (a ≡ Refused n p) ↔ (first_cause (certify_causes room s) ≡ Refused n p)
 
 -- a sheet that was loaded, with its machine and its records, where certifying into this room refuses nothing
 pub record Certifiable (s : List ℕ) (room : ℕ) (l : Loaded) : Type 0 where
@@ -141,4 +139,4 @@ pub record Certifies (s before after : List ℕ) (a : Answer) : Type 0 where
   pub marked : first_cause (certify_causes (length before) s) ≡ Clear
       → MarksOf (machine_in s) (word_in s) (sequence_in s) (kept_in (sequence_in s) after)
   pub later : drop (mark_bytes (sequence_in s)) after ≡ drop (mark_bytes (sequence_in s)) before
-  pub unwritten : (n p : ℕ) → a ≡ RefusedAnswer n p → after ≡ before
+  pub unwritten : (n p : ℕ) → a ≡ Refused n p → after ≡ before

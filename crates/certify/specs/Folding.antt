@@ -1,6 +1,6 @@
 -- What the certifier's own functions promise each other about folding places and the tables for it. Nothing here has to
 -- be believed: the service's contract does not name it.
-use Rattle.std.specs.Prelude.{ℕ, ◌+◌, ◌*◌, ◌<◌, ◌≡◌, List, length, get_or, set}
+use Rattle.std.specs.Prelude.{ℕ, ◌+◌, ◌<◌, ◌≡◌, List, length, get_or, set}
 use Rattle.machine.specs.Machine.{Mealy, state_at}
 use Rattle.certify.specs.Recognition.{Closure}
 use Rattle.certify.specs.Marks.{Bits}
@@ -70,8 +70,3 @@ pub data Advanced (xs alt : List ℕ) (r t : ℕ) (alt' : List ℕ) (cur : ℕ) 
 pub record Folds (M : Mealy) (xs given alt root : List ℕ) : Type 0 where
   pub links : (v : ℕ) → (get_or alt v 0 ≡ 0 → ⊥) → Paired M xs given v (get_or alt v 0)
   pub roots : (s r : ℕ) → get_or root s 0 ≡ r + 1 → (r < length xs) × (From M xs given r) × (state_at M xs r ≡ s)
-
--- the machine's next states, of a table
-pub record NextTable (M : Mealy) (k : ℕ) (next : List ℕ) : Type 0 where
-  pub commands : M.k ≡ k
-  pub states : (s c : ℕ) → M.next s c ≡ get_or next (s * k + c) 0

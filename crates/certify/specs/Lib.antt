@@ -1,3 +1,4 @@
+pub mod Answer
 pub mod Recognition
 pub mod Marks
 pub mod Certification

@@ -5,14 +5,16 @@ use Rattle.machine.specs.Limits.{most_sequence, most_entries}
 use Rattle.machine.specs.Machine.{Mealy, state_at, Proper, Commands}
 use Rattle.certify.specs.Marks.{Bits}
 use Rattle.certify.specs.Marks.Agreement.{ByRule2, Exact}
-use Rattle.certify.specs.Folding.{MarkedIn, From, Marking, Risen, Paired, Folds, Rooted, Advanced, NextTable}
+use Rattle.certify.specs.Folding.{MarkedIn, From, Marking, Risen, Paired, Folds, Rooted, Advanced}
 
 -- ---- the steps at a place t
 -- what is asked where the sweep comes to t from cur: both are paired, and the tables fold places
-pub record MergeRequires (M : Mealy) (xs ms next alt root : List ℕ) (k s cur t : ℕ) : Type 0 where
-  pub next_table : NextTable M k next
+pub record MergeRequires (M : Mealy) (xs ms alt root : List ℕ) (s cur t : ℕ) : Type 0 where
   pub folds : Folds M xs ms alt root
+  pub long : length ms ≡ length xs + 1
   pub bits : Bits ms
+  pub low_cur : cur ≤ t
+  pub place : t ≤ length xs
   pub pair : Paired M xs ms cur t
   pub state : s ≡ state_at M xs t
 
@@ -37,6 +39,14 @@ pub data Learnt (apply : Bool) (ms known : List ℕ) (e t : ℕ) (changed : Bool
       → Learnt apply ms known e t changed ms' known' changed'
   applies : (get_or ms t 0 ≡ 0 → ⊥) → get_or ms (t + 1) 0 ≡ 0 → (get_or known e 0 ≡ 0 → ⊥) → ms' ≡ set ms (t + 1) 1
       → known' ≡ known → changed' ≡ true → Learnt apply ms known e t changed ms' known' changed'
+
+-- what is asked where it goes on from t: the tables hold places before t
+pub record NextRequires (xs ms alt root : List ℕ) (t cur : ℕ) : Type 0 where
+  pub long : length ms ≡ length xs + 1
+  pub low_cur : cur ≤ t
+  pub place : t < length xs
+  pub alternatives : (v : ℕ) → get_or alt v 0 ≤ t
+  pub representatives : (x : ℕ) → get_or root x 0 ≤ t
 
 -- where the sweep comes to t + 1 from: an unmarked t is represented by cur, a marked one by its state's place; between
 -- two marked places there is nothing to fold

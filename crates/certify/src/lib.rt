@@ -11,6 +11,6 @@ mod sweep;
 mod tally;
 mod word;
 
-pub use answer::{Answer, values_of};
+pub use answer::{Certification, values_of};
 pub use loading::load_sequence;
 pub use service::{certify, certify_loaded};

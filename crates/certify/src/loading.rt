@@ -4,7 +4,7 @@ ghost use Rattle.machine.specs.Loading.{LoadedBy};
 ghost use Rattle.certify.specs.Certification.{marking_causes};
 
 use machine::{Loaded, load_sheet};
-use sheet::{Needs, first_of, payload, room_check};
+use sheet::{Needs, payload, room_check};
 
 // Loads a sheet for a service that needs machine, word and sequence, a room for the sequence's marks,
 // and perhaps the answers.
@@ -17,17 +17,8 @@ pub fn load_sequence(sheet: &[u8], answers: bool, room: usize) -> Loaded
         answers,
     };
     let loaded = load_sheet(sheet, needs);
-    let machine = loaded.machine;
-    let records = loaded.records;
-    let earlier = loaded.check;
-    let found = records.sequence;
-    let xs = payload(sheet, found);
+    let xs = payload(sheet, loaded.records.sequence);
     let bytes = xs.len() + 1;
-    let nine = room_check(room, bytes);
-    let check = first_of(earlier, nine);
-    Loaded {
-        check,
-        machine,
-        records,
-    }
+    let check = loaded.check.and(room_check(room, bytes));
+    Loaded { check, ..loaded }
 }

@@ -1,116 +1,102 @@
 // Following a new mark: its place's commands are followed from the place and from the one that
 // represents its state, and marks are carried over on the way. The tables stay as they are.
-ghost use Rattle.std.specs.Prelude.{◌≡◌, ◌+◌, ◌≤◌, ◌<◌, length};
-ghost use Rattle.machine.specs.Limits.{most_sequence};
-ghost use Rattle.machine.specs.Machine.{Mealy};
-ghost use Rattle.certify.specs.Folding.{Rising, Marking};
+ghost use Rattle.std.specs.Prelude.{◌≡◌, ◌+◌, ◌<◌, length};
+ghost use Rattle.machine.specs.Machine.{meaning};
+ghost use Rattle.certify.specs.Folding.{Marking};
 ghost use Rattle.certify.specs.Propagation.{Restarted, Equalised, Followed, PropagateRequires};
 
-use crate::chains::{BYTE_STATES, alternative, wide};
+use crate::chains::{BYTE_STATES, Tables};
 use machine::{Machine, entry_at};
 use sheet::byte;
 
-// Where following goes on: r represents place i, whose state is s.
+// Where following goes on: a place, its state, and the place that represents it.
 #[derive(Clone, Copy)]
-pub enum Step {
-    Stop,
-    On { r: usize, i: usize, s: u8 },
+struct Pair {
+    representative: usize,
+    place: usize,
+    state: u8,
 }
 
-// How a marked place i of state s is followed: together with the place that represents its state,
-// where there is one.
-fn restart(root: &[u16; BYTE_STATES], i: usize, s: u8) -> Step
-    ensures { Restarted root.now i s result }
+// How a marked place is followed: together with the place that represents its state, where there is
+// one.
+fn restart(root: &[u16; BYTE_STATES], place: usize, state: u8) -> Option<Pair>
+    ensures { Restarted root.now place state result }
 {
-    let r = wide(root[s as usize]);
-    if r == 0 {
-        return Step::Stop;
+    let representative = usize::from(root[usize::from(state)]).checked_sub(1)?;
+    Some(Pair {
+        representative,
+        place,
+        state,
+    })
+}
+
+// Gives both places one mark. Where one gets it now, following restarts there; where neither has
+// it, it goes on from both; where both had it, it stops.
+fn equalise(marks: &mut [u8], root: &[u16; BYTE_STATES], pair: Pair) -> Option<Pair>
+    requires representative_in_bounds { pair.representative < length marks.old }
+    requires place_in_bounds { pair.place < length marks.old }
+    ensures { Equalised marks.old root.now pair marks.new result }
+{
+    let Pair {
+        representative,
+        place,
+        state,
+    } = pair;
+    if marks[representative] == marks[place] {
+        return if marks[place] == 0 { Some(pair) } else { None };
     }
-    Step::On { r: r - 1, i, s }
+    if marks[representative] == 0 {
+        marks[representative] = 1;
+        return restart(root, representative, state);
+    }
+    marks[place] = 1;
+    restart(root, place, state)
 }
 
-// Gives i, of state s, and r, which represents it, one mark. Where one gets it now, following
-// restarts there; where neither has it, it goes on from both; where both had it, it stops.
-fn equalise(marks: &mut [u8], root: &[u16; BYTE_STATES], r: usize, i: usize, s: u8) -> Step
-    requires r_in_bounds { r < length marks.old }
-    requires i_in_bounds { i < length marks.old }
-    ensures { Equalised marks.old root.now r i s marks.new result }
-{
-    if marks[r] == marks[i] {
-        if marks[r] == 0 {
-            return Step::On { r, i, s };
+impl Tables<'_> {
+    // One command further from a place and from its representative, as far as there is one.
+    fn follow(&self, m: &Machine, marks: &mut [u8], pair: Pair) -> Option<Pair>
+        requires { length marks.old ≡ length self.now.xs.now + 1 }
+        ensures { Followed (meaning m.now) self.now.xs.now marks.old self.now.alt self.now.root pair
+            marks.new result }
+    {
+        let Pair {
+            representative,
+            place,
+            state,
+        } = pair;
+        if representative >= self.xs.len() || place >= self.xs.len() {
+            return None;
         }
-        return Step::Stop;
-    }
-    if marks[r] == 0 {
-        marks[r] = 1;
-        return restart(root, r, s);
-    }
-    marks[i] = 1;
-    restart(root, i, s)
-}
-
-// One command further from i, of state s, and from its representative r, as far as there is one.
-fn follow(
-    xs: &[u8],
-    next: &[u8],
-    k: u8,
-    marks: &mut [u8],
-    alt: &[u16; Machine::SEQUENCE],
-    root: &[u16; BYTE_STATES],
-    r: usize,
-    i: usize,
-    s: u8,
-) -> Step
-    requires marks_len { length marks.old ≡ length xs.now + 1 }
-    requires xs_len_bound { length xs.now ≤ most_sequence }
-    requires rising { Rising xs.now alt.now }
-    ensures { Followed xs.now next.now k marks.old alt.now
-        root.now r i s marks.new result }
-{
-    if r >= xs.len() {
-        return Step::Stop;
-    }
-    if i >= xs.len() {
-        return Step::Stop;
-    }
-    let c = xs[i];
-    let v = alternative(xs, alt, r, c);
-    if xs[v] != c {
-        return Step::Stop;
-    }
-    let e = entry_at(k, s, c);
-    equalise(marks, root, v + 1, i + 1, byte(next, e))
-}
-
-// Follows the commands of a marked place p of state s, in at most so many steps; how many are left.
-pub fn propagate(
-    xs: &[u8],
-    next: &[u8],
-    k: u8,
-    marks: &mut [u8],
-    alt: &[u16; Machine::SEQUENCE],
-    root: &[u16; BYTE_STATES],
-    p: usize,
-    s: u8,
-    steps: usize,
-) -> usize
-    requires marks_len { length marks.old ≡ length xs.now + 1 }
-    requires xs_len_bound { length xs.now ≤ most_sequence }
-    requires rising { Rising xs.now alt.now }
-    ensures { (M : Mealy)
-        → PropagateRequires M xs.now marks.old next.now alt.now
-        root.now k p s
-        → Marking M xs.now marks.old marks.new }
-{
-    let mut left = steps;
-    let mut at = restart(root, p, s);
-    while left > 0 {
-        let Step::On { r, i, s: state } = at else {
-            return left;
+        let c = self.xs[place];
+        let v = self.alternative(representative, c);
+        if self.xs[v] != c {
+            return None;
+        }
+        let e = entry_at(m.k, state, c);
+        let further = Pair {
+            representative: v + 1,
+            place: place + 1,
+            state: byte(&m.next, e),
         };
-        at = follow(xs, next, k, marks, alt, root, r, i, state);
-        left -= 1;
+        equalise(marks, &self.root, further)
     }
-    left
+
+    // Follows the commands of a marked place p of state s, in at most so many steps; how many are
+    // left. A `for` over the steps would not tell how many.
+    pub fn propagate(&self, m: &Machine, marks: &mut [u8], p: usize, s: u8, steps: usize) -> usize
+        requires { PropagateRequires (meaning m.now) self.now.xs.now marks.old self.now.alt
+            self.now.root p s }
+        ensures { Marking (meaning m.now) self.now.xs.now marks.old marks.new }
+    {
+        let mut left = steps;
+        let mut at = restart(&self.root, p, s);
+        while left > 0
+            && let Some(pair) = at
+        {
+            at = self.follow(m, marks, pair);
+            left -= 1;
+        }
+        left
+    }
 }

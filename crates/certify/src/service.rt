@@ -1,24 +1,24 @@
 // The service: certifies the sequence of a sheet.
-ghost use Rattle.std.specs.Prelude.{◌≡◌, ◌+◌, length};
+ghost use Rattle.std.specs.Prelude.{◌≡◌, ◌+◌, length, Ok};
 ghost use Rattle.machine.specs.Limits.{most_sequence};
 ghost use Rattle.machine.specs.Machine.{meaning, Proper, Commands};
 ghost use Rattle.certify.specs.Marks.{marks as marks_of};
 ghost use Rattle.certify.specs.Certification.{outcome, Certifiable, Certifies};
 
-use crate::answer::{Answer, answer_of};
+use crate::answer::{Certification, answer_of};
 use crate::closure::close;
 use crate::loading::load_sequence;
 use crate::tally::{count, open_check};
 use crate::word::mark_words;
 use machine::{Loaded, Machine};
-use sheet::{Check, payload};
+use sheet::{Refusal, payload};
 
 // Marks the recognised places of a sequence, and answers.
-fn recognise(m: Machine, w: &[u8], xs: &[u8], marks: &mut [u8]) -> Answer
+fn recognise(m: Machine, w: &[u8], xs: &[u8], marks: &mut [u8]) -> Certification
     requires proper { Proper (meaning m) }
     requires commands { Commands most_sequence (meaning m).k xs.now }
     requires marks_len { length marks.old ≡ length xs.now + 1 }
-    ensures value { result ≡ outcome (meaning m) w.now xs.now }
+    ensures value { Ok result ≡ outcome (meaning m) w.now xs.now }
     ensures marks_after { marks.new ≡ marks_of (meaning m) w.now xs.now }
 {
     mark_words(w, xs, marks);
@@ -30,30 +30,23 @@ fn recognise(m: Machine, w: &[u8], xs: &[u8], marks: &mut [u8]) -> Answer
 }
 
 // Certifies the sequence of a sheet that was loaded for it, where nothing is refused.
-pub fn certify_loaded(sheet: &[u8], loaded: Loaded, marks: &mut [u8]) -> Answer
+pub fn certify_loaded(sheet: &[u8], loaded: Loaded, marks: &mut [u8]) -> Certification
     requires { Certifiable sheet.now (length marks.old) loaded }
-    ensures { Certifies sheet.now marks.old marks.new result }
+    ensures { Certifies sheet.now marks.old marks.new (Ok result) }
 {
-    let m = loaded.machine;
-    let records = loaded.records;
-    let word = records.word;
-    let sequence = records.sequence;
-    let w = payload(sheet, word);
-    let xs = payload(sheet, sequence);
+    let w = payload(sheet, loaded.records.word);
+    let xs = payload(sheet, loaded.records.sequence);
     let end = xs.len() + 1;
-    recognise(m, w, xs, &mut marks[..end])
+    recognise(loaded.machine, w, xs, &mut marks[..end])
 }
 
 // Certifies the sequence of a sheet and writes its marks into the lent buffer. A refusal writes
 // nothing; bytes behind the marks stay as they were.
-pub fn certify(sheet: &[u8], marks: &mut [u8]) -> Answer
+pub fn certify(sheet: &[u8], marks: &mut [u8]) -> Result<Certification, Refusal>
     ensures { Certifies sheet.now marks.old marks.new result }
 {
     let answers = false;
     let loaded = load_sequence(sheet, answers, marks.len());
-    let check = loaded.check;
-    if let Check::Refused { number, place } = check {
-        return Answer::Refused { number, place };
-    }
-    certify_loaded(sheet, loaded, marks)
+    loaded.check?;
+    Ok(certify_loaded(sheet, loaded, marks))
 }

@@ -9,8 +9,10 @@ use native.Mathlib.Nat.{zero-add}
 use lib.ListN.{length, get_or, take}
 use lib.Seq.{take-paste, take-length, get_or-take}
 use Rattle.facts.specs.Numbers.{less_or_not}
-use Rattle.sheet.specs.declared.check.Check.TheVariants.{Clear, Refused}
-use Rattle.sheet.specs.Check.{first_cause}
+use Rattle.std.specs.Prelude.{Ok, Err}
+use Rattle.std.specs.Result.{result_and}
+use Rattle.sheet.specs.Check.{first_cause, Check, Clear, Refused}
+use Rattle.desk.specs.First.{First, Command as FirstCommand}
 use Rattle.sheet.specs.Reader.{word_in}
 use Rattle.sheet.specs.Check.Laws.{clear_refused}
 use Rattle.sheet.specs.Values.Laws.{returns_specified}
@@ -25,7 +27,6 @@ use Rattle.machine.specs.Loading.{LoadedBy}
 use Rattle.desk.specs.declared.desk.Desk.{Desk}
 use Rattle.desk.specs.declared.desk.Order.TheVariants.{Command}
 use Rattle.desk.specs.declared.desk.Phase.TheVariants.{Reading}
-use Rattle.desk.specs.declared.starting.First.TheVariants.{Command as FirstCommand, Refused as RefusedFirst}
 use Rattle.desk.specs.Desk.Laws.{order_reading}
 use Rattle.desk.specs.Desk.Ends.{phase_reading}
 use Rattle.desk.specs.Service.{order_on, Reached, first_values, Starts}
@@ -105,10 +106,19 @@ module _ (s : List ℕ) (l : Loaded) (h : LoadedBy (connected_causes s) s l) (be
       }
 
   pub starts_refused : {a b : ℕ} → l.check ≡ Refused a b
-      → Starts s (record { first = RefusedFirst a b; desk = first_desk l word size heard c })
+      → Starts s (record { first = Refused a b; desk = first_desk l word size heard c })
   starts_refused {a} {b} e =
       let refused = sym h.check ∙ e in
       record {
         first = returns_specified first_values (sym (starting_refused s refused));
         desk = λ q. clear_refused q refused;
       }
+
+  pub starts : {first : First} → first ≡ result_and l.check (Ok c)
+      → Starts s (record { first = first; desk = first_desk l word size heard c })
+  starts fe = rw fe (go l.check refl)
+    where
+      go : (check : Check) → l.check ≡ check
+          → Starts s (record { first = result_and l.check (Ok c); desk = first_desk l word size heard c })
+      go Clear e = rw e (starts_clear e)
+      go (Err r) e = rw e (starts_refused e)

@@ -2,7 +2,6 @@
 -- Assumes nothing.
 use Prim.Native.Nat.{ℕ, ◌+◌, ◌≤◌, ◌<◌}
 use mathlib.Core.Path.{◌≡◌, sym, ap, ◌∙◌}
-use mathlib.Core.Bool.{true, false, true≢false}
 use mathlib.Core.List.{List}
 use mathlib.Core.Option.{none}
 use native.Mathlib.Omega.{arith}
@@ -12,7 +11,7 @@ use Rattle.facts.specs.Lists.{take_more}
 use Rattle.machine.specs.Machine.{Mealy, run, answers}
 use Rattle.machine.specs.Machine.Laws.{run_none, run_cons, run_append, answers_none, answers_cons, answers_append}
 use Rattle.machine.specs.Machine.Laws.{answers_take, answers_length}
-use Rattle.desk.specs.declared.identification.Followed.{Followed}
+use Rattle.std.specs.Prelude.{Option, Some, None}
 use Rattle.desk.specs.Desk.{first_state}
 use Rattle.desk.specs.Desk.Laws.{first_nowhere, first_here, first_passed}
 use Rattle.desk.specs.Identification.{Follows, Identifies}
@@ -46,11 +45,11 @@ module _ (M : Mealy) (w ys : List ℕ) (s : ℕ) (even : length w ≡ length ys)
         )
 
     -- an answer that differs
-    pub following_differs : {v y : ℕ} → v ≡ M.answer state (get_or w i 0) → y ≡ get_or ys i 0 → (v ≡ y → ⊥) → {e : ℕ}
-        → Follows M w ys s (record { agrees = false; end = e })
+    pub following_differs : {v y : ℕ} → v ≡ M.answer state (get_or w i 0) → y ≡ get_or ys i 0 → (v ≡ y → ⊥)
+        → Follows M w ys s None
     following_differs ve ye d = record {
-      agrees = λ t. absurd (true≢false (sym t));
-      ends = λ t. absurd (true≢false (sym t));
+      agrees = λ t. cc;
+      ends = λ t. cc;
       differs = λ t q. d (ve ∙ sym answer_here ∙ ap (λ (x : List ℕ). get_or x i 0) q ∙ sym ye);
     }
 
@@ -68,14 +67,14 @@ module _ (M : Mealy) (w ys : List ℕ) (s : ℕ) (even : length w ≡ length ys)
 
   -- the end of the word
   pub following_ends : {state i : ℕ} → Following M w ys s state i → length w ≤ i
-      → Follows M w ys s (record { agrees = true; end = state })
+      → Follows M w ys s (Some state)
   following_ends {state} {i} h l =
       let whole : take i w ≡ w = take_all i w l in
       let given : take i ys ≡ ys = take_all i ys (omega arith) in
       record {
         agrees = λ t. rw (whole, given) at h.same;
-        ends = λ t. rw whole at h.at;
-        differs = λ t q. true≢false t;
+        ends = λ t. let e : state ≡ run M s w = (rw whole at h.at) in cc;
+        differs = λ t q. cc;
       }
 
 -- ---- over the states: none before s answers so
@@ -83,19 +82,18 @@ module _ (M : Mealy) (w ys : List ℕ) where
   pub identifying_start : first_state M w ys 0 ≡ none
   identifying_start = first_nowhere M w ys
 
-  module _ {s : ℕ} (h : first_state M w ys s ≡ none) {r : Followed} (f : Follows M w ys s r) where
-    pub identifying_found : s < M.n → r.agrees ≡ true → Identifies M w ys r
+  module _ {s : ℕ} (h : first_state M w ys s ≡ none) {r : Option ℕ} (f : Follows M w ys s r) where
+    pub identifying_found : s < M.n → {end : ℕ} → r ≡ Some end → Identifies M w ys r
     identifying_found l t = record {
-      found = λ _. (s, first_here M w ys s M.n h (f.agrees t) l, f.ends t);
-      missing = λ e. absurd (true≢false (sym t ∙ e));
+      found = λ q. (s, first_here M w ys s M.n h (f.agrees q) l, f.ends q);
+      missing = λ e. cc;
     }
 
-    pub identifying_next : r.agrees ≡ false → first_state M w ys (s + 1) ≡ none
+    pub identifying_next : r ≡ None → first_state M w ys (s + 1) ≡ none
     identifying_next e = first_passed M w ys s h (f.differs e)
 
-  pub identifying_none : {s : ℕ} → first_state M w ys s ≡ none → s ≡ M.n → {e : ℕ}
-      → Identifies M w ys (record { agrees = false; end = e })
+  pub identifying_none : {s : ℕ} → first_state M w ys s ≡ none → s ≡ M.n → Identifies M w ys None
   identifying_none h e = record {
-    found = λ t. absurd (true≢false (sym t));
+    found = λ t. cc;
     missing = λ t. ap (first_state M w ys) (sym e) ∙ h;
   }

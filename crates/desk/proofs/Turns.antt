@@ -11,8 +11,7 @@ use lib.ListN.{length, get_or, take, length-append}
 use lib.Seq.{take_all, get_or-take}
 use Rattle.facts.specs.Numbers.{equal_or_not, less_or_not}
 use Rattle.facts.specs.FirstOf.{nothing, value, seen}
-use Rattle.sheet.specs.declared.check.Check.TheVariants.{Clear}
-use Rattle.sheet.specs.Check.{first_cause}
+use Rattle.sheet.specs.Check.{first_cause, Clear}
 use Rattle.sheet.specs.Reader.{word_in}
 use Rattle.sheet.specs.Values.Laws.{returns_specified}
 use Rattle.machine.specs.Machine.{Mealy, run, meaning, Distinguishes}

@@ -1,3 +1,4 @@
+pub mod First
 pub mod Desk
 pub mod Service
 pub mod Identification

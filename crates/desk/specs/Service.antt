@@ -1,11 +1,12 @@
 -- What `start` and `step` promise (§13.2), the dialogue that they make, and the ends of a desk. The theorems stand in
 -- Service.Dialogue and Service.Homecoming.
+use Rattle.std.specs.Prelude.{Err}
 use Rattle.std.specs.Prelude.{ℕ, ◌<◌, ◌≡◌, List, [], ◌∷◌, ◌++◌, ◌⊎◌, length, get_or, take}
 use Rattle.std.proofs.Common.{inl, inr}
 use Rattle.std.proofs.Math.Option.{Option, none, some}
-use Rattle.sheet.specs.declared.check.Check.TheVariants.{Clear}
+use Rattle.sheet.specs.Check.{first_cause, refused_or, Clear, Refused}
+use Rattle.desk.specs.First.{First, Command as FirstCommand}
 use Rattle.sheet.specs.declared.check.Values.{Values}
-use Rattle.sheet.specs.Check.{first_cause, refused_or}
 use Rattle.sheet.specs.Values.{refusal_values, Returns}
 use Rattle.sheet.specs.Reader.{word_in}
 use Rattle.machine.specs.Machine.{meaning}
@@ -17,8 +18,6 @@ use Rattle.desk.specs.declared.desk.Order.TheVariants.{Command, Home, Stranger}
 use Rattle.desk.specs.declared.desk.Phase.{Phase}
 use Rattle.desk.specs.declared.desk.Phase.TheVariants.{Reading, Driving, Home as HomePhase}
 use Rattle.desk.specs.declared.desk.Phase.TheVariants.{Stranger as StrangerPhase}
-use Rattle.desk.specs.declared.starting.First.{First}
-use Rattle.desk.specs.declared.starting.First.TheVariants.{Command as FirstCommand, Refused as RefusedFirst}
 use Rattle.desk.specs.declared.starting.Started.{Started}
 use Rattle.desk.specs.declared.stepping.Stepped.{Stepped}
 use Rattle.desk.specs.Desk.{order_of, phase_of}
@@ -44,12 +43,12 @@ pub record Reached (s ys : List ℕ) (d : Desk) : Type 0 where
 -- ---- start
 -- the answer of start (§13.2): the word's first command, or the first refusal of the causes of loading and 8
 unfoldable pub starting : List ℕ → First
-starting s = refused_or RefusedFirst (first_cause (connected_causes s)) (FirstCommand (get_or (word_in s) 0 0))
+starting s = refused_or Refused (first_cause (connected_causes s)) (FirstCommand (get_or (word_in s) 0 0))
 
 -- number and values of each answer of start (§4.4): the command, for which §8.3 has no class, or a refusal's
 abbrev pub first_values : First → Values ⊎ ℕ
 first_values (FirstCommand command) = inr command
-first_values (RefusedFirst number place) = inl (refusal_values number place)
+first_values (Err r) = inl (refusal_values r.number r.place)
 
 -- what start promises of a sheet: the specified answer, with its number and values, and where nothing is refused a desk
 -- to which the empty list of answers leads. On a refusal the desk is free

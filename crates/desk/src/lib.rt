@@ -7,5 +7,5 @@ mod starting;
 mod stepping;
 
 pub use desk::{Desk, Order, Phase};
-pub use starting::{First, Started, start};
+pub use starting::{Started, start};
 pub use stepping::{Stepped, step};

@@ -4,19 +4,13 @@ ghost use Rattle.desk.specs.Service.{Starts};
 use crate::desk::{Desk, Phase};
 use build::load_connected;
 use machine::Machine;
-use sheet::{Check, byte, payload, put};
+use sheet::{Refusal, byte, payload, put};
 
-// The first command, or refused with number and place.
-#[derive(Clone, Copy)]
-pub enum First {
-    Command { command: u8 },
-    Refused { number: u8, place: usize },
-}
-
-// The answer, and the desk; on a refusal nothing is promised of the desk.
-#[derive(Clone, Copy)]
+// The first command, or the refusal; and the desk, of which nothing is promised on a refusal. It stands
+// beside the answer, since `Begins` of the crate report names the desk of a refused start too.
+#[derive(Clone, Copy, Debug, PartialEq, Eq)]
 pub struct Started {
-    pub first: First,
+    pub first: Result<u8, Refusal>,
     pub desk: Desk,
 }
 
@@ -25,31 +19,20 @@ pub fn start(sheet: &[u8]) -> Started
     ensures { Starts sheet.now result }
 {
     let loaded = load_connected(sheet);
-    let check = loaded.check;
-    let machine = loaded.machine;
-    let records = loaded.records;
-    let found = records.word;
     let mut word = [0u8; Machine::WORD];
-    let end = put(payload(sheet, found), 0, &mut word);
-    let size = end as u8;
+    let end = put(payload(sheet, loaded.records.word), 0, &mut word);
     let command = byte(&word, 0);
     let desk = Desk {
-        machine,
+        machine: loaded.machine,
         word,
-        size,
+        size: end as u8,
         heard: [0u8; Machine::WORD],
         count: 0,
         sent: command,
         phase: Phase::Reading { position: 0 },
     };
-    match check {
-        Check::Clear => Started {
-            first: First::Command { command },
-            desk,
-        },
-        Check::Refused { number, place } => Started {
-            first: First::Refused { number, place },
-            desk,
-        },
+    Started {
+        first: loaded.check.and(Ok(command)),
+        desk,
     }
 }

@@ -6,22 +6,16 @@ use mathlib.Core.Bool.{true}
 use mathlib.Core.List.{List}
 use lib.Dec.{ltb}
 use lib.ListN.{length}
-use Rattle.sheet.specs.declared.check.Check.{Check}
-use Rattle.sheet.specs.declared.check.Check.TheVariants.{Clear, Refused}
+use Rattle.sheet.specs.Check.{refusal◌with◌if◌, ◌else◌, first_cause, refused_or, Check, Clear, Refused}
+use Rattle.certify.specs.Answer.{Answer as Certification, Certified, Open}
+use Rattle.judge.specs.Answer.{Answer}
 use Rattle.sheet.specs.declared.record.Record.{Record}
-use Rattle.sheet.specs.Check.{refusal◌with◌if◌, ◌else◌, first_cause, refused_or}
-use Rattle.sheet.specs.Values.{refusal_values}
 use Rattle.sheet.specs.Values.Laws.{returns_specified}
 use Rattle.sheet.specs.Reader.{sequence_in, answers_in, answers_record}
 use Rattle.machine.specs.Machine.{Mealy}
 use Rattle.machine.specs.Causes.{cause10, machine_in}
 use Rattle.machine.specs.Causes.Laws.{cause10_is}
-use Rattle.certify.specs.declared.answer.Answer.{Answer as Certification}
-use Rattle.certify.specs.declared.answer.Answer.TheVariants.{Certified, Open, Refused as RefusedCertification}
 use Rattle.certify.specs.Certification.{marking_causes, Certifies}
-use Rattle.judge.specs.declared.answer.Answer.{Answer}
-use Rattle.judge.specs.declared.answer.Answer.TheVariants.{Pass, Wrong, Unheard, Unfinished}
-use Rattle.judge.specs.declared.answer.Answer.TheVariants.{Refused as RefusedAnswer}
 use Rattle.judge.specs.Judging.{judge_causes, cause11, verdict, Judges, Identity, values_of}
 use Rattle.judge.specs.Judging.Laws.{judge_causes_are, few_answers, judgement_refused, judgement_by}
 use Rattle.judge.specs.Judging.Laws.{judged_refused, judged_clear}
@@ -48,7 +42,7 @@ pub promised : {s before after : List ℕ} {a : Answer} → Judges s before afte
 promised {s} {before} h = (h, pass_identity (length before) s h.answer.is)
 
 module _ (s before : List ℕ) {c : Check} (ce : c ≡ first_cause (judge_causes (length before) s)) where
-  pub judges_refused : {n p : ℕ} → c ≡ Refused n p → Judges s before before (RefusedAnswer n p)
+  pub judges_refused : {n p : ℕ} → c ≡ Refused n p → Judges s before before (Refused n p)
   judges_refused e = record {
     answer = returns_specified values_of (sym (judgement_refused (length before) s (sym ce ∙ e)));
     marks = sym (judged_refused s before (sym ce ∙ e));
@@ -61,7 +55,7 @@ module _ (s before : List ℕ) {c : Check} (ce : c ≡ first_cause (judge_causes
     -- by certifying's answer and the marks that it leaves
     module _ {after : List ℕ} {b : Certification} (h : Certifies s before after b) where
       judges_by : {a : Answer}
-          → a ≡ refused_or RefusedAnswer (cause11 b) (verdict (machine_in s) (sequence_in s) (answers_in s))
+          → a ≡ refused_or Refused (cause11 b) (verdict (machine_in s) (sequence_in s) (answers_in s))
           → Judges s before after a
       judges_by ae = record {
         answer = returns_specified values_of (ae ∙ sym (judgement_by (length before) s clear (sym h.answer.is)));
@@ -73,28 +67,6 @@ module _ (s before : List ℕ) {c : Check} (ce : c ≡ first_cause (judge_causes
       unfolding cause11
       judges_certified q me xe ye ae = judges_by (ae ∙ (rw (q, me, xe, ye) refl))
 
-      pub judges_open : {n v : ℕ} → b ≡ Open n v → Judges s before after (RefusedAnswer 11 v)
+      pub judges_open : {n v : ℕ} → b ≡ Open n v → Judges s before after (Refused 11 v)
       unfolding cause11
       judges_open q = judges_by (rw q refl)
-
-      pub judges_refused_there : {n p : ℕ} → b ≡ RefusedCertification n p → Judges s before after (RefusedAnswer n p)
-      unfolding cause11
-      judges_refused_there q = judges_by (rw q refl)
-
--- ---- the numbers for each answer
-pub values_pass : {a : Answer} {n e : ℕ} → a ≡ Pass n e → record { class = 100; place = n; a = 0; b = e } ≡ values_of a
-values_pass q = rw q
-
-pub values_wrong : {a : Answer} {p x y : ℕ} → a ≡ Wrong p x y
-    → record { class = 101; place = p; a = x; b = y } ≡ values_of a
-values_wrong q = rw q
-
-pub values_unheard : {a : Answer} {p : ℕ} → a ≡ Unheard p → record { class = 103; place = p; a = 0; b = 0 } ≡ values_of a
-values_unheard q = rw q
-
-pub values_unfinished : {a : Answer} {n : ℕ} → a ≡ Unfinished n
-    → record { class = 102; place = n; a = 0; b = 0 } ≡ values_of a
-values_unfinished q = rw q
-
-pub values_refused : {a : Answer} {n p : ℕ} → a ≡ RefusedAnswer n p → refusal_values n p ≡ values_of a
-values_refused q = rw q

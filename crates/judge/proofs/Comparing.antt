@@ -1,19 +1,15 @@
 -- How the loop of `compare` runs along the answers, and what its three ends show.
 -- Assumes nothing.
-use Prim.Native.Nat.{ℕ, ◌+◌, ◌*◌, ◌≤◌, ◌<◌}
-use mathlib.Core.Path.{◌≡◌, sym, ap, ◌∙◌}
+use Prim.Native.Nat.{ℕ, ◌+◌, ◌≤◌, ◌<◌}
+use mathlib.Core.Path.{◌≡◌, refl, sym, ap, ◌∙◌}
 use mathlib.Core.List.{List}
 use native.Mathlib.Omega.{arith}
 use lib.ListN.{length, get_or}
 use lib.Seq.{ext_get_or}
 use borrow.Author.Count.{below_more}
-use Rattle.machine.specs.declared.machine.Machine.{Machine}
-use Rattle.machine.specs.Limits.{most_entries}
-use Rattle.machine.specs.Machine.{Mealy, meaning, answers, state_at}
-use Rattle.machine.specs.Machine.Laws.{meaning_commands, meaning_start, tabled_next, tabled_answer, answers_length}
-use Rattle.machine.specs.Machine.Laws.{answer_at, state_start, state_next, state_stays, proper_entry}
-use Rattle.judge.specs.declared.answer.Answer.{Answer}
-use Rattle.judge.specs.declared.answer.Answer.TheVariants.{Pass, Unfinished}
+use Rattle.machine.specs.Machine.{Mealy, answers, state_at}
+use Rattle.machine.specs.Machine.Laws.{answers_length, answer_at, state_start, state_next}
+use Rattle.judge.specs.Answer.{Answer, Pass, Unfinished}
 use Rattle.judge.specs.Judging.{difference, verdict}
 use Rattle.judge.specs.Comparison.{CompareRequires}
 use Rattle.judge.specs.Judging.Verdict.{Right, passed, unfinished, differs_verdict, judged_verdict}
@@ -24,46 +20,33 @@ pub record Compared (M : Mealy) (xs ys : List ℕ) (i s : ℕ) : Type 0 where
   pub state : s ≡ state_at M xs i
   pub right : Right M xs ys i
 
-module _ (m : Machine) (xs ys : List ℕ) where
-  abbrev M : Mealy
-  M = meaning m
-
-  pub compared_start : {s : ℕ} → s ≡ m.start → Compared M xs ys 0 s
+module _ (M : Mealy) (xs ys : List ℕ) where
+  pub compared_start : {s : ℕ} → s ≡ M.start → Compared M xs ys 0 s
   compared_start e = record {
     inside = omega arith;
-    state = e ∙ sym (meaning_start m) ∙ sym (state_start M xs);
+    state = e ∙ sym (state_start M xs);
     right = λ i l. absurd (omega arith);
   }
 
   module _ (h : CompareRequires M xs ys) {i s : ℕ} (c : Compared M xs ys i s) where
-    module _ (l : i < length ys) {e : ℕ} (at : e ≡ s * m.k + get_or xs i 0) where
+    module _ (l : i < length ys) where
       inside_sequence : i < length xs
       inside_sequence = omega (arith, h.few)
 
-      pub entry_inside : e < most_entries
-      entry_inside =
-          let q : e ≡ s * M.k + get_or xs i 0 = at ∙ ap (λ (x : ℕ). s * x + get_or xs i 0) (sym (meaning_commands m)) in
-          let sl : s < M.n = rw c.state (state_stays M h.proper xs h.commands.low i) in
-          omega (arith, proper_entry M h.proper s (get_or xs i 0) sl (h.commands.low i inside_sequence))
-
-      specified_is : {v : ℕ} → v ≡ get_or m.answer e 0 → v ≡ get_or (answers M M.start xs) i 0
-      specified_is ve =
-          rw (answer_at M xs i inside_sequence, ← c.state)
-          (tabled_answer m.n m.k m.start m.next m.answer s (get_or xs i 0) ve at)
+      specified_is : {v : ℕ} → v ≡ M.answer s (get_or xs i 0) → v ≡ get_or (answers M M.start xs) i 0
+      specified_is ve = rw (answer_at M xs i inside_sequence, ← c.state) ve
 
       -- an answer that differs
-      pub compared_differs : {v g : ℕ} → v ≡ get_or m.answer e 0 → g ≡ get_or ys i 0 → (v ≡ g → ⊥) → {a : Answer}
+      pub compared_differs : {v g : ℕ} → v ≡ M.answer s (get_or xs i 0) → g ≡ get_or ys i 0 → (v ≡ g → ⊥) → {a : Answer}
           → a ≡ difference i v g → a ≡ verdict M xs ys
       compared_differs ve ge d ae = ae ∙ differs_verdict M xs ys h.few l c.right d (specified_is ve) ge
 
       -- one that is right
-      pub compared_next : {v g t : ℕ} → v ≡ get_or m.answer e 0 → g ≡ get_or ys i 0 → v ≡ g → t ≡ get_or m.next e 0
-          → Compared M xs ys (i + 1) t
+      pub compared_next : {v g t : ℕ} → v ≡ M.answer s (get_or xs i 0) → g ≡ get_or ys i 0 → v ≡ g
+          → t ≡ M.next s (get_or xs i 0) → Compared M xs ys (i + 1) t
       compared_next {v} {g} ve ge q te = record {
         inside = omega arith;
-        state =
-            rw (state_next M xs i inside_sequence, ← c.state)
-            (tabled_next m.n m.k m.start m.next m.answer s (get_or xs i 0) te at);
+        state = rw (state_next M xs i inside_sequence, ← c.state) te;
         right =
             below_more (λ j. get_or (answers M M.start xs) j 0 ≡ get_or ys j 0) i c.right
             (sym (specified_is ve) ∙ q ∙ ge);
@@ -73,14 +56,16 @@ module _ (m : Machine) (xs ys : List ℕ) where
       ended : i ≡ length ys
       ended = omega (arith, c.inside)
 
-      pub compared_unfinished : i < length xs → Unfinished i ≡ verdict M xs ys
-      compared_unfinished k = judged_verdict M xs ys h.few (unfinished {number = i} ended k c.right)
+      pub compared_unfinished : length ys < length xs → Unfinished (length ys) ≡ verdict M xs ys
+      compared_unfinished k =
+          judged_verdict M xs ys h.few
+          (unfinished {number = length ys} refl k (λ j jl. c.right j (omega (arith, ended))))
 
-      pub compared_passed : length xs ≤ i → Pass i s ≡ verdict M xs ys
+      pub compared_passed : length xs ≤ length ys → Pass (length ys) s ≡ verdict M xs ys
       compared_passed k =
-          let all : i ≡ length xs = omega (arith, ended, h.few) in
-          let long : length (answers M M.start xs) ≡ i = answers_length M M.start xs ∙ sym all in
+          let all : length ys ≡ length xs = omega (arith, h.few) in
+          let long : length (answers M M.start xs) ≡ length ys = answers_length M M.start xs ∙ sym all in
           judged_verdict M xs ys h.few
           (passed (sym
-          (ext_get_or 0 (answers M M.start xs) ys (long ∙ ended) (λ j jl. c.right j (omega (arith, long))))) all
-          (c.state ∙ ap (state_at M xs) all))
+          (ext_get_or 0 (answers M M.start xs) ys long (λ j jl. c.right j (omega (arith, long, ended))))) all
+          (c.state ∙ ap (state_at M xs) (ended ∙ all)))

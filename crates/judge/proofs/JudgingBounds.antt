@@ -3,8 +3,8 @@
 -- number holds each of them in its own bits.
 use Rattle.std.specs.Prelude.{ℕ, ◌<◌, ◌≡◌, refl, List, length, get_or}
 use Rattle.std.proofs.Common.{arith}
-use Rattle.sheet.specs.declared.check.Check.TheVariants.{Clear}
-use Rattle.sheet.specs.Check.{first_cause}
+use Rattle.sheet.specs.Check.{first_cause, Clear}
+use Rattle.judge.specs.Answer.{Answer, Pass}
 use Rattle.sheet.specs.Values.{Fits}
 use Rattle.sheet.specs.Reader.{word_in, sequence_in, answers_in}
 use Rattle.facts.specs.Bytes.{Bytes}
@@ -15,8 +15,6 @@ use Rattle.machine.specs.Machine.Laws.{answer_at, state_stays, proper_entries}
 use Rattle.machine.specs.Causes.{machine_in}
 use Rattle.machine.specs.Causes.Bounds.{answer_byte}
 use Rattle.certify.specs.Recognition.Laws.{open_small}
-use Rattle.judge.specs.declared.answer.Answer.{Answer}
-use Rattle.judge.specs.declared.answer.Answer.TheVariants.{Pass}
 use Rattle.judge.specs.Judging.{judge_causes, judgement, values_of}
 use Rattle.judge.specs.Judging.Verdict.{Judged, passed, wrong, unheard, unfinished}
 use Rattle.judge.specs.Judging.Laws.{few_answers, judged_proper, judged_commands, Result, refused, not_certified}

@@ -1,25 +1,21 @@
 -- The laws of judging a sheet that rest on the verdict and the renaming (specs/Judging/Laws.antt has the others and the
 -- definitions): what each answer says, both directions, and the identity claim. An edit of what a result says, of the
 -- renaming or of cause 11 is refused below them.
+use Rattle.std.specs.Prelude.{Err}
 use Rattle.std.specs.Prelude.{ℕ, ◌≡◌, refl, List, length}
 use Rattle.std.proofs.Common.{sym, ◌∙◌}
 use Rattle.facts.specs.Lists.{Below}
-use Rattle.sheet.specs.declared.check.Check.{Check}
-use Rattle.sheet.specs.declared.check.Check.TheVariants.{Clear, Refused}
-use Rattle.sheet.specs.Check.{first_cause}
+use Rattle.sheet.specs.Check.{first_cause, Check, Clear, Refused}
+use Rattle.certify.specs.Answer.{Answer as Certification, Certified as CertifiedAnswer, Open}
+use Rattle.judge.specs.Answer.{Answer, Pass}
 use Rattle.sheet.specs.Check.Laws.{clear_refused}
 use Rattle.sheet.specs.Reader.{word_in, sequence_in, answers_in}
 use Rattle.machine.specs.Machine.{answers, Proper}
 use Rattle.machine.specs.Causes.{machine_in}
 use Rattle.machine.specs.Unit.{Unit, table_of, begun_in, own_answers, present_state}
-use Rattle.certify.specs.declared.answer.Answer.{Answer as Certification}
-use Rattle.certify.specs.declared.answer.Answer.TheVariants.{Certified as CertifiedAnswer, Open}
-use Rattle.certify.specs.declared.answer.Answer.TheVariants.{Refused as RefusedCertification}
 use Rattle.certify.specs.Recognition.{RecognisedNumber}
 use Rattle.certify.specs.Certification.{certification, Says}
 use Rattle.certify.proofs.CertificationContract.{certification_says}
-use Rattle.judge.specs.declared.answer.Answer.{Answer}
-use Rattle.judge.specs.declared.answer.Answer.TheVariants.{Pass, Refused as RefusedAnswer}
 use Rattle.judge.specs.Renaming.Identity.{identity}
 use Rattle.judge.specs.Renaming.Behaviour.{end_alike}
 use Rattle.judge.specs.Judging.{judge_causes, verdict, judgement, judged_marks, Identity}
@@ -40,7 +36,7 @@ module _ (room : ℕ) (s : List ℕ) where
       → (n : ℕ) × RecognisedNumber (machine_in s) (word_in s) (sequence_in s) n
   numbered e (CertifiedAnswer n) f = (n, ((says.certified n).0 f).number)
   numbered e (Open n v) f = (n, ((says.opened n v).0 f).number)
-  numbered e (RefusedCertification n p) f = clear_refused (certifying_clear room s e) ((says.refused n p).0 f)
+  numbered e (Err r) f = clear_refused (certifying_clear room s e) ((says.refused r.number r.place).0 f)
 
   pub result_judgement : {a : Answer} → Result room s a → a ≡ judgement room s
   result_judgement (refused e) = sym (judgement_refused room s e)
@@ -56,23 +52,23 @@ module _ (room : ℕ) (s : List ℕ) where
 
   result_by : (c : Check) (b : Certification) → first_cause (judge_causes room s) ≡ c → certification room s ≡ b
       → Result room s (judgement room s)
-  result_by (Refused n p) b e f = rw (judgement_refused room s e) (refused e)
+  result_by (Err r) b e f = rw (judgement_refused room s e) (refused e)
   result_by Clear (CertifiedAnswer n) e f =
       rw (judgement_verdict room s e f)
       (judged e ((says.certified n).0 f).certified
       (verdict_judged (machine_in s) (sequence_in s) (answers_in s) (few_answers room s e)))
   result_by Clear (Open n v) e f = rw (judgement_open room s e f) (not_certified e ((says.opened n v).0 f).open_number)
-  result_by Clear (RefusedCertification n p) e f = clear_refused (certifying_clear room s e) ((says.refused n p).0 f)
+  result_by Clear (Err r) e f = clear_refused (certifying_clear room s e) ((says.refused r.number r.place).0 f)
 
   pub judgement_result : Result room s (judgement room s)
   judgement_result = result_by (first_cause (judge_causes room s)) (certification room s) refl refl
 
 -- a refusal other than judging's 11 writes nothing
-pub refused_marks : (s buffer : List ℕ) {n p : ℕ} → judgement (length buffer) s ≡ RefusedAnswer n p → (n ≡ 11 → ⊥)
+pub refused_marks : (s buffer : List ℕ) {n p : ℕ} → judgement (length buffer) s ≡ Refused n p → (n ≡ 11 → ⊥)
     → judged_marks s buffer ≡ buffer
 refused_marks s buffer e = go (rw e at (judgement_result (length buffer) s))
   where
-    go : {n p : ℕ} → Result (length buffer) s (RefusedAnswer n p) → (n ≡ 11 → ⊥) → judged_marks s buffer ≡ buffer
+    go : {n p : ℕ} → Result (length buffer) s (Refused n p) → (n ≡ 11 → ⊥) → judged_marks s buffer ≡ buffer
     go (refused f) other = judged_refused s buffer f
     go (not_certified f o) other = absurd (other refl)
     go (judged _ _ verdict) other = elim verdict [ ]

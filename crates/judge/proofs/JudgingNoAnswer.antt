@@ -5,7 +5,7 @@ use Rattle.std.specs.Prelude.{ℕ, ◌<◌, ◌≡◌, List, length, get_or}
 use Rattle.std.proofs.Common.{sym, ap, ◌∙◌, arith}
 use Rattle.sheet.specs.Reader.{answers_in}
 use Rattle.machine.specs.Machine.{no_answer}
-use Rattle.judge.specs.declared.answer.Answer.TheVariants.{Pass, Wrong, Unheard}
+use Rattle.judge.specs.Answer.{Pass, Wrong, Unheard}
 use Rattle.judge.specs.Judging.{judgement}
 use Rattle.judge.specs.Judging.Verdict.{wrong, unheard}
 use Rattle.judge.specs.Judging.Laws.{few_answers, judged}

@@ -1,6 +1,6 @@
 -- The laws of the verdict that go from the verdict to what holds of the answers (specs/Judging/Verdict.antt has the
 -- definitions and the other direction). An edit of what a result says of the answers is refused here and there.
-use Rattle.std.specs.Prelude.{ℕ, ◌≤◌, ◌<◌, ◌≡◌, refl, List, length, get_or}
+use Rattle.std.specs.Prelude.{ℕ, ◌≤◌, ◌<◌, refl, List, length, get_or}
 use Rattle.std.proofs.Common.{sym, ◌∙◌, inl, inr, arith, ext_get_or}
 use Rattle.facts.specs.Numbers.{equal_or_not, less_or_not}
 use Rattle.facts.specs.CommonPrefix.{Agreed, agreed_holds}

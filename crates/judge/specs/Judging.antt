@@ -3,23 +3,19 @@
 -- they are. Judging.Verdict has laws of the verdict, Judging.Laws those of a sheet, Judging.NoAnswer those of the byte
 -- for no answer, Judging.Bounds bounds on values; those that rest on what a result says, on the renaming or on cause 11
 -- are in proofs/, in files of the same names.
+use Rattle.std.specs.Prelude.{Err}
 use Rattle.std.specs.Prelude.{ℕ, ◌≡◌, true, cond, List, [], ◌∷◌, ◌++◌, ltb, eqb, length, get_or}
 use Rattle.facts.specs.CommonPrefix.{agreed}
-use Rattle.sheet.specs.declared.check.Check.{Check}
-use Rattle.sheet.specs.declared.check.Check.TheVariants.{Clear, Refused}
+use Rattle.sheet.specs.Check.{first_cause, refused_or, unless_refused, Check, Clear, Refused}
+use Rattle.certify.specs.Answer.{Answer as Certification, Certified, Open}
+use Rattle.judge.specs.Answer.{Answer, Pass, Wrong, Unheard, Unfinished}
 use Rattle.sheet.specs.declared.check.Values.{Values}
-use Rattle.sheet.specs.Check.{first_cause, refused_or, unless_refused}
 use Rattle.sheet.specs.Values.{refusal_values, Returns}
 use Rattle.sheet.specs.Reader.{sequence_in, answers_in, answers_record}
 use Rattle.machine.specs.Machine.{Mealy, no_answer, answers, state_at}
 use Rattle.machine.specs.Causes.{cause10, machine_in}
 use Rattle.machine.specs.Unit.{Unit, own_answers}
-use Rattle.certify.specs.declared.answer.Answer.{Answer as Certification}
-use Rattle.certify.specs.declared.answer.Answer.TheVariants.{Certified, Open, Refused as RefusedCertification}
 use Rattle.certify.specs.Certification.{marking_causes, certification, marks_after}
-use Rattle.judge.specs.declared.answer.Answer.{Answer}
-use Rattle.judge.specs.declared.answer.Answer.TheVariants.{Pass, Wrong, Unheard, Unfinished}
-use Rattle.judge.specs.declared.answer.Answer.TheVariants.{Refused as RefusedAnswer}
 use Rattle.judge.specs.Renaming.{Renaming}
 pub mod Verdict
 pub mod Laws
@@ -37,7 +33,7 @@ judge_causes room s = marking_causes true room s ++ (cause10 (answers_record s).
 unfoldable pub cause11 : Certification → Check
 cause11 (Certified recognised) = Clear
 cause11 (Open recognised number) = Refused 11 number
-cause11 (RefusedCertification number place) = Refused number place
+cause11 (Err r) = Err r
 
 -- ---- the results
 -- the result (§7) where the answer given at a place is not the specified one: unheard where it is the byte for no
@@ -60,8 +56,8 @@ verdict M xs ys = result_at M xs ys (agreed (answers M M.start xs) ys)
 -- what judging answers to a sheet and a room for marks: cause 11 comes last (§4.1)
 unfoldable pub judgement : ℕ → List ℕ → Answer
 judgement room s =
-    refused_or RefusedAnswer (first_cause (judge_causes room s))
-    (refused_or RefusedAnswer (cause11 (certification room s)) (verdict (machine_in s) (sequence_in s) (answers_in s)))
+    refused_or Refused (first_cause (judge_causes room s))
+    (refused_or Refused (cause11 (certification room s)) (verdict (machine_in s) (sequence_in s) (answers_in s)))
 
 -- the lent buffer after judging: that of certifying for a result (§7) and for refusal 11, otherwise as before (§4.3)
 unfoldable pub judged_marks : List ℕ → List ℕ → List ℕ
@@ -74,7 +70,7 @@ values_of (Pass size end) = record { class = 100; place = size; a = 0; b = end }
 values_of (Wrong place specified given) = record { class = 101; place = place; a = specified; b = given }
 values_of (Unheard place) = record { class = 103; place = place; a = 0; b = 0 }
 values_of (Unfinished number) = record { class = 102; place = number; a = 0; b = 0 }
-values_of (RefusedAnswer number place) = refusal_values number place
+values_of (Err r) = refusal_values r.number r.place
 
 -- what judging promises of a sheet (§4.4): the specified answer with its number and values, and every
 -- byte of the lent buffer

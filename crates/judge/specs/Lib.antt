@@ -1,3 +1,4 @@
+pub mod Answer
 pub mod Renaming
 pub mod Judging
 pub mod Comparison

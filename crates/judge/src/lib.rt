@@ -5,5 +5,5 @@ mod answer;
 mod comparison;
 mod service;
 
-pub use answer::{Answer, values_of};
+pub use answer::{Judgement, values_of};
 pub use service::judge;

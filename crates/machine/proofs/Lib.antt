@@ -1,5 +1,4 @@
 mod Columns
 mod HouseTable
 mod LoadChecks
-mod Pairs
 mod Runs

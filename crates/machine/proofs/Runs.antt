@@ -1,7 +1,7 @@
 -- How the loop of `agree` compares two runs of a machine.
 -- Assumes nothing.
 use Prim.Native.Nat.{ℕ, ◌+◌, ◌≤◌, ◌<◌}
-use mathlib.Core.Path.{◌≡◌, refl, sym, ap, ap₂, ◌∙◌}
+use mathlib.Core.Path.{◌≡◌, sym, ap, ap₂, ◌∙◌}
 use mathlib.Core.Bool.{Bool, true, false, ◌&&◌}
 use mathlib.Core.List.{List}
 use native.Mathlib.Omega.{arith}
@@ -17,9 +17,6 @@ module _ (M : Mealy) (w : List ℕ) (i j : ℕ) where
   pub record Alike (s t p : ℕ) : Type 0 where
     pub inside : p ≤ length w
     pub keeps : same (answers M s (drop p w)) (answers M t (drop p w)) ≡ same (answers M i w) (answers M j w)
-
-  pub alike_start : Alike i j 0
-  alike_start = record { inside = omega arith; keeps = refl }
 
   module _ {s t p : ℕ} (h : Alike s t p) where
     pub alike_end : length w ≤ p → true ≡ same (answers M i w) (answers M j w)

@@ -5,9 +5,8 @@
 use Rattle.std.specs.Prelude.{ℕ, ◌+◌, ◌*◌, Bool, not, ◌&&◌, ◌||◌, List, [], ◌∷◌, ◌++◌, leb, ltb, eqb, length, get_or}
 use Rattle.std.specs.Prelude.{take}
 use Rattle.facts.specs.Lists.{same}
-use Rattle.sheet.specs.declared.check.Check.{Check}
+use Rattle.sheet.specs.Check.{refusal◌with◌if◌, ◌else◌, first, Check}
 use Rattle.sheet.specs.declared.reader.Needs.{Needs}
-use Rattle.sheet.specs.Check.{refusal◌with◌if◌, ◌else◌, first}
 use Rattle.sheet.specs.Format.{offset, standard, Format}
 use Rattle.sheet.specs.Reader.{sheet_causes, when, needed, machine_payload, word_in, sequence_in, machine_record}
 use Rattle.sheet.specs.Reader.{word_record, sequence_record}

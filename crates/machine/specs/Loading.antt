@@ -1,10 +1,9 @@
 -- What a service begins with that needs the machine (§4.2, §4.4): the first refusal of some causes of a sheet, the
 -- machine, and the sheet's records. The laws stand in Loading.Laws.
 use Rattle.std.specs.Prelude.{ℕ, ◌≡◌, List}
-use Rattle.sheet.specs.declared.check.Check.{Check}
-use Rattle.sheet.specs.declared.check.Check.TheVariants.{Clear}
-use Rattle.sheet.specs.declared.record.Found.{Found}
-use Rattle.sheet.specs.Check.{first_cause}
+use Rattle.sheet.specs.Check.{first_cause, Check, Clear}
+use Rattle.std.specs.Prelude.{Option}
+use Rattle.sheet.specs.declared.record.Record.{Record}
 use Rattle.sheet.specs.Format.{standard}
 use Rattle.sheet.specs.Reader.{found_in, records_in}
 use Rattle.machine.specs.declared.loading.Loaded.{Loaded}
@@ -25,6 +24,6 @@ pub record LoadedBy (causes : List Check) (s : List ℕ) (l : Loaded) : Type 0 w
 
 -- what the checks of word and sequence need: the machine is the sheet's own, and the record is the one that reading
 -- these kinds finds
-pub record NeededRequires (s : List ℕ) (M : Mealy) (ks : List ℕ) (f : Found) : Type 0 where
+pub record NeededRequires (s : List ℕ) (M : Mealy) (ks : List ℕ) (f : Option Record) : Type 0 where
   pub machine : M ≡ machine_in s
   pub found : f ≡ found_in standard ks s

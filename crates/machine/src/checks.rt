@@ -5,22 +5,24 @@ ghost use Rattle.std.specs.Prelude.{◌≡◌, ◌+◌, ◌*◌, ◌≤◌, ◌<
 ghost use Rattle.sheet.specs.Check.{first, first_cause};
 ghost use Rattle.sheet.specs.Format.{standard, header};
 ghost use Rattle.machine.specs.Machine.{meaning};
-ghost use Rattle.machine.specs.Causes.{cause3, byte_cause, commands_cause, table_causes, word_causes, sequence_causes};
+ghost use Rattle.machine.specs.Causes.{cause3, byte_cause, commands_cause, table_causes, word_causes};
+ghost use Rattle.machine.specs.Causes.{sequence_causes};
 ghost use Rattle.machine.specs.Causes.{outside as outside_of};
 
 use crate::machine::Machine;
 use crate::separation::separation;
-use sheet::{Check, HEADER, TABLE, byte, first_of, refuse};
+use sheet::{Check, HEADER, TABLE, byte, refuse};
 
 // Whether a number is outside its limits.
 fn outside(most: usize, x: usize) -> bool
     ensures { result ≡ outside_of most x }
 {
-    (x < Machine::LEAST) | (most < x)
+    x < Machine::LEAST || most < x
 }
 
 // The first of count bytes of a part, at from and then every stride, that is bound or more. The
-// part starts at base in the sheet.
+// part starts at base in the sheet. The number, here and below, is that of the cause, as in
+// `refuse`; no struct, since no two callers share a value.
 fn scan(
     number: u8,
     base: usize,
@@ -33,20 +35,11 @@ fn scan(
     requires { base + (from + stride * count) < 2 ^ 64 }
     ensures { result ≡ first count (byte_cause number base part.now from stride bound) }
 {
-    let mut i = 0;
-    while i < count {
+    for i in 0..count {
         let at = from + stride * i;
-        let check = refuse(number, base + at, bound <= byte(part, at));
-        if let Check::Refused {
-            number: _,
-            place: _,
-        } = check
-        {
-            return check;
-        }
-        i += 1;
+        refuse(number, base + at, bound <= byte(part, at))?;
     }
-    Check::Clear
+    Ok(())
 }
 
 // Cause 3.
@@ -80,10 +73,9 @@ fn scan_pairs(number: u8, at: u32, p: &[u8], from: usize, bound: u8) -> Check
 pub fn table_check(at: u32, p: &[u8]) -> Check
     ensures { result ≡ first_cause (table_causes standard at p.now) }
 {
-    let three = shape(at, p);
-    let four = scan_pairs(4, at, p, TABLE, byte(p, 0));
-    let twelve = scan_pairs(12, at, p, TABLE + 1, Machine::NO_ANSWER);
-    first_of(three, first_of(four, twelve))
+    shape(at, p)?;
+    scan_pairs(4, at, p, TABLE, byte(p, 0))?;
+    scan_pairs(12, at, p, TABLE + 1, Machine::NO_ANSWER)
 }
 
 // Causes 5 and 7: at most so many commands, for a machine of k commands.
@@ -91,29 +83,21 @@ fn commands(number: u8, most: usize, k: u8, at: u32, w: &[u8]) -> Check
     ensures { result ≡ commands_cause number most k at w.now }
 {
     let start = at as usize;
-    let length = refuse(number, start, outside(most, w.len()));
-    let high = scan(number, start + HEADER, w, 0, 1, w.len(), k);
-    first_of(length, high)
+    refuse(number, start, outside(most, w.len()))?;
+    scan(number, start + HEADER, w, 0, 1, w.len(), k)
 }
 
 // The causes of a word, for a machine.
-pub fn word_check(m: Machine, at: u32, w: &[u8]) -> Check
-    ensures { result ≡ first_cause (word_causes (meaning m) at w.now) }
+pub fn word_check(m: &Machine, at: u32, w: &[u8]) -> Check
+    ensures { result ≡ first_cause (word_causes (meaning m.now) at w.now) }
 {
-    let five = commands(5, Machine::WORD, m.k, at, w);
-    if let Check::Refused {
-        number: _,
-        place: _,
-    } = five
-    {
-        return five;
-    }
+    commands(5, Machine::WORD, m.k, at, w)?;
     separation(m, w)
 }
 
 // The causes of a sequence, for a machine.
-pub fn sequence_check(m: Machine, at: u32, xs: &[u8]) -> Check
-    ensures { result ≡ first_cause (sequence_causes (meaning m) at xs.now) }
+pub fn sequence_check(m: &Machine, at: u32, xs: &[u8]) -> Check
+    ensures { result ≡ first_cause (sequence_causes (meaning m.now) at xs.now) }
 {
     commands(7, Machine::SEQUENCE, m.k, at, xs)
 }

@@ -6,7 +6,7 @@ ghost use Rattle.machine.specs.House.{house_entry, house_payload};
 use sheet::TABLE;
 
 // An entry of a machine's table.
-#[derive(Clone, Copy)]
+#[derive(Clone, Copy, Debug, PartialEq, Eq)]
 pub struct Entry {
     pub next: u8,
     pub answer: u8,
@@ -28,17 +28,11 @@ const PACKED: [u8; 16] = [
     0o302, 0o325, 0o325, 0o106,
 ];
 
-// The entry of a state and a command; next state 255 and answer 0 above 3.
+// The entry of a state and a command; next state 255 and answer 0 above 3, by its promise.
 pub fn house_entry(state: u8, command: u8) -> Entry
     ensures { result ≡ house_entry state command }
 {
-    if 3 < state {
-        return Entry {
-            next: 255,
-            answer: 0,
-        };
-    }
-    if 3 < command {
+    if 3 < state || 3 < command {
         return Entry {
             next: 255,
             answer: 0,

@@ -10,10 +10,11 @@ ghost use Rattle.machine.specs.Loading.{LoadedBy, NeededRequires};
 
 use crate::checks::{sequence_check, table_check, word_check};
 use crate::machine::Machine;
-use sheet::{Check, Found, Needs, Reading, Records, first_of, payload, read_sheet, record_or};
+use sheet::{Check, Needs, Reading, Record, Records, payload, read_sheet, record_or};
 
-// The first refusal, or clear, the machine, and the record of each role.
-#[derive(Clone, Copy)]
+// The first refusal, or clear; the machine, and the record of each role. No `Result` of these: `LoadedBy`
+// promises what they are where something is refused too.
+#[derive(Clone, Copy, Debug, PartialEq, Eq)]
 pub struct Loaded {
     pub check: Check,
     pub machine: Machine,
@@ -25,66 +26,46 @@ fn machine_check(sheet: &[u8], needs: Needs, reading: Reading) -> Check
     requires { reading ≡ reading_of standard needs sheet.now }
     ensures { result ≡ first_cause (machine_causes needs sheet.now) }
 {
-    let earlier = reading.check;
-    if let Check::Refused {
-        number: _,
-        place: _,
-    } = earlier
-    {
-        return earlier;
-    }
-    let records = reading.records;
-    let found = records.machine;
-    let r = record_or(found);
-    table_check(r.start, payload(sheet, found))
+    reading.check?;
+    let found = reading.records.machine;
+    table_check(record_or(found).start, payload(sheet, found))
 }
 
 // The causes of the word, where it is needed, for the sheet's machine.
-fn needed_word(sheet: &[u8], found: Found, m: Machine, needed: bool) -> Check
-    requires { NeededRequires sheet.now (meaning m) standard.word found }
+fn needed_word(sheet: &[u8], found: Option<Record>, m: &Machine, needed: bool) -> Check
+    requires { NeededRequires sheet.now (meaning m.now) standard.word found }
     ensures { result ≡ first_cause (when needed (word_causes_in sheet.now)) }
 {
     if needed {
-        let r = record_or(found);
-        word_check(m, r.start, payload(sheet, found))
+        word_check(m, record_or(found).start, payload(sheet, found))
     } else {
-        Check::Clear
+        Ok(())
     }
 }
 
-// Those of the sequence likewise.
-fn needed_sequence(sheet: &[u8], found: Found, m: Machine, needed: bool) -> Check
-    requires { NeededRequires sheet.now (meaning m) standard.sequence found }
+// Those of the sequence likewise. One function of both would take the check as a closure and the causes
+// that it promises beside it, and be no shorter.
+fn needed_sequence(sheet: &[u8], found: Option<Record>, m: &Machine, needed: bool) -> Check
+    requires { NeededRequires sheet.now (meaning m.now) standard.sequence found }
     ensures { result ≡ first_cause (when needed (sequence_causes_in sheet.now)) }
 {
     if needed {
-        let r = record_or(found);
-        sequence_check(m, r.start, payload(sheet, found))
+        sequence_check(m, record_or(found).start, payload(sheet, found))
     } else {
-        Check::Clear
+        Ok(())
     }
 }
 
 // All causes of loading, with the machine as it was loaded.
-fn all_checks(sheet: &[u8], needs: Needs, reading: Reading, m: Machine) -> Check
+fn all_checks(sheet: &[u8], needs: Needs, reading: Reading, m: &Machine) -> Check
     requires as_read { reading ≡ reading_of standard needs sheet.now }
-    requires as_held { meaning m ≡ held sheet.now }
+    requires as_held { meaning m.now ≡ held sheet.now }
     ensures { result ≡ first_cause (load_causes needs sheet.now) }
 {
-    let table = machine_check(sheet, needs, reading);
-    if let Check::Refused {
-        number: _,
-        place: _,
-    } = table
-    {
-        return table;
-    }
+    machine_check(sheet, needs, reading)?;
     let records = reading.records;
-    let w = records.word;
-    let xs = records.sequence;
-    let word = needed_word(sheet, w, m, needs.word);
-    let sequence = needed_sequence(sheet, xs, m, needs.sequence);
-    first_of(word, sequence)
+    needed_word(sheet, records.word, m, needs.word)?;
+    needed_sequence(sheet, records.sequence, m, needs.sequence)
 }
 
 // Loads a sheet, in one pass, for a service that needs the machine and these roles besides.
@@ -93,9 +74,8 @@ pub fn load_sheet(sheet: &[u8], needs: Needs) -> Loaded
 {
     let reading = read_sheet(sheet, needs);
     let records = reading.records;
-    let found = records.machine;
-    let machine = Machine::load(payload(sheet, found));
-    let check = all_checks(sheet, needs, reading, machine);
+    let machine = Machine::load(payload(sheet, records.machine));
+    let check = all_checks(sheet, needs, reading, &machine);
     Loaded {
         check,
         machine,

@@ -9,8 +9,9 @@ ghost use Rattle.machine.specs.House.{house as the_house};
 use crate::house::house_payload;
 use sheet::{TABLE, byte};
 
-// A machine: n states, k commands, the start, and its table, entry (s, c) at s * k + c.
-#[derive(Clone, Copy)]
+// A machine: n states, k commands, the start, and its table, entry (s, c) at s * k + c. Two columns and
+// no array of entries: `cell` of the crate word is lent one column, and the definitions have two.
+#[derive(Clone, Copy, Debug, PartialEq, Eq)]
 pub struct Machine {
     pub n: u8,
     pub k: u8,
@@ -20,7 +21,7 @@ pub struct Machine {
 }
 
 // The limits as values.
-#[derive(Clone, Copy)]
+#[derive(Clone, Copy, Debug, PartialEq, Eq)]
 pub struct Limits {
     pub least: usize,
     pub states: usize,
@@ -52,15 +53,27 @@ impl Machine {
     pub fn load(p: &[u8]) -> Machine
         ensures { meaning result ≡ machine_of standard (take (most_machine standard) p.now) }
     {
-        let next = column(p, TABLE);
-        let answer = column(p, TABLE + 1);
         Machine {
             n: byte(p, 0),
             k: byte(p, 1),
             start: 0,
-            next,
-            answer,
+            next: column(p, TABLE),
+            answer: column(p, TABLE + 1),
         }
+    }
+
+    // The state to which a command leads from a state.
+    pub fn next_state(&self, s: u8, c: u8) -> u8
+        ensures { result ≡ (meaning self.now).next s c }
+    {
+        byte(&self.next, entry_at(self.k, s, c))
+    }
+
+    // The answer to a command in a state.
+    pub fn answer_to(&self, s: u8, c: u8) -> u8
+        ensures { result ≡ (meaning self.now).answer s c }
+    {
+        byte(&self.answer, entry_at(self.k, s, c))
     }
 
     // The house unit.
@@ -91,10 +104,8 @@ fn column(p: &[u8], from: usize) -> [u8; Machine::ENTRIES]
     ensures { (e : ℕ) → e < most_entries → get_or result e 0 ≡ get_or p.now (from + 2 * e) 0 }
 {
     let mut cells = [0u8; Machine::ENTRIES];
-    let mut e = 0;
-    while e < Machine::ENTRIES {
-        cells[e] = byte(p, from + 2 * e);
-        e += 1;
+    for (e, cell) in cells.iter_mut().enumerate() {
+        *cell = byte(p, from + 2 * e);
     }
     cells
 }

@@ -1,4 +1,5 @@
 -- Numbers put one behind the other, and a sheet with a word and its line, over plain variables. Assumes nothing.
+use Rattle.std.specs.Prelude.{Err}
 use Prim.Native.Nat.{ℕ, ◌+◌, ◌*◌, ◌≤◌, ◌<◌}
 use mathlib.Core.Path.{◌≡◌, refl, sym, ap, ap₂, ◌∙◌}
 use mathlib.Core.List.{List, [], ◌∷◌, ◌++◌, append_assoc, append-nil}
@@ -6,26 +7,27 @@ use mathlib.Core.Option.{Option, some}
 use native.Mathlib.Omega.{arith}
 use native.Mathlib.Numerals.{add-one}
 use lib.ListN.{length, get_or, take, length-take}
-use lib.Seq.{take-suc, take_all, take-append_seam}
+use lib.Seq.{take-suc, take-append_seam}
 use Rattle.facts.specs.Decimal.{bytes}
-use Rattle.sheet.specs.declared.record.Found.{Found as FoundRecord}
+use Rattle.word.specs.Answer.{Answer, Found, Nothing}
+use Rattle.std.specs.Prelude.{Option as Maybe}
+use Rattle.sheet.specs.declared.record.Record.{Record}
 use Rattle.sheet.specs.Format.{standard}
 use Rattle.sheet.specs.Reader.{found_in}
 use Rattle.machine.specs.Causes.Lists.{payload_short, clear_machine}
-use Rattle.word.specs.declared.answer.Answer.{Answer}
-use Rattle.word.specs.declared.answer.Answer.TheVariants.{Found, Nothing, Refused as RefusedAnswer}
 use Rattle.word.specs.declared.answer.Searched.{Searched}
 use Rattle.word.specs.Search.{most_sought}
 use Rattle.word.specs.Service.{search_needs, searching, padded, word_beside, Searches}
 use Rattle.word.specs.Service.Laws.{Outcome, refused, found, missing, searching_outcome, found_answered}
 use Rattle.report.specs.Lines.{labelled, newline, listed, word_line, none_line, refusal_line}
-use Rattle.sheet.specs.Writing.{Puts}
-use Rattle.report.specs.Pieces.{list_room, WordRequires}
+use Rattle.report.specs.declared.pieces.Cursor.{Cursor}
+use Rattle.report.specs.Pieces.{list_room, WordRequires, PutsNext}
 use Rattle.report.specs.Output.{Output, on_error, Writes}
 use Rattle.report.specs.Sheets.{word_sheet}
 use Rattle.report.specs.Services.{found_output, searched}
 use Rattle.report.specs.Services.Laws.{searched_refused, searched_clear}
-use Rattle.sheet.specs.Writing.Laws.{puts_none, puts_same, puts_append, puts_long}
+use Rattle.sheet.specs.Writing.Laws.{puts_none}
+use Rattle.report.proofs.Putting.{next_append, next_same, next_prints}
 use Rattle.report.proofs.Making.{writes_parts}
 
 -- ---- a list of numbers
@@ -36,21 +38,17 @@ listed_append (x ∷ xs) ys =
     ap (λ (l : List ℕ). labelled " " x ++ l) (listed_append xs ys)
     ∙ sym (append_assoc (labelled " " x) (listed xs) (listed ys))
 
-module _ (numbers : List ℕ) (at : ℕ) (before : List ℕ) where
+module _ (numbers : List ℕ) (start : Cursor) where
   -- what the loop keeps: the numbers before i are put
-  pub record Listing (after : List ℕ) (end i : ℕ) : Type 0 where
-    pub inside : i ≤ length numbers
-    pub bound : end ≤ at + list_room * i
-    pub long : length after ≡ length before
-    pub puts : Puts before at (listed (take i numbers)) after end
+  pub record Listing (now : Cursor) (i : ℕ) : Type 0 where
+    pub next : PutsNext (listed (take i numbers)) start now
+    pub bound : now.end ≤ start.end + list_room * i
 
-  pub listing_none : at + list_room * length numbers ≤ length before → Listing before at 0
+  pub listing_none : start.end ≤ length start.buffer.now → Listing start 0
   unfolding listed
   listing_none l = record {
-    inside = omega arith;
+    next = record { same_buffer = refl; puts = puts_none start.buffer.now start.end l };
     bound = omega arith;
-    long = refl;
-    puts = puts_none before at (omega arith);
   }
 
   one_more : (i : ℕ) → i < length numbers
@@ -61,44 +59,36 @@ module _ (numbers : List ℕ) (at : ℕ) (before : List ℕ) where
       ∙ sym (listed_append (take i numbers) (get_or numbers i 0 ∷ []))
       ∙ ap listed (sym (take-suc numbers i 0 l) ∙ ap (λ (n : ℕ). take n numbers) (sym (add-one i)))
 
-  pub listing_on : {middle after : List ℕ} {end next i : ℕ} → Listing middle end i → i < length numbers
-      → Puts middle end (labelled " " (get_or numbers i 0)) after next → next ≤ end + list_room
-      → Listing after next (i + 1)
-  listing_on {middle} {after} {end} {next} {i} h l p b = record {
-    inside = omega arith;
+  pub listing_on : {now later : Cursor} {i : ℕ} → Listing now i → i < length numbers
+      → PutsNext (labelled " " (get_or numbers i 0)) now later → later.end ≤ now.end + list_room
+      → Listing later (i + 1)
+  listing_on {now} {later} {i} h l p b = record {
+    next =
+        next_same (one_more i l)
+        (next_append (listed (take i numbers)) (labelled " " (get_or numbers i 0)) h.next p);
     bound = omega (arith, h.bound);
-    long = puts_long (labelled " " (get_or numbers i 0)) p ∙ h.long;
-    puts =
-        puts_same (one_more i l)
-        (puts_append (listed (take i numbers)) (labelled " " (get_or numbers i 0)) h.puts p);
   }
 
-  pub listing_end : {after : List ℕ} {end i : ℕ} → Listing after end i → length numbers ≤ i
-      → Puts before at (listed numbers) after end × (end ≤ at + list_room * length numbers)
-  listing_end {after} {end} {i} h l =
-      let e : i ≡ length numbers = omega (arith, h.inside) in
-      (puts_same (ap listed (take_all i numbers l)) h.puts, omega (arith, h.bound))
-
 -- ---- a sheet with a word, and the word's line
-pub word_written : (s w before : List ℕ) {middle after : List ℕ} {size end : ℕ}
-    → Puts before 0 (word_sheet s w) middle size
-    → Puts middle size (word_line w) after end
-    → Writes (found_output s (some w)) before after (record { out = size; end = end })
-word_written s w before h k =
-    writes_parts (found_output s (some w)) (omega (arith, h.ends)) (puts_append (word_sheet s w) (word_line w) h k)
+pub word_written : (s w before : List ℕ) {start middle after : Cursor} → start.buffer.now ≡ before → start.end ≡ 0
+    → PutsNext (word_sheet s w) start middle → PutsNext (word_line w) middle after
+    → Writes (found_output s (some w)) before after.buffer.now (record { out = middle.end; end = after.end })
+word_written s w before e f h k =
+    writes_parts (found_output s (some w)) (omega (arith, f, h.puts.ends))
+    (next_prints e f (next_append (word_sheet s w) (word_line w) h k))
 
 -- the line of a word, in its pieces
-pub word_line_lem : (w : List ℕ) {before a b after : List ℕ} {at i j end : ℕ} → Puts before at (bytes "WORD") a i
-    → Puts a i (listed w) b j → Puts b j newline after end → Puts before at (word_line w) after end
+pub word_line_lem : (w : List ℕ) {a b c d : Cursor} → PutsNext (bytes "WORD") a b → PutsNext (listed w) b c
+    → PutsNext newline c d → PutsNext (word_line w) a d
 unfolding word_line
-word_line_lem w h k l = puts_append (bytes "WORD" ++ listed w) newline (puts_append (bytes "WORD") (listed w) h k) l
+word_line_lem w h k l = next_append (bytes "WORD" ++ listed w) newline (next_append (bytes "WORD") (listed w) h k) l
 
 -- ---- the answers of the search
 -- what is written for an answer and the array beside it
 abbrev output_of : List ℕ → List ℕ → Answer → Output
 output_of s word (Found n) = found_output s (some (take n word))
 output_of s word Nothing = on_error none_line
-output_of s word (RefusedAnswer number place) = on_error (refusal_line number place)
+output_of s word (Err r) = on_error (refusal_line r.number r.place)
 
 output_of_lem : (s : List ℕ) → Outcome s (searching s) → searched s ≡ output_of s (word_beside s) (searching s)
 output_of_lem s (refused number place c a o) = searched_refused s c ∙ sym (ap (output_of s (word_beside s)) a)
@@ -112,7 +102,7 @@ output_of_lem s (missing c h a o) =
     searched_clear s c ∙ ap (found_output s) o ∙ sym (ap (output_of s (word_beside s)) a)
 
 -- what a found word shows of the sheet and of the array
-pub record HoldsFound (s : List ℕ) (f : FoundRecord) (word : List ℕ) (n : ℕ) : Type 0 where
+pub record HoldsFound (s : List ℕ) (f : Maybe Record) (word : List ℕ) (n : ℕ) : Type 0 where
   pub inside : n ≤ length word
   pub sized : n ≡ length (take n word)
   pub required : WordRequires s f (take n word)
@@ -123,7 +113,7 @@ module _ (s : List ℕ) {r : Searched} (h : Searches s r) where
       output_of_lem s (searching_outcome s)
       ∙ ap₂ (output_of s) (sym h.word) (sym h.answer.is ∙ e)
 
-  pub found_holds : {n : ℕ} {f : FoundRecord} → r.answer ≡ Found n → f ≡ found_in standard standard.machine s
+  pub found_holds : {n : ℕ} {f : Maybe Record} → r.answer ≡ Found n → f ≡ found_in standard standard.machine s
       → HoldsFound s f r.word n
   found_holds {n} {f} e is =
       let a = found_answered s (sym h.answer.is ∙ e) in

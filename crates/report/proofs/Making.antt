@@ -1,21 +1,18 @@
 -- The sheet that carries what was built: what a built answer shows of the lent sheet and of the buffer; and what is
 -- written to which stream. Assumes nothing.
+use Rattle.std.specs.Prelude.{Err}
 use Prim.Native.Nat.{ℕ, ◌≤◌}
 use mathlib.Core.Path.{◌≡◌, refl, sym, ap, subst, ◌∙◌}
 use mathlib.Core.List.{List, ◌++◌, append-nil}
 use native.Mathlib.Omega.{arith}
 use lib.ListN.{length, take, length-take}
 use lib.Seq.{length-take-le}
-use Rattle.sheet.specs.declared.check.Check.{Check}
-use Rattle.sheet.specs.declared.check.Check.TheVariants.{Clear, Refused}
-use Rattle.sheet.specs.declared.writing.Answer.{Answer}
-use Rattle.sheet.specs.declared.writing.Answer.TheVariants.{Written as WrittenAnswer, Refused as RefusedAnswer}
-use Rattle.sheet.specs.Check.{first_cause}
+use Rattle.sheet.specs.Check.{first_cause, Check, Clear, Refused}
+use Rattle.sheet.specs.Promise.{Writes as Promise, Answer, Written as WrittenAnswer}
 use Rattle.sheet.specs.Format.{standard}
 use Rattle.sheet.specs.Reader.{machine_payload, word_in}
 use Rattle.sheet.specs.Writing.{Puts}
 use Rattle.sheet.specs.Writing.Laws.{puts_long, puts_same}
-use Rattle.sheet.specs.Promise.{Writes as Promise}
 use Rattle.sheet.specs.Promise.Laws.{writes_outcome, written_clear, fits_refused, refused_leaves, written_first}
 use Rattle.sheet.specs.Promise.Laws.{puts_writes, writes_puts}
 use Rattle.machine.specs.Limits.{most_machine, most_word, most_sequence}
@@ -43,7 +40,7 @@ pub record HoldsBuilt (s buffer : List ℕ) (n : ℕ) : Type 0 where
 
 module _ (s : List ℕ) {before after : List ℕ} {a : Answer} (room : length before ≡ most_sequence)
     (h : Builds s before after a) where
-  pub built_refuses : {number place : ℕ} → a ≡ RefusedAnswer number place
+  pub built_refuses : {number place : ℕ} → a ≡ Refused number place
       → first_cause (connected_causes s) ≡ Refused number place
   built_refuses e = fits_refused (λ q. omega (arith, room, (connected_built s q).commands.few)) (writes_outcome h e)
 
@@ -77,14 +74,14 @@ writes_parts {before} {after} {out} {end} o e h =
       counts = (low, sym (length-take-le end after low));
     }
 
-pub writes_output : {before after : List ℕ} {size : ℕ} (xs : List ℕ) {o : Output} → o ≡ on_output xs
-    → Prints xs before after size → Writes o before after (record { out = size; end = size })
-writes_output xs e h =
-    writes_same (writes_parts (on_output xs) (omega (arith, h.ends)) (puts_same (sym (append-nil xs)) h)) e
+pub writes_output : {before after : List ℕ} {size : ℕ} (xs : List ℕ) {o : Output} {r : Written} → o ≡ on_output xs
+    → r ≡ record { out = size; end = size } → Prints xs before after size → Writes o before after r
+writes_output xs e f h =
+    rw f (writes_same (writes_parts (on_output xs) (omega (arith, h.ends)) (puts_same (sym (append-nil xs)) h)) e)
 
-pub writes_error : {before after : List ℕ} {size : ℕ} (xs : List ℕ) {o : Output} → o ≡ on_error xs
-    → Prints xs before after size → Writes o before after (record { out = 0; end = size })
-writes_error xs e h = writes_same (writes_parts (on_error xs) refl h) e
+pub writes_error : {before after : List ℕ} {size : ℕ} (xs : List ℕ) {o : Output} {r : Written} → o ≡ on_error xs
+    → r ≡ record { out = 0; end = size } → Prints xs before after size → Writes o before after r
+writes_error xs e f h = rw f (writes_same (writes_parts (on_error xs) refl h) e)
 
 -- ---- what a service that writes promised, told
 pub promised : {c : Check} {xs before middle after : List ℕ} (a : Answer) {r : Written} {o : Output}
@@ -92,9 +89,9 @@ pub promised : {c : Check} {xs before middle after : List ℕ} (a : Answer) {r :
     → Tells a middle after r → Writes o before after r
 promised {c} {xs} {before} (WrittenAnswer n) e h fits t =
     let clear = (written_clear (writes_outcome h refl)).0 in
-    rw (t.0, t.1) (writes_output xs (e ∙ unless_clear _ clear) (writes_puts before h))
-promised {c} {xs} {before} {middle} {after} (RefusedAnswer n p) {r} e h fits t =
+    rw t.1 (writes_output xs (e ∙ unless_clear _ clear) t.0 (writes_puts before h))
+promised {c} {xs} {before} {middle} {after} (Err x) {r} e h fits t =
     let o = writes_outcome h refl in
     writes_same
-    (subst (λ (d : List ℕ). Writes (on_error (refusal_line n p)) d after r) (h.buffer ∙ refused_leaves before o) t)
+    (subst (λ (d : List ℕ). Writes (on_error (refusal_line x.number x.place)) d after r) (h.buffer ∙ refused_leaves before o) t)
     (e ∙ unless_refused _ (fits_refused fits o))

@@ -1,39 +1,46 @@
 -- Pieces of a line put one behind the other, and a whole line.
 -- Assumes nothing.
-use Prim.Native.Nat.{ℕ, ◌≤◌}
-use mathlib.Core.Path.{◌≡◌, refl, sym, ap, ap₂, ◌∙◌}
+use Prim.Native.Nat.{ℕ}
+use mathlib.Core.Path.{◌≡◌, refl, sym, ◌∙◌}
 use mathlib.Core.List.{List, [], ◌∷◌, ◌++◌}
-use native.Mathlib.Omega.{arith}
-use lib.ListN.{length, take}
-use lib.Seq.{length-take-le}
-use Rattle.sheet.specs.Writing.Laws.{puts_same}
-use Rattle.io.specs.Counts.{IsPrefixLen}
-use Rattle.report.specs.Phrases.{longest_phrase, phrase}
-use Rattle.report.specs.Phrases.Laws.{phrase_is}
+use lib.ListN.{length}
+use Rattle.sheet.specs.Writing.Laws.{puts_same, puts_append, puts_long}
+use Rattle.sheet.specs.Joining.{bytes_of, joined}
+use Rattle.sheet.specs.Joining.Laws.{puts_more, puts_last}
 use Rattle.report.specs.Lines.{spaced}
-use Rattle.report.specs.Pieces.{Prints}
+use Rattle.report.specs.declared.pieces.Cursor.{Cursor}
+use Rattle.report.specs.Pieces.{Prints, PutsNext}
 
--- ---- a phrase
--- the phrase of a number that a text holds at its start
-pub held : {number n s size : ℕ} {bs text : List ℕ} → bs ≡ text → s ≡ size → number ≡ n → take size text ≡ phrase n
-    → size ≤ length text → size ≤ longest_phrase → (take s bs ≡ phrase number) × (IsPrefixLen s bs × (s ≤ longest_phrase))
-held {number} {n} {s} {size} {bs} {text} e f g h l m =
-    let low : s ≤ length bs = omega (arith, f, l, ap length e) in (
-      ap₂ (λ (k : ℕ) (xs : List ℕ). take k xs) f e ∙ phrase_is g h,
-      ((low, sym (length-take-le s bs low)), omega (arith, f, m)),
-    )
+-- ---- pieces, one behind the other
+pub next_append : {a b c : Cursor} (xs ys : List ℕ) → PutsNext xs a b → PutsNext ys b c → PutsNext (xs ++ ys) a c
+next_append xs ys h k = record {
+  same_buffer = k.same_buffer ∙ h.same_buffer;
+  puts = puts_append xs ys h.puts k.puts;
+}
 
-pub no_phrase : {size : ℕ} (bytes phrase : List ℕ) → size ≡ 0 → take size bytes ≡ phrase → [] ≡ spaced phrase
-no_phrase bytes phrase e h = ap spaced (sym (ap (λ (n : ℕ). take n bytes) e) ∙ h)
+pub next_same : {a b : Cursor} {xs ys : List ℕ} → xs ≡ ys → PutsNext xs a b → PutsNext ys a b
+next_same e h = record { same_buffer = h.same_buffer; puts = puts_same e h.puts }
 
-space_before : (phrase : List ℕ) → (length phrase ≡ 0 → ⊥) → (32 ∷ []) ++ phrase ≡ spaced phrase
-space_before [] d = absurd (d refl)
-space_before (b ∷ bs) d = refl
+pub next_long : {a b : Cursor} {xs : List ℕ} → PutsNext xs a b → length b.buffer.now ≡ length a.buffer.now
+next_long {a} {b} {xs} h = puts_long xs h.puts
 
-pub some_phrase : {size : ℕ} (bytes phrase : List ℕ) → IsPrefixLen size bytes → (size ≡ 0 → ⊥) → take size bytes ≡ phrase
-    → (32 ∷ []) ++ take size bytes ≡ spaced phrase
-some_phrase bytes phrase counts d h =
-    ap (λ (l : List ℕ). (32 ∷ []) ++ l) h ∙ space_before phrase (λ e. d (counts.1 ∙ ap length h ∙ e))
+-- records
+pub next_more : {a b c : Cursor} (r : ℕ × List ℕ) (rs : List (ℕ × List ℕ)) → PutsNext (bytes_of r) a b
+    → PutsNext (joined rs) b c → PutsNext (joined (r ∷ rs)) a c
+next_more r rs h k = record { same_buffer = k.same_buffer ∙ h.same_buffer; puts = puts_more r rs h.puts k.puts }
+
+pub next_last : {a b : Cursor} (r : ℕ × List ℕ) → PutsNext (bytes_of r) a b → PutsNext (joined (r ∷ [])) a b
+next_last r h = record { same_buffer = h.same_buffer; puts = puts_last r h.puts }
+
+-- from the start of a buffer
+pub next_prints : {start after : Cursor} {before xs : List ℕ} → start.buffer.now ≡ before → start.end ≡ 0
+    → PutsNext xs start after → Prints xs before after.buffer.now after.end
+next_prints e f h = rw (e, f) at h.puts
+
+-- ---- a phrase, with a space before it where there is one
+pub some_phrase : (phrase : List ℕ) → (length phrase ≡ 0 → ⊥) → (32 ∷ []) ++ phrase ≡ spaced phrase
+some_phrase [] d = absurd (d refl)
+some_phrase (b ∷ bs) d = refl
 
 -- ---- a whole line: the same
 pub prints_same : {before after line same : List ℕ} {size : ℕ} → same ≡ line → Prints line before after size

@@ -1,7 +1,7 @@
 -- A text of decimal digits, read from the front: what it gives, behind digits of some value.
 -- Assumes nothing.
 use Prim.Native.Nat.{ℕ, ◌+◌, ◌*◌, ◌-◌, ◌≤◌, ◌<◌}
-use mathlib.Core.Path.{◌≡◌, refl, sym, ap, ap₂, ◌∙◌}
+use mathlib.Core.Path.{◌≡◌, refl, sym, ap, ◌∙◌}
 use mathlib.Core.Bool.{Bool, true, false, cond, ◌&&◌, and-false}
 use mathlib.Core.List.{List, [], ◌∷◌}
 use mathlib.Core.Option.{Option, none, some}
@@ -59,21 +59,11 @@ module _ (most value i : ℕ) (w : List ℕ) (l : i < length w) where
   first : drop i w ≡ get_or w i 0 ∷ drop (i + 1) w
   first = rw add-one (drop-cons w i 0 l)
 
-  pub number_digit : 48 ≤ get_or w i 0 → get_or w i 0 ≤ 57
+  pub number_digit : is_digit (get_or w i 0) ≡ true
       → number_from most (10 * value + (get_or w i 0 - 48)) (drop (i + 1) w) ≡ number_from most value (drop i w)
-  number_digit p q =
-      sym (number_cons most value (get_or w i 0) (drop (i + 1) w) true
-      (ap₂ ◌&&◌ (le-leb 48 (get_or w i 0) p) (le-leb (get_or w i 0) 57 q)))
-      ∙ ap (number_from most value) (sym first)
+  number_digit t =
+      sym (number_cons most value (get_or w i 0) (drop (i + 1) w) true t) ∙ ap (number_from most value) (sym first)
 
-  pub number_low : get_or w i 0 < 48 → none ≡ number_from most value (drop i w)
-  number_low p =
-      sym (number_cons most value (get_or w i 0) (drop (i + 1) w) false
-      (ap (λ (b : Bool). b && leb (get_or w i 0) 57) (lt-leb 48 (get_or w i 0) p)))
-      ∙ ap (number_from most value) (sym first)
-
-  pub number_high : 57 < get_or w i 0 → none ≡ number_from most value (drop i w)
-  number_high p =
-      sym (number_cons most value (get_or w i 0) (drop (i + 1) w) false
-      (ap (λ (b : Bool). leb 48 (get_or w i 0) && b) (lt-leb (get_or w i 0) 57 p) ∙ and-false (leb 48 (get_or w i 0))))
-      ∙ ap (number_from most value) (sym first)
+  pub number_other : is_digit (get_or w i 0) ≡ false → none ≡ number_from most value (drop i w)
+  number_other t =
+      sym (number_cons most value (get_or w i 0) (drop (i + 1) w) false t) ∙ ap (number_from most value) (sym first)

@@ -1,11 +1,11 @@
 -- The dialogue of `bench desk` (§8.2), turn by turn: what a line is, what is written, and whether the dialogue goes on.
 -- The laws of its beginning stand in Dialogue.Laws.
-use Rattle.std.specs.Prelude.{ℕ, ◌-◌, ◌≡◌, Bool, true, false, cond, ◌&&◌, List, [], ◌++◌, leb, ltb, length}
+use Rattle.std.specs.Prelude.{is_err}
+use Rattle.std.specs.Prelude.{ℕ, ◌-◌, ◌≡◌, Bool, true, cond, ◌&&◌, List, [], ◌++◌, leb, ltb, length}
 use Rattle.std.proofs.Math.Option.{Option, none, some}
 use Rattle.facts.specs.Decimal.{bytes, number_in}
 use Rattle.desk.specs.declared.desk.Desk.{Desk}
-use Rattle.desk.specs.declared.starting.First.{First}
-use Rattle.desk.specs.declared.starting.First.TheVariants.{Command as FirstCommand, Refused as RefusedFirst}
+use Rattle.desk.specs.First.{First}
 use Rattle.desk.specs.declared.starting.Started.{Started}
 use Rattle.desk.specs.declared.stepping.Stepped.{Stepped}
 use Rattle.desk.specs.Desk.{is_end}
@@ -46,6 +46,10 @@ longest_reason = 30
 abbrev pub stop_line : List ℕ → List ℕ
 stop_line reason = bytes "bench: the dialogue stops: " ++ reason ++ bytes "\n"
 
+-- the bytes of the longest such line
+abbrev pub longest_stop : ℕ
+longest_stop = 58
+
 -- a line that is no answer, where so many may still come: after the last of them the dialogue stops
 unfoldable pub others_line : ℕ → List ℕ
 others_line left = other_line ++ cond (ltb 1 left) [] (stop_line (bytes "100 lines were no answer"))
@@ -61,8 +65,7 @@ most_others = 100
 
 -- whether the desk began with a refusal
 abbrev pub is_refused : First → Bool
-is_refused (FirstCommand command) = false
-is_refused (RefusedFirst number place) = true
+is_refused first = is_err first
 
 -- what the beginning of a dialogue promises: the desk is one that start gives
 pub record Begins (s before after : List ℕ) (t : Turned) : Type 0 where
@@ -107,23 +110,6 @@ pub record Turns (d : Desk) (left : ℕ) (line before after : List ℕ) (t : Tur
   pub left_after : t.left ≡ turn_left (reply line) left
   pub over : t.over ≡ turn_over stepped (reply line) left
   pub written : Writes (turn_output stepped (reply line) left) before after t.written
-
--- ---- what the parts of a turn promise; the contract of a turn does not name it
--- the turn of an answer
-pub record Answered (d : Desk) (left y : ℕ) (before after : List ℕ) (t : Turned) : Type 0 where
-  pub stepped : Stepped
-  pub steps : Steps d y stepped
-  pub desk : t.desk ≡ stepped.desk
-  pub left_after : t.left ≡ left
-  pub over : t.over ≡ is_end stepped.order
-  pub written : Writes (on_output (order_line stepped.order)) before after t.written
-
--- the turn of another line, of which this is told
-pub record Told (d : Desk) (left : ℕ) (over : Bool) (line before after : List ℕ) (t : Turned) : Type 0 where
-  pub desk : t.desk ≡ d
-  pub left_after : t.left ≡ left
-  pub over_after : t.over ≡ over
-  pub written : Writes (on_error line) before after t.written
 
 -- ---- the end of the input
 unfoldable pub input_ended : Output

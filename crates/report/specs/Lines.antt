@@ -1,17 +1,14 @@
 -- The lines that the bench prints, to the byte (§8.1): those of judging, of certifying, of the desk, of the search for
 -- a word and of a refusal.
+use Rattle.std.specs.Prelude.{Err}
 use Rattle.std.specs.Prelude.{ℕ, List, [], ◌∷◌, ◌++◌}
 use Prim.Native.String.{String}
 use Rattle.facts.specs.Decimal.{bytes, decimal}
-use Rattle.judge.specs.declared.answer.Answer.{Answer as Judgement}
-use Rattle.judge.specs.declared.answer.Answer.TheVariants.{Pass, Wrong, Unheard, Unfinished}
-use Rattle.judge.specs.declared.answer.Answer.TheVariants.{Refused as RefusedJudgement}
-use Rattle.certify.specs.declared.answer.Answer.{Answer as Certification}
-use Rattle.certify.specs.declared.answer.Answer.TheVariants.{Certified, Open, Refused as RefusedCertification}
+use Rattle.judge.specs.Answer.{Answer as Judgement, Pass, Wrong, Unheard, Unfinished}
+use Rattle.certify.specs.Answer.{Answer as Certification, Certified, Open}
+use Rattle.desk.specs.First.{First, Command as FirstCommand}
 use Rattle.desk.specs.declared.desk.Order.{Order}
 use Rattle.desk.specs.declared.desk.Order.TheVariants.{Command, Home, Stranger}
-use Rattle.desk.specs.declared.starting.First.{First}
-use Rattle.desk.specs.declared.starting.First.TheVariants.{Command as FirstCommand, Refused as RefusedFirst}
 use Rattle.report.specs.Phrases.{phrase}
 pub mod Examples
 pub mod Identity
@@ -70,7 +67,7 @@ judge_line (Pass size end) = pass_line size end
 judge_line (Wrong place specified given) = wrong_line place specified given
 judge_line (Unheard place) = unheard_line place
 judge_line (Unfinished number) = unfinished_line number
-judge_line (RefusedJudgement number place) = refusal_line number place
+judge_line (Err r) = refusal_line r.number r.place
 
 -- `CERTIFIED 13`: the number of recognised places
 unfoldable pub certified_line : ℕ → List ℕ
@@ -84,7 +81,7 @@ open_line recognised number = labelled "OPEN " number ++ labelled " recognised "
 abbrev pub certify_line : Certification → List ℕ
 certify_line (Certified recognised) = certified_line recognised
 certify_line (Open recognised number) = open_line recognised number
-certify_line (RefusedCertification number place) = refusal_line number place
+certify_line (Err r) = refusal_line r.number r.place
 
 -- `WORD 0 1`: the commands of the word that was found
 unfoldable pub word_line : List ℕ → List ℕ
@@ -115,4 +112,4 @@ order_line (Stranger place) = stranger_line place
 -- the line for what the desk begins with
 abbrev pub first_line : First → List ℕ
 first_line (FirstCommand command) = command_line command
-first_line (RefusedFirst number place) = refusal_line number place
+first_line (Err r) = refusal_line r.number r.place

@@ -1,12 +1,10 @@
 -- What a run of the bench writes (§8.2): the bytes for standard output and those for standard error; and what the
 -- functions promise that make them in a lent buffer. The laws stand in Output.Laws.
+use Rattle.std.specs.Prelude.{Err}
 use Rattle.std.specs.Prelude.{ℕ, ◌≡◌, List, [], ◌++◌, length}
 use Rattle.io.specs.Counts.{IsPrefixLen}
-use Rattle.sheet.specs.declared.check.Check.{Check}
-use Rattle.sheet.specs.declared.check.Check.TheVariants.{Clear, Refused}
-use Rattle.sheet.specs.declared.writing.Answer.{Answer}
-use Rattle.sheet.specs.declared.writing.Answer.TheVariants.{Written as WrittenAnswer, Refused as RefusedAnswer}
-use Rattle.sheet.specs.Promise.{Writes as Promise}
+use Rattle.sheet.specs.Check.{Check, Clear}
+use Rattle.sheet.specs.Promise.{Writes as Promise, Answer, Written as WrittenAnswer}
 use Rattle.report.specs.declared.output.Written.{Written}
 use Rattle.report.specs.Lines.{refusal_line}
 pub mod Laws
@@ -27,7 +25,7 @@ on_error xs = record { out = []; err = xs }
 -- a service that tells a refusal on standard error (§8.2): its line there, and else what is written
 abbrev pub output_unless : Check → Output → Output
 output_unless Clear o = o
-output_unless (Refused number place) o = on_error (refusal_line number place)
+output_unless (Err r) o = on_error (refusal_line r.number r.place)
 
 -- one whose result is bytes: these to standard output
 abbrev pub bytes_unless : Check → List ℕ → Output
@@ -44,4 +42,4 @@ pub record Writes (o : Output) (before after : List ℕ) (r : Written) : Type 0 
 -- nothing is changed; or the line of its refusal goes to standard error
 abbrev pub Tells : Answer → List ℕ → List ℕ → Written → Type 0
 Tells (WrittenAnswer size) before after r = (r ≡ record { out = size; end = size }) × (after ≡ before)
-Tells (RefusedAnswer number place) before after r = Writes (on_error (refusal_line number place)) before after r
+Tells (Err refusal) before after r = Writes (on_error (refusal_line refusal.number refusal.place)) before after r

@@ -4,7 +4,7 @@ use Rattle.facts.specs.Decimal.{bytes}
 pub mod Laws
 
 -- the phrases of the refusal numbers 1 to 11, in this order (§4.2)
-unfoldable pub phrases : List (List ℕ)
+abbrev pub phrases : List (List ℕ)
 phrases =
     bytes "sheet cut or too long"
     ∷ bytes "record kind"

@@ -13,10 +13,6 @@ sheet_help =
     ++ bytes "bench build             build the sequence of the sheet on standard input: the sheet with it as record 3\n"
     ++ bytes "bench read KIND         read the sheet on standard input: the payload of record 1 machine, 2 word, 3 sequence, 4 answers\n"
 
--- the number of their bytes
-abbrev pub sheet_help_size : ℕ
-sheet_help_size = 599
-
 -- the list of services, a line each (§8.2). Its text is fixed here; the specification leaves it free
 unfoldable pub help_text : List ℕ
 help_text =

@@ -1,20 +1,18 @@
 // The dialogue of `bench desk`: its beginning, a turn for each line, and the end of the input. What
 // is written stands in a lent buffer.
-ghost use Rattle.std.specs.Prelude.{◌≡◌, true, ◌-◌, ◌≤◌, leb, length};
+ghost use Rattle.std.specs.Prelude.{◌≡◌, ◌+◌, ◌≤◌, length};
 ghost use Rattle.facts.specs.Decimal.{bytes};
 ghost use Rattle.desk.specs.Desk.{is_end as is_end_of};
-ghost use Rattle.sheet.specs.Writing.{Puts};
-ghost use Rattle.report.specs.Pieces.{Prints};
+ghost use Rattle.report.specs.Pieces.{Prints, PutsNext};
 ghost use Rattle.report.specs.Output.{Writes};
-ghost use Rattle.report.specs.Dialogue.{longest_reason, stop_line, others_line, input_ended, is_refused, Begins};
-ghost use Rattle.report.specs.Dialogue.{reply as reply_in};
-ghost use Rattle.report.specs.Dialogue.{Answered, Told, Turns};
+ghost use Rattle.report.specs.Dialogue.{longest_reason, longest_stop, stop_line, others_line, input_ended};
+ghost use Rattle.report.specs.Dialogue.{reply as reply_in, Begins, Turns};
 
 use crate::lines::{first_line, order_line};
 use crate::numbers::number_in;
 use crate::output::{OUTPUT, Written};
-use crate::pieces::{put, put_between};
-use desk::{Desk, First, Order, start, step};
+use crate::pieces::Cursor;
+use desk::{Desk, Order, Started, start, step};
 
 // The most bytes of a line, its newline not counted.
 pub const LINE: usize = 80;
@@ -22,7 +20,8 @@ pub const LINE: usize = 80;
 // How many lines that are no answer stop the dialogue.
 const OTHERS: u8 = 100;
 
-// What a line is.
+// What a line is. No `Result`: of the two kinds that are no answer nothing is done alike, and no
+// caller hands them on.
 #[derive(Clone, Copy)]
 pub enum Reply {
     Answer { value: u8 },
@@ -31,7 +30,8 @@ pub enum Reply {
 }
 
 // The desk after a turn, how many lines that are no answer may still come, whether the dialogue is
-// over, and what is written.
+// over, and what is written. No `Option` of desk and number in place of `over`: `turn` promises both
+// of a turn that ends, too (`turn_desk`, `turn_left`).
 #[derive(Clone, Copy)]
 pub struct Turned {
     pub desk: Desk,
@@ -47,140 +47,64 @@ fn reply_of(line: &[u8]) -> Reply
     if LINE < line.len() {
         return Reply::Long;
     }
-    if line.len() == 0 {
+    if line.is_empty() || 3 < line.len() {
         return Reply::Other;
     }
-    if 3 < line.len() {
-        return Reply::Other;
+    match number_in(line, 255) {
+        Some(value) => Reply::Answer { value: value as u8 },
+        None => Reply::Other,
     }
-    let number = number_in(line, 255);
-    if number.found {
-        return Reply::Answer {
-            value: number.value as u8,
-        };
-    }
-    Reply::Other
 }
 
 // That the dialogue stops, and why.
-fn put_stop(reason: &[u8], at: usize, out: &mut [u8; OUTPUT]) -> usize
-    requires reason_len_bound { length reason.now ≤ longest_reason }
-    requires low { at ≤ 100 }
-    ensures { Puts out.old at (stop_line reason.now) out.new result }
+fn put_stop(reason: &[u8], line: &mut Cursor)
+    requires short { length reason.now ≤ longest_reason }
+    requires room { line.old.end + longest_stop ≤ length line.old.buffer.now }
+    ensures { PutsNext (stop_line reason.now) line.old line.new }
 {
-    put_between(b"bench: the dialogue stops: ", reason, b"\n", at, out)
+    line.put(b"bench: the dialogue stops: ");
+    line.put(reason);
+    line.put(b"\n");
+}
+
+// The same, at the start of a buffer.
+fn stop_line(reason: &[u8], out: &mut [u8; OUTPUT]) -> usize
+    requires { length reason.now ≤ longest_reason }
+    ensures { Prints (stop_line reason.now) out.old out.new result }
+{
+    let mut line = Cursor::new(out);
+    put_stop(reason, &mut line);
+    line.end
 }
 
 // What is told of a line that is no answer.
 fn others_line(left: u8, out: &mut [u8; OUTPUT]) -> usize
     ensures { Prints (others_line left) out.old out.new result }
 {
-    let a = put(
-        b"bench: an answer is one to three digits, at most 255\n",
-        0,
-        out,
-    );
-    if 1 < left {
-        return a;
+    let mut line = Cursor::new(out);
+    line.put(b"bench: an answer is one to three digits, at most 255\n");
+    if left <= 1 {
+        put_stop(b"100 lines were no answer", &mut line);
     }
-    put_stop(b"100 lines were no answer", a, out)
-}
-
-// The lines that may still be no answer, after one that was none.
-fn one_less(left: u8) -> u8
-    ensures { result ≡ left - 1 }
-{
-    if left == 0 { 0 } else { left - 1 }
-}
-
-fn is_refused(first: First) -> bool
-    ensures { result ≡ is_refused first }
-{
-    match first {
-        First::Command { command: _ } => false,
-        First::Refused {
-            number: _,
-            place: _,
-        } => true,
-    }
+    line.end
 }
 
 fn is_end(order: Order) -> bool
     ensures { result ≡ is_end_of order }
 {
-    match order {
-        Order::Command { command: _ } => false,
-        Order::Home { after: _ } => true,
-        Order::Stranger { at: _ } => true,
-    }
+    !matches!(order, Order::Command { .. })
 }
 
 // Begins a dialogue: the first command of a sheet, or its refusal.
 pub fn begin(sheet: &[u8], out: &mut [u8; OUTPUT]) -> Turned
     ensures { Begins sheet.now out.old out.new result }
 {
-    let started = start(sheet);
-    let first = started.first;
-    let desk = started.desk;
-    let size = first_line(first, out);
-    let written = Written {
-        out: size,
-        end: size,
-    };
+    let Started { first, desk } = start(sheet);
     Turned {
         desk,
         left: OTHERS,
-        over: is_refused(first),
-        written,
-    }
-}
-
-// The turn of an answer.
-fn answered(desk: Desk, left: u8, value: u8, out: &mut [u8; OUTPUT]) -> Turned
-    ensures { Answered desk left value out.old out.new result }
-{
-    let stepped = step(desk, value);
-    let order = stepped.order;
-    let next = stepped.desk;
-    let size = order_line(order, out);
-    let written = Written {
-        out: size,
-        end: size,
-    };
-    Turned {
-        desk: next,
-        left,
-        over: is_end(order),
-        written,
-    }
-}
-
-// The turn of a line that is no answer.
-fn other(desk: Desk, left: u8, out: &mut [u8; OUTPUT]) -> Turned
-    ensures { Told desk (left - 1) (leb left 1) (others_line left) out.old out.new result }
-{
-    let size = others_line(left, out);
-    let written = Written { out: 0, end: size };
-    Turned {
-        desk,
-        left: one_less(left),
-        over: left <= 1,
-        written,
-    }
-}
-
-// The turn of a line that is too long.
-fn long(desk: Desk, left: u8, out: &mut [u8; OUTPUT]) -> Turned
-    ensures { Told desk left true (stop_line (bytes "a line is longer than 80 bytes")) out.old
-        out.new result }
-{
-    let size = put_stop(b"a line is longer than 80 bytes", 0, out);
-    let written = Written { out: 0, end: size };
-    Turned {
-        desk,
-        left,
-        over: true,
-        written,
+        over: first.is_err(),
+        written: Written::to_output(first_line(first, out)),
     }
 }
 
@@ -188,11 +112,29 @@ fn long(desk: Desk, left: u8, out: &mut [u8; OUTPUT]) -> Turned
 pub fn turn(desk: Desk, left: u8, line: &[u8], out: &mut [u8; OUTPUT]) -> Turned
     ensures { Turns desk left line.now out.old out.new result }
 {
-    let what = reply_of(line);
-    match what {
-        Reply::Answer { value } => answered(desk, left, value, out),
-        Reply::Other => other(desk, left, out),
-        Reply::Long => long(desk, left, out),
+    match reply_of(line) {
+        Reply::Answer { value } => {
+            let stepped = step(desk, value);
+            let order = stepped.order;
+            Turned {
+                desk: stepped.desk,
+                left,
+                over: is_end(order),
+                written: Written::to_output(order_line(order, out)),
+            }
+        }
+        Reply::Other => Turned {
+            desk,
+            left: left.saturating_sub(1),
+            over: left <= 1,
+            written: Written::to_error(others_line(left, out)),
+        },
+        Reply::Long => Turned {
+            desk,
+            left,
+            over: true,
+            written: Written::to_error(stop_line(b"a line is longer than 80 bytes", out)),
+        },
     }
 }
 
@@ -200,6 +142,5 @@ pub fn turn(desk: Desk, left: u8, line: &[u8], out: &mut [u8; OUTPUT]) -> Turned
 pub fn input_ended(out: &mut [u8; OUTPUT]) -> Written
     ensures { Writes input_ended out.old out.new result }
 {
-    let size = put_stop(b"the input ended", 0, out);
-    Written { out: 0, end: size }
+    Written::to_error(stop_line(b"the input ended", out))
 }

@@ -13,7 +13,7 @@ mod sheets;
 mod words;
 
 pub use dialogue::{LINE, Turned, begin, input_ended, turn};
-pub use numbers::{MaybeNumber, number_in};
+pub use numbers::number_in;
 pub use output::{OUTPUT, Written};
 pub use services::{INPUT, certify_sheet, judge_sheet, read_record};
 pub use sheets::{PART, answers_sheet, build_sheet, house_sheet, word_sheet, write_sheet};

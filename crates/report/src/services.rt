@@ -4,11 +4,11 @@ ghost use Rattle.report.specs.Services.{judged, certified, record_read};
 
 use crate::lines::{certify_line, judge_line, refused};
 use crate::output::{OUTPUT, Written};
-use crate::pieces::put;
+use crate::pieces::print;
 use certify::certify;
 use judge::judge;
 use machine::Machine;
-use sheet::{Check, LONGEST, read, refusal};
+use sheet::{LONGEST, read, refusal};
 
 // The bytes of a buffer for the sheet that is read: one more than the longest sheet has, so that a
 // longer one is seen to be too long.
@@ -23,39 +23,25 @@ pub fn judge_sheet(sheet: &[u8], out: &mut [u8; OUTPUT]) -> Written
 {
     let mut marks = [0u8; MARKS];
     let answer = judge(sheet, &mut marks);
-    let size = judge_line(answer, out);
-    Written {
-        out: size,
-        end: size,
-    }
+    Written::to_output(judge_line(answer, out))
 }
 
-// Certifies the sequence of a sheet.
+// Certifies the sequence of a sheet. One function for this and for judging would take both calls as
+// closures, and be longer than either.
 pub fn certify_sheet(sheet: &[u8], out: &mut [u8; OUTPUT]) -> Written
     ensures { Writes (certified sheet.now) out.old out.new result }
 {
     let mut marks = [0u8; MARKS];
     let answer = certify(sheet, &mut marks);
-    let size = certify_line(answer, out);
-    Written {
-        out: size,
-        end: size,
-    }
+    Written::to_output(certify_line(answer, out))
 }
 
 // Reads the record of a kind.
 pub fn read_record(sheet: &[u8], kind: u16, out: &mut [u8; OUTPUT]) -> Written
     ensures { Writes (record_read kind sheet.now) out.old out.new result }
 {
-    let check = refusal(sheet, kind);
-    match check {
-        Check::Clear => {
-            let size = put(read(sheet, kind), 0, out);
-            Written {
-                out: size,
-                end: size,
-            }
-        }
-        Check::Refused { number, place } => refused(number, place, out),
+    match refusal(sheet, kind) {
+        Ok(()) => Written::to_output(print(read(sheet, kind), out)),
+        Err(refusal) => refused(refusal, out),
     }
 }

@@ -4,13 +4,12 @@ ghost use Rattle.std.specs.Prelude.{◌+◌, ◌≤◌, ◌≡◌, [], ◌∷◌
 ghost use Rattle.std.proofs.Math.Option.{some};
 ghost use Rattle.sheet.specs.Format.{standard, header, longest};
 ghost use Rattle.sheet.specs.Check.{first_cause};
-ghost use Rattle.sheet.specs.Writing.{Puts};
 ghost use Rattle.sheet.specs.Promise.{Writes as Promise};
 ghost use Rattle.sheet.specs.Joining.{joined, fresh};
 ghost use Rattle.build.specs.Building.{connected_causes};
 ghost use Rattle.writer.specs.Parts.{parts_of};
 ghost use Rattle.report.specs.Lines.{none_line};
-ghost use Rattle.report.specs.Pieces.{WordRequires};
+ghost use Rattle.report.specs.Pieces.{WordRequires, PutsNext};
 ghost use Rattle.report.specs.Output.{on_error, Writes};
 ghost use Rattle.report.specs.Sheets.{built_sheet};
 ghost use Rattle.report.specs.Services.{found_output, searched, built, house_written};
@@ -18,90 +17,88 @@ ghost use Rattle.report.specs.Services.{sheet_written, answers_written};
 
 use crate::lines::{refused, to_streams};
 use crate::output::{OUTPUT, Written};
-use crate::pieces::{put, put_list, put_record, put_role};
+use crate::pieces::{Cursor, print};
 use build::build_with_records;
 use machine::{HOUSE_WORD, Machine, house_payload};
-use sheet::{Answer, Found, Role, new_kind, payload, record_or};
-use word::{Answer as Search, find_word_with_records};
+use sheet::{Record, Refusal, Role, new_kind, payload, record_or};
+use word::{Searched, find_word_with_records};
 use writer::{Wanted, add_answers, write};
 
 // The bytes of a buffer for a part of a sheet that is read: one more than the longest part has, so
 // that a longer one is seen to be too long.
 pub const PART: usize = Machine::SEQUENCE + 1;
 
-// Puts the records of a machine and a word to the start; gives the place behind them.
-fn put_two(kind: u16, machine: &[u8], word: &[u8], out: &mut [u8]) -> usize
+// Puts the records of a machine and a word.
+fn put_two(kind: u16, machine: &[u8], word: &[u8], sheet: &mut Cursor)
     requires short { header + length machine.now + header + length word.now ≤ longest }
-    requires room { longest ≤ length out.old }
-    ensures puts { Puts out.old 0
-        (joined ((kind, machine.now) ∷ fresh standard.word word.now ∷ []))
-        out.new result }
-    ensures value { result ≡ header + length machine.now + header + length word.now }
+    requires room { sheet.old.end + longest ≤ length sheet.old.buffer.now }
+    ensures next { PutsNext (joined ((kind, machine.now) ∷ fresh standard.word word.now ∷ []))
+        sheet.old sheet.new }
+    ensures value { sheet.new.end
+        ≡ sheet.old.end + (header + length machine.now + header + length word.now) }
 {
-    let next = put_record(kind, machine, 0, out);
-    put_role(Role::Word, word, next, out)
+    sheet.put_record(kind, machine);
+    sheet.put_role(Role::Word, word);
 }
 
 // A sheet's machine, by its record, with a word and, behind them, the word's line for standard error.
-fn with_word(sheet: &[u8], machine: Found, w: &[u8], out: &mut [u8; OUTPUT]) -> Written
-    requires { WordRequires sheet.now machine w.now }
-    ensures { Writes (found_output sheet.now (some w.now)) out.old out.new result }
+fn with_word(sheet: &[u8], machine: Option<Record>, word: &[u8], out: &mut [u8; OUTPUT]) -> Written
+    requires { WordRequires sheet.now machine word.now }
+    ensures { Writes (found_output sheet.now (some word.now)) out.old out.new result }
 {
-    let r = record_or(machine);
-    let size = put_two(r.kind, payload(sheet, machine), w, out);
-    let a = put(b"WORD", size, out);
-    let b = put_list(w, a, out);
-    let end = put(b"\n", b, out);
-    Written { out: size, end }
+    let mut both = Cursor::new(out);
+    put_two(
+        record_or(machine).kind,
+        payload(sheet, machine),
+        word,
+        &mut both,
+    );
+    let size = both.end;
+    both.put(b"WORD");
+    both.put_list(word);
+    both.put(b"\n");
+    Written {
+        out: size,
+        end: both.end,
+    }
 }
 
 // That there is no word, for standard error.
 fn without_word(out: &mut [u8; OUTPUT]) -> Written
     ensures { Writes (on_error none_line) out.old out.new result }
 {
-    let size = put(b"NONE of 1 to 6 commands\n", 0, out);
-    Written { out: 0, end: size }
+    Written::to_error(print(b"NONE of 1 to 6 commands\n", out))
 }
 
 // Finds a word for a sheet's machine: the sheet that carries it, and its line; or a line alone.
 pub fn word_sheet(sheet: &[u8], out: &mut [u8; OUTPUT]) -> Written
     ensures { Writes (searched sheet.now) out.old out.new result }
 {
-    let found = find_word_with_records(sheet);
-    let searched = found.searched;
-    let records = found.records;
-    let machine = records.machine;
-    let answer = searched.answer;
-    let word = searched.word;
+    let (Searched { answer, word }, records) = find_word_with_records(sheet);
     match answer {
-        Search::Found { length: n } => with_word(sheet, machine, &word[..n], out),
-        Search::Nothing => without_word(out),
-        Search::Refused { number, place } => refused(number, place, out),
+        Ok(Some(n)) => with_word(sheet, records.machine, &word[..n], out),
+        Ok(None) => without_word(out),
+        Err(refusal) => refused(refusal, out),
     }
 }
 
 // Builds the sequence of a sheet, and writes the sheet that carries it.
-fn write_built(sheet: &[u8], out: &mut [u8]) -> Answer
-    requires { longest ≤ length out.old }
+fn write_built(sheet: &[u8], out: &mut [u8; OUTPUT]) -> Result<usize, Refusal>
     ensures { Promise (first_cause (connected_causes sheet.now)) (built_sheet sheet.now)
         out.old out.new result }
 {
     let mut sequence = [0u8; Machine::SEQUENCE];
-    let built = build_with_records(sheet, &mut sequence);
-    let answer = built.answer;
-    let records = built.records;
-    match answer {
-        Answer::Written { length: n } => {
-            let machine = records.machine;
-            let word = records.word;
-            let r = record_or(machine);
-            let p = payload(sheet, machine);
-            let next = put_two(r.kind, p, payload(sheet, word), out);
-            let size = put_role(Role::Sequence, &sequence[..n], next, out);
-            Answer::Written { length: size }
-        }
-        Answer::Refused { number, place } => Answer::Refused { number, place },
-    }
+    let (built, records) = build_with_records(sheet, &mut sequence);
+    let n = built?;
+    let mut whole = Cursor::new(out);
+    put_two(
+        record_or(records.machine).kind,
+        payload(sheet, records.machine),
+        payload(sheet, records.word),
+        &mut whole,
+    );
+    whole.put_role(Role::Sequence, &sequence[..n]);
+    Ok(whole.end)
 }
 
 // The sheet that carries what was built, or a refusal's line.
@@ -142,7 +139,7 @@ pub fn house_sheet(out: &mut [u8; OUTPUT]) -> Written
 {
     let table = house_payload();
     let kind = new_kind(Role::Machine);
-    let size = put_two(kind, &table, &HOUSE_WORD, out);
-    let answer = Answer::Written { length: size };
-    to_streams(answer, out)
+    let mut house = Cursor::new(out);
+    put_two(kind, &table, &HOUSE_WORD, &mut house);
+    Written::to_output(house.end)
 }

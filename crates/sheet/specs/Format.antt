@@ -1,17 +1,16 @@
 -- The byte format of a sheet (§2.1, §2.2), and causes 1 and 2 at each record (§4.1, §4.2). A sheet is a list of numbers
 -- here; the contracts are about bytes. The laws stand in Format.Laws.
+use Rattle.std.specs.Prelude.{Err}
 use Rattle.std.specs.Prelude.{ℕ, zero, suc, ◌+◌, ◌*◌, ◌-◌, Bool, true, false, cond, ◌||◌, List, [], ◌∷◌, leb, ltb}
 use Rattle.std.specs.Prelude.{length, get_or}
 use Rattle.facts.specs.Lists.{among}
-use Rattle.sheet.specs.declared.check.Check.{Check}
-use Rattle.sheet.specs.declared.check.Check.TheVariants.{Clear, Refused}
+use Rattle.sheet.specs.Check.{refusal◌with◌if◌, ◌else◌, Check, Clear}
+use Rattle.std.specs.Prelude.{Option, Some, None}
+use Rattle.std.specs.Option.{option_or}
 use Rattle.sheet.specs.declared.record.Record.{Record}
 use Rattle.sheet.specs.declared.format.Role.{Role}
 use Rattle.sheet.specs.declared.format.Role.TheVariants.{Machine, Word, Sequence, Answers, Unknown}
-use Rattle.sheet.specs.declared.record.Found.{Found}
-use Rattle.sheet.specs.declared.record.Found.TheVariants.{At, Missing}
 use Rattle.sheet.specs.declared.record.Records.{Records}
-use Rattle.sheet.specs.Check.{refusal◌with◌if◌, ◌else◌}
 pub mod Laws
 
 -- a format of sheets (§2.1, §2.2): the kinds that the record of each role may have, the most bytes of a sheet, and how
@@ -126,7 +125,7 @@ r before w = record { records = r ∷ w.records; stop = w.stop }
 -- one step of the parsing: at the sheet's end it ends, at a cause it stops, else a record and what follows it
 unfoldable pub parse_step : Bool → Check → Record → Parsed → Parsed
 parse_step false c r w = ended Clear
-parse_step true (Refused n p) r w = ended (Refused n p)
+parse_step true (Err e) r w = ended (Err e)
 parse_step true Clear r w = r before w
 
 -- the parsing from an offset on; last is the rank of the record before. The first number only bounds the recursion:
@@ -146,23 +145,22 @@ unfoldable pub parsed : Format → List ℕ → Parsed
 parsed F s = parse F s 0 0
 
 -- the record where it is of one of the kinds
-unfoldable pub of_kind : List ℕ → Record → Found
-of_kind ks r = cond (among r.kind ks) (At r) Missing
+unfoldable pub of_kind : List ℕ → Record → Option Record
+of_kind ks r = cond (among r.kind ks) (Some r) None
 
 infixr 15 ◌or◌
 -- the first that is found
-unfoldable pub ◌or◌ : Found → Found → Found
-(At r) or g = At r
-Missing or g = g
+unfoldable pub ◌or◌ : Option Record → Option Record → Option Record
+f or g = option_or f g
 
--- the first record of one of the kinds in a list of records, or Missing
-unfoldable pub find : List ℕ → List Record → Found
-find ks [] = Missing
+-- the first record of one of the kinds in a list of records, or None
+unfoldable pub find : List ℕ → List Record → Option Record
+find ks [] = None
 find ks (r ∷ rs) = of_kind ks r or find ks rs
 
 -- ---- the record of each role
 -- what is found of each, by its kinds
-abbrev pub records_by : Format → (List ℕ → Found) → Records
+abbrev pub records_by : Format → (List ℕ → Option Record) → Records
 records_by F f = record {
   machine = f F.machine;
   word = f F.word;
@@ -172,7 +170,7 @@ records_by F f = record {
 
 -- none
 abbrev pub no_records : Records
-no_records = records_by standard (λ ks. Missing)
+no_records = records_by standard (λ ks. None)
 
 -- one record, as that of the role which has its kind
 abbrev pub one_record : Format → Record → Records
@@ -193,17 +191,17 @@ a or_each b = record {
 }
 
 -- the one of a role
-abbrev pub of_role : Records → Role → Found
+abbrev pub of_role : Records → Role → Option Record
 of_role a Machine = a.machine
 of_role a Word = a.word
 of_role a Sequence = a.sequence
 of_role a Answers = a.answers
-of_role a Unknown = Missing
+of_role a Unknown = None
 
 -- one record, as that of a role
 abbrev pub in_role : Record → Role → Records
-in_role r Machine = record { machine = At r; word = Missing; sequence = Missing; answers = Missing }
-in_role r Word = record { machine = Missing; word = At r; sequence = Missing; answers = Missing }
-in_role r Sequence = record { machine = Missing; word = Missing; sequence = At r; answers = Missing }
-in_role r Answers = record { machine = Missing; word = Missing; sequence = Missing; answers = At r }
+in_role r Machine = record { machine = Some r; word = None; sequence = None; answers = None }
+in_role r Word = record { machine = None; word = Some r; sequence = None; answers = None }
+in_role r Sequence = record { machine = None; word = None; sequence = Some r; answers = None }
+in_role r Answers = record { machine = None; word = None; sequence = None; answers = Some r }
 in_role r Unknown = no_records

@@ -2,13 +2,14 @@
 -- sheet holds as such a list. The laws stand in Joining.Laws: how joined records are read. Joining.Whole has the
 -- converse: a sheet without causes 1 and 2 is the joining of what it holds; and Joining.Front that the records of the
 -- first roles come first.
+use Rattle.std.specs.Prelude.{is_none}
 use Rattle.std.specs.Prelude.{ℕ, ◌+◌, ◌^◌, ◌<◌, ◌≡◌, Bool, true, false, cond, ◌&&◌, ◌||◌, List, [], ◌∷◌, ◌++◌, map}
 use Rattle.std.specs.Prelude.{length, get_or}
 use Rattle.facts.specs.Lists.{among, Each}
 use Rattle.sheet.specs.declared.record.Record.{Record}
-use Rattle.sheet.specs.declared.record.Found.TheVariants.{At}
+use Rattle.std.specs.Prelude.{Some}
 use Rattle.sheet.specs.Format.{Format, header, end, role_of, rank, parsed, find}
-use Rattle.sheet.specs.Reader.{is_missing, payload_part, part_bytes, record_of, content}
+use Rattle.sheet.specs.Reader.{payload_part, part_bytes, record_of, content}
 use Rattle.sheet.specs.Writing.{record_bytes}
 pub mod Laws
 pub mod Whole
@@ -53,7 +54,7 @@ has_all (ks ∷ roles) rs = has ks rs && has_all roles rs
 
 -- kind and payload of each of some records of a sheet
 abbrev pub held_by : List ℕ → List Record → List (ℕ × List ℕ)
-held_by s qs = map (λ r. (r.kind, part_bytes (payload_part (At r)) s)) qs
+held_by s qs = map (λ r. (r.kind, part_bytes (payload_part (Some r)) s)) qs
 
 -- what a sheet holds: those of each record up to where the parsing stops
 abbrev pub contents : Format → List ℕ → List (ℕ × List ℕ)
@@ -75,7 +76,7 @@ Successive F last (ks ∷ roles) = Each (λ k. rank (role_of F k) ≡ last + 1) 
 -- a sheet that has no record of any of these roles, up to where its parsing stops
 abbrev pub Lacks : Format → List ℕ → List (List ℕ) → Type 0
 Lacks F s [] = Unit {0}
-Lacks F s (ks ∷ roles) = (is_missing (find ks (parsed F s).records) ≡ true) × Lacks F s roles
+Lacks F s (ks ∷ roles) = (is_none (find ks (parsed F s).records) ≡ true) × Lacks F s roles
 
 -- the records of these roles start one where the other ends, the first at an offset
 abbrev pub Adjacent : Format → List ℕ → ℕ → List (List ℕ) → Type 0

@@ -1,16 +1,21 @@
 -- What a service promises that writes its result into a lent buffer (§4.3, §4.4): cause 9 (§4.2), the answer, and the
 -- buffer afterwards; by the first of its other causes, which come before 9, and by the bytes that it writes. The laws
 -- stand in Promise.Laws.
-use Rattle.std.specs.Prelude.{ℕ, ◌≡◌, List, ◌⊎◌, ltb, length}
+use Rattle.std.specs.Prelude.{ℕ, ◌≡◌, List, ◌⊎◌, ltb, length, Result, Ok, Err}
 use Rattle.std.proofs.Common.{inl, inr}
-use Rattle.sheet.specs.declared.check.Check.{Check}
+use Rattle.sheet.specs.Check.{refusal◌with◌if◌, ◌else◌, refused_or, unless_refused, Check, Refused}
+use Rattle.sheet.specs.declared.check.Refusal.{Refusal}
 use Rattle.sheet.specs.declared.check.Values.{Values}
-use Rattle.sheet.specs.declared.writing.Answer.{Answer}
-use Rattle.sheet.specs.declared.writing.Answer.TheVariants.{Written, Refused}
-use Rattle.sheet.specs.Check.{refusal◌with◌if◌, ◌else◌, refused_or, unless_refused}
 use Rattle.sheet.specs.Values.{refusal_values, Returns}
 use Rattle.sheet.specs.Writing.{written}
 pub mod Laws
+
+-- what a service answers that writes its result into a lent buffer: the number of bytes, or a refusal
+abbrev pub Answer : Type 0
+Answer = Result ℕ Refusal
+
+pattern abbrev pub Written : ℕ → Answer
+Written size = Ok size
 
 -- cause 9, room (§4.2): the room is smaller than the bytes that are needed; these are the place
 unfoldable pub cause9 : ℕ → ℕ → Check
@@ -32,7 +37,7 @@ leaving c xs before = unless_refused (cause_to_write c (length before) xs) (writ
 -- number and values of each answer: the number of bytes, for which §8.3 has no class, or a refusal's
 abbrev pub values_of : Answer → Values ⊎ ℕ
 values_of (Written size) = inr size
-values_of (Refused number place) = inl (refusal_values number place)
+values_of (Err r) = inl (refusal_values r.number r.place)
 
 -- the promise (§4.4): the specified answer with its number and values, and every byte of the lent buffer
 pub record Writes (c : Check) (xs before after : List ℕ) (a : Answer) : Type 0 where

@@ -4,16 +4,14 @@ use Rattle.std.specs.Prelude.{ℕ, ◌+◌, ◌≤◌, ◌≡◌, Bool, true, fa
 use Rattle.std.specs.Prelude.{ltb, length, take, drop}
 use Rattle.std.specs.Borrow.{Bor}
 use Rattle.facts.specs.Lists.{among}
-use Rattle.sheet.specs.declared.check.Check.{Check}
-use Rattle.sheet.specs.declared.check.Check.TheVariants.{Clear, Refused}
+use Rattle.sheet.specs.Check.{refusal◌with◌if◌, ◌else◌, first_cause, refused_or, Check, Clear, Refused}
+use Rattle.std.specs.Prelude.{Option, Some, None, is_none, Result, Ok, Err}
+use Rattle.sheet.specs.declared.check.Refusal.{Refusal}
 use Rattle.sheet.specs.declared.record.Record.{Record}
-use Rattle.sheet.specs.declared.record.Found.{Found}
-use Rattle.sheet.specs.declared.record.Found.TheVariants.{At, Missing}
 use Rattle.sheet.specs.declared.record.Records.{Records}
 use Rattle.sheet.specs.declared.reader.Part.{Part}
 use Rattle.sheet.specs.declared.reader.Needs.{Needs}
 use Rattle.sheet.specs.declared.parse.Reading.{Reading}
-use Rattle.sheet.specs.Check.{refusal◌with◌if◌, ◌else◌, first_cause}
 use Rattle.sheet.specs.Format.{Format, standard, header, end, parsed, find, records_by}
 pub mod Laws
 pub mod Bounds
@@ -22,14 +20,9 @@ pub mod Bounds
 abbrev pub too_long : Format → List ℕ → Check
 too_long F s = refusal 1 with F.longest if ltb F.longest (length s)
 
--- whether no record was found
-abbrev pub is_missing : Found → Bool
-is_missing (At r) = false
-is_missing Missing = true
-
 -- cause 2 of a needed role: no record is of one of its kinds; the place is the sheet's length (§4.2)
 abbrev pub missing : Format → List ℕ → List ℕ → Check
-missing F s ks = refusal 2 with length s if is_missing (find ks (parsed F s).records)
+missing F s ks = refusal 2 with length s if is_none (find ks (parsed F s).records)
 
 -- causes 1 and 2 in order, for the roles that a service needs, each given by its kinds: the length, the records, what
 -- is missing (§4.1)
@@ -58,13 +51,13 @@ abbrev pub whole_cause : Format → List ℕ → Check
 whole_cause F s = too_long F s else (parsed F s).stop
 
 -- what is found where nothing is refused
-abbrev pub found_unless : Check → Found → Found
+abbrev pub found_unless : Check → Option Record → Option Record
 found_unless Clear f = f
-found_unless (Refused n p) f = Missing
+found_unless (Err r) f = None
 
 -- the record of one of the kinds that reading a sheet finds (§2.4): none where the sheet is too long or the parsing
 -- is stopped
-unfoldable pub found_in : Format → List ℕ → List ℕ → Found
+unfoldable pub found_in : Format → List ℕ → List ℕ → Option Record
 found_in F ks s = found_unless (whole_cause F s) (find ks (parsed F s).records)
 
 -- that of each role
@@ -72,16 +65,20 @@ abbrev pub records_in : Format → List ℕ → Records
 records_in F s = records_by F (λ ks. found_in F ks s)
 
 -- whether the record of one of these roles is missing
-abbrev pub lacks : (List ℕ → Found) → List (List ℕ) → Bool
+abbrev pub lacks : (List ℕ → Option Record) → List (List ℕ) → Bool
 lacks found [] = false
-lacks found (ks ∷ roles) = is_missing (found ks) || lacks found roles
+lacks found (ks ∷ roles) = is_none (found ks) || lacks found roles
 
 -- whether that of one that a service needs is
 abbrev pub lacks_needed : Needs → Records → Bool
 lacks_needed n f =
-    is_missing f.machine
-    || ((n.word && is_missing f.word)
-    || ((n.sequence && is_missing f.sequence) || (n.answers && is_missing f.answers)))
+    is_none f.machine
+    || ((n.word && is_none f.word)
+    || ((n.sequence && is_none f.sequence) || (n.answers && is_none f.answers)))
+
+-- the records, or causes 1 and 2 but for what is missing
+abbrev pub whole_reading : Format → List ℕ → Result Records Refusal
+whole_reading F s = refused_or Refused (whole_cause F s) (Ok (records_in F s))
 
 -- all that a service reads a sheet for: causes 1 and 2 for the roles that it needs, and the record of each role
 abbrev pub reading_of : Format → Needs → List ℕ → Reading
@@ -89,9 +86,9 @@ reading_of F n s = record { check = first_cause (sheet_causes F (needed F n) s);
 
 -- ---- the record and the part of a role
 -- the record that was found; where none was, cause 1 or 2 is present and this record is not used
-abbrev pub record_or : Found → Record
-record_or (At r) = r
-record_or Missing = record { start = 0; size = 0; kind = 0 }
+abbrev pub record_or : Option Record → Record
+record_or (Some r) = r
+record_or None = record { start = 0; size = 0; kind = 0 }
 
 -- the record of one of the kinds in a sheet: the places of the causes of its payload are its start or offsets in it
 -- (§4.2)
@@ -99,9 +96,9 @@ unfoldable pub record_of : Format → List ℕ → List ℕ → Record
 record_of F ks s = record_or (found_in F ks s)
 
 -- where a record's payload lies, after its header (§2.1); the empty part at the sheet's start where there is no record
-abbrev pub payload_part : Found → Part
-payload_part (At r) = record { from = r.start + header; size = r.size }
-payload_part Missing = record { from = 0; size = 0 }
+abbrev pub payload_part : Option Record → Part
+payload_part (Some r) = record { from = r.start + header; size = r.size }
+payload_part None = record { from = 0; size = 0 }
 
 -- where the part lies that reading gives (§2.4): the wanted record's payload; on a refusal the empty part at the
 -- sheet's start
@@ -109,12 +106,12 @@ unfoldable pub part : Format → List ℕ → List ℕ → Part
 part F ks s = payload_part (found_in F ks s)
 
 -- a record where the sheet holds all of it; it does where reading the sheet found it: part_within_lem, in Reader.Laws
-abbrev pub within : List ℕ → Found → Found
-within s (At r) = cond (leb (end r) (length s)) (At r) Missing
-within s Missing = Missing
+abbrev pub within : List ℕ → Option Record → Option Record
+within s (Some r) = cond (leb (end r) (length s)) (Some r) None
+within s None = None
 
 -- where its payload lies then
-unfoldable pub part_within : List ℕ → Found → Part
+unfoldable pub part_within : List ℕ → Option Record → Part
 part_within s f = payload_part (within s f)
 
 -- the bytes of a part of a sheet

@@ -1,9 +1,9 @@
 -- The number and values of an answer (§8.3), and how a service's promise uses them (§4.4). Each type of answers has one
 -- definition, `values_of`, with a clause for each case: here that of checks, those of the services beside their answers.
+use Rattle.std.specs.Prelude.{Err}
 use Rattle.std.specs.Prelude.{ℕ, ◌^◌, ◌<◌, ◌≡◌}
 use Rattle.std.proofs.Math.Option.{Option, none, some}
-use Rattle.sheet.specs.declared.check.Check.{Check}
-use Rattle.sheet.specs.declared.check.Check.TheVariants.{Clear, Refused}
+use Rattle.sheet.specs.Check.{Check, Clear}
 use Rattle.sheet.specs.declared.check.Values.{Values}
 pub mod Laws
 
@@ -14,7 +14,7 @@ refusal_values number place = record { class = number; place = place; a = 0; b =
 -- number and values of a check (§4.4): those of its refusal, or none where it is Clear
 abbrev pub values_of : Check → Option Values
 values_of Clear = none
-values_of (Refused number place) = some (refusal_values number place)
+values_of (Err r) = some (refusal_values r.number r.place)
 
 -- what a service promises of its answer (§4.4): it is the specified one, and so are its number and values
 pub record Returns {A B : Type 0} (values_of : A → B) (specified answer : A) : Type 0 where

@@ -1,17 +1,22 @@
-// A check's answer, how two checks in a row answer, and the number and values of an answer.
+// A check's answer, and the number and values of an answer.
 ghost use Rattle.std.specs.Prelude.{◌≡◌};
-ghost use Rattle.sheet.specs.Check.{refusal◌with◌if◌, ◌else◌};
+ghost use Rattle.sheet.specs.Check.{refusal◌with◌if◌};
 ghost use Rattle.sheet.specs.Values.{refusal_values};
 
-// Clear, or a refusal's number with its place.
-#[derive(Clone, Copy)]
-pub enum Check {
-    Clear,
-    Refused { number: u8, place: usize },
+// A refusal: its number and its place. No enum in place of the number: `refuse` and its laws (`present`
+// and `place_cause` in specs/Check) hold of every number, and C is told it.
+#[derive(Clone, Copy, Debug, PartialEq, Eq)]
+pub struct Refusal {
+    pub number: u8,
+    pub place: usize,
 }
 
-// The number and values of an answer: its class, which of a refusal is the number, place, a and b.
-#[derive(Clone, Copy)]
+// What a check answers: clear, or the refusal.
+pub type Check = Result<(), Refusal>;
+
+// The number and values of an answer: its class, which of a refusal is the number, place, a and b. The
+// class is a number since C is told it.
+#[derive(Clone, Copy, Debug, PartialEq, Eq)]
 pub struct Values {
     pub class: u8,
     pub place: usize,
@@ -19,15 +24,16 @@ pub struct Values {
     pub b: usize,
 }
 
-// Those of a refusal.
-pub fn refusal_values(number: u8, place: usize) -> Values
-    ensures { result ≡ refusal_values number place }
-{
-    Values {
-        class: number,
-        place,
-        a: 0,
-        b: 0,
+impl From<Refusal> for Values {
+    ghost from_gives = { λ r v. v ≡ refusal_values r.number r.place };
+
+    fn from(refusal: Refusal) -> Values {
+        Values {
+            class: refusal.number,
+            place: refusal.place,
+            a: 0,
+            b: 0,
+        }
     }
 }
 
@@ -36,21 +42,7 @@ pub fn refuse(number: u8, place: usize, present: bool) -> Check
     ensures { result ≡ (refusal number with place if present) }
 {
     if present {
-        Check::Refused { number, place }
-    } else {
-        Check::Clear
+        return Err(Refusal { number, place });
     }
-}
-
-// The first check, or, where it is clear, the second.
-pub fn first_of(a: Check, b: Check) -> Check
-    ensures { result ≡ (a else b) }
-{
-    match a {
-        Check::Clear => b,
-        Check::Refused {
-            number: _,
-            place: _,
-        } => a,
-    }
+    Ok(())
 }

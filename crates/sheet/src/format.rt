@@ -18,26 +18,29 @@ const SEQUENCE_KIND: u16 = 3;
 
 const ANSWERS_KIND: u16 = 4;
 
-// What a record holds, by its kind.
-#[derive(Clone, Copy)]
+// What a record holds, by its kind; the known ones in the order in which their records stand. No
+// `Option`: to the definitions (`role_of`, `rank_of`) unknown is a role.
+#[derive(Clone, Copy, Debug, PartialEq, Eq)]
 pub enum Role {
+    Unknown,
     Machine,
     Word,
     Sequence,
     Answers,
-    Unknown,
 }
 
 // Decodes a kind's number.
-pub fn role_of(kind: u16) -> Role
-    ensures { result ≡ role_of standard kind }
-{
-    match kind {
-        MACHINE_KIND => Role::Machine,
-        WORD_KIND => Role::Word,
-        SEQUENCE_KIND => Role::Sequence,
-        ANSWERS_KIND => Role::Answers,
-        _ => Role::Unknown,
+impl From<u16> for Role {
+    ghost from_gives = { λ kind role. role ≡ role_of standard kind };
+
+    fn from(kind: u16) -> Role {
+        match kind {
+            MACHINE_KIND => Role::Machine,
+            WORD_KIND => Role::Word,
+            SEQUENCE_KIND => Role::Sequence,
+            ANSWERS_KIND => Role::Answers,
+            _ => Role::Unknown,
+        }
     }
 }
 

@@ -1,5 +1,5 @@
-// The byte format of a sheet: records, kinds, checks 1, 2 and 9, the reader, a record's header, bytes
-// put into a buffer, and what a service answers that writes its result into one.
+// The byte format of a sheet: records, kinds, checks 1, 2 and 9, the reader, a record's header, and
+// bytes put into a buffer.
 #![tactic(auto)]
 
 mod check;
@@ -9,9 +9,9 @@ mod reader;
 mod record;
 mod writing;
 
-pub use check::{Check, Values, first_of, refusal_values, refuse};
+pub use check::{Check, Refusal, Values, refuse};
 pub use format::{LONGEST, Role, TABLE, new_kind};
 pub use parse::Reading;
 pub use reader::{Needs, Part, part_of, payload, read, read_sheet, record_or, refusal};
-pub use record::{Found, HEADER, Record, Records, byte};
-pub use writing::{Answer, header_of, put, put_record, put_role, room_check};
+pub use record::{HEADER, Record, Records, byte};
+pub use writing::{header_of, put, put_record, put_role, room_check};

@@ -2,24 +2,24 @@
 ghost use Rattle.std.specs.Prelude.{◌≡◌, [], ◌∷◌, ◌+◌, ◌≤◌, length};
 ghost use Rattle.sheet.specs.Check.{refusal◌with◌if◌};
 ghost use Rattle.sheet.specs.Format.{standard};
-ghost use Rattle.sheet.specs.Reader.{too_long, is_missing, whole_cause, found_in, records_in, lacks_needed};
-ghost use Rattle.sheet.specs.Reader.{reading_of, refusal_of, seen, handed, part as part_of, record_or, part_within};
+ghost use Rattle.sheet.specs.Reader.{too_long, whole_reading, found_in, lacks_needed, reading_of, refusal_of};
+ghost use Rattle.sheet.specs.Reader.{seen, handed, part as part_of, record_or, part_within};
 ghost use Rattle.sheet.specs.Values.{Returns, values_of};
 
-use crate::check::{Check, first_of, refuse};
+use crate::check::{Check, Refusal, refuse};
 use crate::format::LONGEST;
 use crate::parse::{Reading, parse};
-use crate::record::{Found, HEADER, Record, Records, no_records, of_kind};
+use crate::record::{HEADER, Record, Records, of_kind};
 
 // A part of a sheet: where it starts and its length.
-#[derive(Clone, Copy)]
+#[derive(Clone, Copy, Debug, PartialEq, Eq)]
 pub struct Part {
     pub from: usize,
     pub size: usize,
 }
 
 // The roles that a service on a machine needs besides the machine.
-#[derive(Clone, Copy)]
+#[derive(Clone, Copy, Debug, PartialEq, Eq)]
 pub struct Needs {
     pub word: bool,
     pub sequence: bool,
@@ -32,15 +32,6 @@ fn too_long(sheet: &[u8]) -> Check
     refuse(1, LONGEST, LONGEST < sheet.len())
 }
 
-fn is_missing(found: Found) -> bool
-    ensures { result ≡ is_missing found }
-{
-    match found {
-        Found::At(_) => false,
-        Found::Missing => true,
-    }
-}
-
 // Cause 2 of a sheet of so many bytes: a record that is wanted is missing.
 fn missing_check(bytes: usize, missing: bool) -> Check
     ensures { result ≡ (refusal 2 with bytes if missing) }
@@ -48,36 +39,11 @@ fn missing_check(bytes: usize, missing: bool) -> Check
     refuse(2, bytes, missing)
 }
 
-// The record that was found, an empty one where there is none.
-pub fn record_or(found: Found) -> Record
-    ensures { result ≡ record_or found }
+// The records, or the first of causes 1 and 2 but for what is missing.
+fn read_whole(sheet: &[u8]) -> Result<Records, Refusal>
+    ensures { result ≡ whole_reading standard sheet.now }
 {
-    match found {
-        Found::At(r) => r,
-        Found::Missing => Record {
-            start: 0,
-            size: 0,
-            kind: 0,
-        },
-    }
-}
-
-// Causes 1 and 2 but for what is missing, and the records.
-fn read_whole(sheet: &[u8]) -> Reading
-    ensures check { result.check ≡ whole_cause standard sheet.now }
-    ensures records { result.records ≡ records_in standard sheet.now }
-{
-    let long = too_long(sheet);
-    if let Check::Refused {
-        number: _,
-        place: _,
-    } = long
-    {
-        return Reading {
-            check: long,
-            records: no_records(),
-        };
-    }
+    too_long(sheet)?;
     parse(sheet)
 }
 
@@ -85,77 +51,77 @@ fn read_whole(sheet: &[u8]) -> Reading
 fn lacks_needed(needs: Needs, records: Records) -> bool
     ensures { result ≡ lacks_needed needs records }
 {
-    let machine = records.machine;
-    let word = records.word;
-    let sequence = records.sequence;
-    let answers = records.answers;
-    is_missing(machine)
-        | ((needs.word & is_missing(word))
-            | ((needs.sequence & is_missing(sequence)) | (needs.answers & is_missing(answers))))
+    records.machine.is_none()
+        || needs.word && records.word.is_none()
+        || needs.sequence && records.sequence.is_none()
+        || needs.answers && records.answers.is_none()
 }
 
 // Reads a sheet in one pass, for a service that needs the machine and these roles besides.
 pub fn read_sheet(sheet: &[u8], needs: Needs) -> Reading
     ensures { result ≡ reading_of standard needs sheet.now }
 {
-    let w = read_whole(sheet);
-    let whole = w.check;
-    let records = w.records;
-    let lacking = missing_check(sheet.len(), lacks_needed(needs, records));
-    let check = first_of(whole, lacking);
-    Reading { check, records }
+    match read_whole(sheet) {
+        Ok(records) => Reading {
+            check: missing_check(sheet.len(), lacks_needed(needs, records)),
+            records,
+        },
+        Err(refusal) => Reading {
+            check: Err(refusal),
+            records: Records::default(),
+        },
+    }
+}
+
+// The record that was found, an empty one where there is none.
+pub fn record_or(found: Option<Record>) -> Record
+    ensures { result ≡ record_or found }
+{
+    found.unwrap_or_default()
 }
 
 // Where the payload of a record lies; the empty part at the sheet's start where there is none, or
 // the sheet does not hold it.
-fn part_within(sheet: &[u8], found: Found) -> Part
+fn part_within(sheet: &[u8], found: Option<Record>) -> Part
     ensures value { result ≡ part_within sheet.now found }
     ensures inside { result.from + result.size ≤ length sheet.now }
 {
     let empty = Part { from: 0, size: 0 };
-    match found {
-        Found::At(r) => {
-            let from = r.start as usize + HEADER;
-            let size = r.size as usize;
-            if from + size <= sheet.len() {
-                Part { from, size }
-            } else {
-                empty
-            }
-        }
-        Found::Missing => empty,
+    let Some(r) = found else {
+        return empty;
+    };
+    let from = r.start as usize + HEADER;
+    let size = r.size as usize;
+    if sheet.len() < from + size {
+        return empty;
     }
+    Part { from, size }
 }
 
 // The payload of a record that was read, as a part of the sheet.
-pub fn payload(sheet: &[u8], found: Found) -> &[u8]
+pub fn payload(sheet: &[u8], found: Option<Record>) -> &[u8]
     ensures { seen result ≡ handed sheet.entry (part_within sheet.now found) }
 {
-    let p = part_within(sheet, found);
-    let from = p.from;
-    let end = from + p.size;
-    &sheet[from..end]
+    let Part { from, size } = part_within(sheet, found);
+    &sheet[from..from + size]
 }
 
 // The record of a kind, where reading it is not refused.
-fn find(sheet: &[u8], kind: u16) -> Found
+fn find(sheet: &[u8], kind: u16) -> Option<Record>
     ensures { result ≡ found_in standard (kind ∷ []) sheet.now }
 {
-    let w = read_whole(sheet);
-    let records = w.records;
-    of_kind(records, kind)
+    match read_whole(sheet) {
+        Ok(records) => of_kind(records, kind),
+        Err(_) => None,
+    }
 }
 
 // The refusal's number and place of reading a kind, or that there is none.
 pub fn refusal(sheet: &[u8], kind: u16) -> Check
     ensures { Returns values_of (refusal_of standard (kind ∷ []) sheet.now) result }
 {
-    let w = read_whole(sheet);
-    let whole = w.check;
-    let records = w.records;
-    let found = of_kind(records, kind);
-    let lacking = missing_check(sheet.len(), is_missing(found));
-    first_of(whole, lacking)
+    let records = read_whole(sheet)?;
+    missing_check(sheet.len(), of_kind(records, kind).is_none())
 }
 
 // Where the wanted record's payload lies: the empty part at the sheet's start on a refusal.

@@ -1,52 +1,37 @@
 // One record of a sheet: its header, causes 1 and 2 at it, and its place among the records by role.
 ghost use Rattle.std.specs.Prelude.{◌≡◌, ◌<◌, ◌^◌, get_or};
 ghost use Rattle.sheet.specs.Format.{standard, role_of, record_at, cause1, cause2, cause_of, ◌or◌};
-ghost use Rattle.sheet.specs.Format.{no_records, one_record, ◌or_each◌, of_role};
+ghost use Rattle.sheet.specs.Format.{one_record, ◌or_each◌, of_role};
 ghost use Rattle.sheet.specs.Format.{rank as rank_of};
 
-use crate::check::{Check, first_of, refuse};
-use crate::format::{Role, role_of};
+use crate::check::{Check, refuse};
+use crate::format::Role;
 
 // The bytes of a record's header: 4 of payload length, 2 of kind.
 pub const HEADER: usize = 6;
 
 // A record: where its header starts, its payload's length, and its kind's number.
-#[derive(Clone, Copy)]
+#[derive(Clone, Copy, Debug, PartialEq, Eq, Default)]
 pub struct Record {
     pub start: u32,
     pub size: u32,
     pub kind: u16,
 }
 
-// The record that was looked for, or that there is none.
-#[derive(Clone, Copy)]
-pub enum Found {
-    At(Record),
-    Missing,
-}
-
 // The record of each role, as far as there is one.
-#[derive(Clone, Copy)]
+#[derive(Clone, Copy, Debug, PartialEq, Eq, Default)]
 pub struct Records {
-    pub machine: Found,
-    pub word: Found,
-    pub sequence: Found,
-    pub answers: Found,
+    pub machine: Option<Record>,
+    pub word: Option<Record>,
+    pub sequence: Option<Record>,
+    pub answers: Option<Record>,
 }
 
 // The byte at a place, 0 past the end.
 pub fn byte(s: &[u8], i: usize) -> u8
     ensures { result ≡ get_or s.now i 0 }
 {
-    if i < s.len() { s[i] } else { 0 }
-}
-
-// The same, as a number to compute with.
-fn wide(s: &[u8], i: usize) -> usize
-    ensures value { result ≡ get_or s.now i 0 }
-    ensures small { result < 256 }
-{
-    byte(s, i) as usize
+    s.get(i).copied().unwrap_or(0)
 }
 
 // The record whose header starts at a place.
@@ -54,29 +39,26 @@ pub fn record_at(s: &[u8], at: usize) -> Record
     requires { at < 2 ^ 32 }
     ensures { result ≡ record_at s.now at }
 {
-    let size = wide(s, at)
-        + 256 * wide(s, at + 1)
-        + 65536 * wide(s, at + 2)
-        + 16777216 * wide(s, at + 3);
-    let kind = wide(s, at + 4) + 256 * wide(s, at + 5);
+    let size = [
+        byte(s, at),
+        byte(s, at + 1),
+        byte(s, at + 2),
+        byte(s, at + 3),
+    ];
+    let kind = [byte(s, at + 4), byte(s, at + 5)];
     Record {
         start: at as u32,
-        size: size as u32,
-        kind: kind as u16,
+        size: u32::from_le_bytes(size),
+        kind: u16::from_le_bytes(kind),
     }
 }
 
-// The place of a role in the rising order, 0 for an unknown one.
+// The place of a role in the rising order, 0 for an unknown one. No derived order in its place: the
+// definitions of a sheet (`rank_of`, `cause2`) compute with this number.
 pub fn rank(role: Role) -> u8
     ensures { result ≡ rank_of role }
 {
-    match role {
-        Role::Unknown => 0,
-        Role::Machine => 1,
-        Role::Word => 2,
-        Role::Sequence => 3,
-        Role::Answers => 4,
-    }
+    role as u8
 }
 
 // Cause 1: the record's header or payload runs past the end of a sheet of so many bytes.
@@ -86,7 +68,7 @@ fn cut(bytes: usize, r: Record) -> Check
     let start = r.start as usize;
     let size = r.size as usize;
     let body = start + HEADER;
-    refuse(1, start, (bytes < body) | (bytes < body + size))
+    refuse(1, start, bytes < body || bytes < body + size)
 }
 
 // Cause 2: the record's kind is unknown or not above the one before, whose rank is last.
@@ -94,94 +76,59 @@ fn misplaced(r: Record, last: u8) -> Check
     ensures { result ≡ cause2 standard r last }
 {
     let start = r.start as usize;
-    refuse(2, start, rank(role_of(r.kind)) <= last)
+    refuse(2, start, rank(Role::from(r.kind)) <= last)
 }
 
 // Causes 1 and 2 at a record, 1 before 2.
 pub fn check_record(bytes: usize, r: Record, last: u8) -> Check
     ensures { result ≡ cause_of standard bytes r last }
 {
-    let one = cut(bytes, r);
-    let two = misplaced(r, last);
-    first_of(one, two)
-}
-
-// The first that is found.
-fn first_found(a: Found, b: Found) -> Found
-    ensures { result ≡ (a or b) }
-{
-    match a {
-        Found::At(_) => a,
-        Found::Missing => b,
-    }
-}
-
-// No record of any role.
-pub fn no_records() -> Records
-    ensures { result ≡ no_records }
-{
-    Records {
-        machine: Found::Missing,
-        word: Found::Missing,
-        sequence: Found::Missing,
-        answers: Found::Missing,
-    }
+    cut(bytes, r)?;
+    misplaced(r, last)
 }
 
 // What is found with one record more: it is that of its role where the role has none yet.
 pub fn with_record(found: Records, r: Record) -> Records
     ensures { result ≡ (found or_each one_record standard r) }
 {
-    let role = role_of(r.kind);
-    let machine = found.machine;
-    let word = found.word;
-    let sequence = found.sequence;
-    let answers = found.answers;
-    match role {
+    let one = Some(r);
+    match Role::from(r.kind) {
+        Role::Unknown => found,
         Role::Machine => Records {
-            machine: first_found(machine, Found::At(r)),
-            word,
-            sequence,
-            answers,
+            machine: found.machine.or(one),
+            ..found
         },
         Role::Word => Records {
-            machine,
-            word: first_found(word, Found::At(r)),
-            sequence,
-            answers,
+            word: found.word.or(one),
+            ..found
         },
         Role::Sequence => Records {
-            machine,
-            word,
-            sequence: first_found(sequence, Found::At(r)),
-            answers,
+            sequence: found.sequence.or(one),
+            ..found
         },
         Role::Answers => Records {
-            machine,
-            word,
-            sequence,
-            answers: first_found(answers, Found::At(r)),
+            answers: found.answers.or(one),
+            ..found
         },
-        Role::Unknown => found,
     }
 }
 
 // The record of a role.
-fn of_role(records: Records, role: Role) -> Found
+fn of_role(records: Records, role: Role) -> Option<Record>
     ensures { result ≡ of_role records role }
 {
     match role {
+        Role::Unknown => None,
         Role::Machine => records.machine,
         Role::Word => records.word,
         Role::Sequence => records.sequence,
         Role::Answers => records.answers,
-        Role::Unknown => Found::Missing,
     }
 }
 
 // The record of the role that a kind has.
-pub fn of_kind(records: Records, kind: u16) -> Found
+pub fn of_kind(records: Records, kind: u16) -> Option<Record>
     ensures { result ≡ of_role records (role_of standard kind) }
 {
-    of_role(records, role_of(kind))
+    of_role(records, Role::from(kind))
 }

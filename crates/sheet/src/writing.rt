@@ -1,6 +1,5 @@
-// A record's header as it is written, bytes put into a lent buffer, and what a service answers that
-// writes into one.
-ghost use Rattle.std.specs.Prelude.{◌≡◌, ◌%◌};
+// A record's header as it is written, and bytes put into a lent buffer.
+ghost use Rattle.std.specs.Prelude.{◌≡◌};
 ghost use Rattle.sheet.specs.Format.{standard, new_kind};
 ghost use Rattle.sheet.specs.Promise.{cause9};
 ghost use Rattle.sheet.specs.Writing.{header_of, record_put, put_at, put_end};
@@ -12,14 +11,6 @@ use crate::record::HEADER;
 // The most bytes of a payload whose length a header can tell.
 const MOST_PAYLOAD: usize = 4_294_967_295;
 
-// What a service answers that writes its result into a lent buffer: the number of bytes, or refused
-// with number and place.
-#[derive(Clone, Copy)]
-pub enum Answer {
-    Written { length: usize },
-    Refused { number: u8, place: usize },
-}
-
 // Cause 9: the room is smaller than the bytes that are needed.
 pub fn room_check(room: usize, bytes: usize) -> Check
     ensures { result ≡ cause9 room bytes }
@@ -27,25 +18,13 @@ pub fn room_check(room: usize, bytes: usize) -> Check
     refuse(9, bytes, room < bytes)
 }
 
-fn low(x: u32) -> u8
-    ensures { result ≡ x % 256 }
-{
-    (x % 256) as u8
-}
-
 // The header of a record of a kind, with a payload of so many bytes.
 pub fn header_of(kind: u16, size: u32) -> [u8; HEADER]
     ensures { result ≡ header_of kind size }
 {
-    let wide = kind as u32;
-    [
-        low(size),
-        low(size / 256),
-        low(size / 65_536),
-        low(size / 16_777_216),
-        low(wide),
-        low(wide / 256),
-    ]
+    let [a, b, c, d] = size.to_le_bytes();
+    let [e, f] = kind.to_le_bytes();
+    [a, b, c, d, e, f]
 }
 
 // Copies bytes to a place of a buffer where all of them fit, else none; gives the place behind
@@ -57,12 +36,9 @@ pub fn put(bytes: &[u8], at: usize, buffer: &mut [u8]) -> usize
     if buffer.len() < at || buffer.len() - at < bytes.len() {
         return at;
     }
-    let mut i = 0;
-    while i < bytes.len() {
-        buffer[at + i] = bytes[i];
-        i += 1;
-    }
-    at + i
+    let end = at + bytes.len();
+    buffer[at..end].copy_from_slice(bytes);
+    end
 }
 
 // The same for a record: its header, then its payload; nothing where the payload is longer than a

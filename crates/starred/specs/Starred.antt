@@ -3,17 +3,17 @@
 -- is shown in Starred.Proofs. Where a room is lent, the case holds for every room that is large enough.
 use Rattle.std.specs.Prelude.{ℕ, ◌≤◌, ◌≡◌, List, [], ◌∷◌, ◌++◌, length, drop}
 use Rattle.facts.specs.Decimal.{bytes}
-use Rattle.sheet.specs.declared.writing.Answer.TheVariants.{Written, Refused as RefusedWriting}
+use Rattle.sheet.specs.Promise.{Written}
+use Rattle.sheet.specs.Check.{Refused}
+use Rattle.certify.specs.Answer.{Certified, Open}
+use Rattle.judge.specs.Answer.{Answer, Pass, Wrong, Unfinished}
 use Rattle.sheet.specs.Format.{standard}
 use Rattle.sheet.specs.Joining.{joined, fresh}
 use Rattle.machine.specs.Machine.{no_answer}
-use Rattle.certify.specs.declared.answer.Answer.TheVariants.{Certified, Open, Refused as RefusedCertification}
 use Rattle.certify.specs.Certification.{certification}
 use Rattle.certify.specs.Marks.Twin.{twin_table, single_table}
 use Rattle.build.specs.Building.{building, buffer_after}
 use Rattle.build.specs.Building.Twin.{unit_sheet, disconnected_table}
-use Rattle.judge.specs.declared.answer.Answer.{Answer}
-use Rattle.judge.specs.declared.answer.Answer.TheVariants.{Pass, Wrong, Unfinished, Refused as RefusedJudgement}
 use Rattle.judge.specs.Judging.{judgement}
 use Rattle.report.specs.Lines.{judge_line}
 pub mod Proofs
@@ -81,21 +81,21 @@ pub record Starred : Type 0 where
       → JudgedAs room (twin_answered (0 ∷ 1 ∷ 0 ∷ 1 ∷ [])) (Unfinished 4) (bytes "UNFINISHED 4\n")
   -- thirteen answers, whatever they are
   pub too_many : (room : ℕ) → 13 ≤ room → (a b c d e f g h i j k l m : ℕ)
-      → judgement room (twin_answered (a ∷ b ∷ c ∷ d ∷ e ∷ f ∷ g ∷ h ∷ i ∷ j ∷ k ∷ l ∷ m ∷ [])) ≡ RefusedJudgement 10 41
+      → judgement room (twin_answered (a ∷ b ∷ c ∷ d ∷ e ∷ f ∷ g ∷ h ∷ i ∷ j ∷ k ∷ l ∷ m ∷ [])) ≡ Refused 10 41
   -- a word that does not separate
-  pub no_separation_built : (room : ℕ) → building room (unit_sheet twin_table (1 ∷ [])) ≡ RefusedWriting 6 1
+  pub no_separation_built : (room : ℕ) → building room (unit_sheet twin_table (1 ∷ [])) ≡ Refused 6 1
   pub no_separation_certified : (room : ℕ)
-      → certification room (sequence_sheet twin_table (1 ∷ []) built_twin) ≡ RefusedCertification 6 1
+      → certification room (sequence_sheet twin_table (1 ∷ []) built_twin) ≡ Refused 6 1
   pub no_separation_judged : (room : ℕ)
-      → judgement room (answers_sheet twin_table (1 ∷ []) built_twin (0 ∷ [])) ≡ RefusedJudgement 6 1
+      → judgement room (answers_sheet twin_table (1 ∷ []) built_twin (0 ∷ [])) ≡ Refused 6 1
   -- a next state that is none; the word's command and the answer may be any
-  pub no_state_built : (room command : ℕ) → building room (unit_sheet no_state_table (command ∷ [])) ≡ RefusedWriting 4 8
+  pub no_state_built : (room command : ℕ) → building room (unit_sheet no_state_table (command ∷ [])) ≡ Refused 4 8
   pub no_state_certified : (room command : ℕ)
-      → certification room (sequence_sheet no_state_table (command ∷ []) built_twin) ≡ RefusedCertification 4 8
+      → certification room (sequence_sheet no_state_table (command ∷ []) built_twin) ≡ Refused 4 8
   pub no_state_judged : (room command answer : ℕ)
-      → judgement room (answers_sheet no_state_table (command ∷ []) built_twin (answer ∷ [])) ≡ RefusedJudgement 4 8
+      → judgement room (answers_sheet no_state_table (command ∷ []) built_twin (answer ∷ [])) ≡ Refused 4 8
   -- a table that is not connected
-  pub not_connected : (room : ℕ) → building room (unit_sheet disconnected_table (0 ∷ [])) ≡ RefusedWriting 8 1
+  pub not_connected : (room : ℕ) → building room (unit_sheet disconnected_table (0 ∷ [])) ≡ Refused 8 1
   -- one state and one command, whatever the answer is but the byte for no answer
   pub single_built : (answer room : ℕ) → (answer ≡ no_answer → ⊥) → 4 ≤ room
       → building room (unit_sheet (single_table answer) (0 ∷ [])) ≡ Written 4

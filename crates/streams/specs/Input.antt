@@ -1,12 +1,17 @@
--- What one read of standard input tells.
-use Rattle.std.specs.Prelude.{Bool, true, false, ℕ}
-use Rattle.streams.specs.declared.input.Step.{Step}
-use Rattle.streams.specs.declared.input.Step.TheVariants.{More, End, Failed}
+-- What one read of the input tells.
+use Rattle.std.specs.Prelude.{Bool, true, false, ℕ, cond, eqb, Option, Some, None, Result, Ok, Err}
+use Rattle.std.specs.IoError.{error_kind}
+use Rattle.std.specs.declared.io.Error.{Error}
+use Rattle.std.specs.declared.io.ErrorKind.{ErrorKind}
+use Rattle.std.specs.declared.io.ErrorKind.TheVariants.{Interrupted}
+
+-- whether a signal interrupted what failed with an error of this kind
+abbrev is_interrupted : ErrorKind → Bool
+is_interrupted Interrupted = true
+is_interrupted _ = false
 
 -- by whether it moved bytes, the input ended or a signal interrupted it: a read that a signal interrupted adds nothing,
 -- and any other read that failed is a failure, not the end
-unfoldable pub step_after : Bool → Bool → Bool → ℕ → ℕ → Step
-step_after true ended interrupted size next = More next
-step_after false true interrupted size next = End
-step_after false false true size next = More size
-step_after false false false size next = Failed
+abbrev pub step_after : Result ℕ Error → Result (Option ℕ) Error
+step_after (Ok moved) = Ok (cond (eqb moved 0) None (Some moved))
+step_after (Err error) = cond (is_interrupted (error_kind error)) (Ok (Some 0)) (Err error)

@@ -8,7 +8,8 @@ mod output;
 mod telling;
 mod words;
 
-pub use input::{Input, read_file, read_input};
-pub use line::{Line, read_line};
+pub use input::{read_file, read_input};
+pub use line::read_line;
 pub use output::{write_error, write_output};
+pub use telling::Told;
 pub use words::{count_words, read_word};

@@ -3,45 +3,37 @@
 ghost use Rattle.std.specs.Prelude.{is_ok};
 ghost use Rattle.streams.specs.Output.{WrittenAll};
 
-use crate::telling::tell;
-use std::io::{Error, ErrorKind, Result, Write};
+use crate::telling::{Told, tell};
+use std::io;
+use std::io::{Error, ErrorKind, Write};
 
-// Writes all bytes to a stream, and says whether it could: it stops at the first write that takes
-// nothing or fails, when some of the bytes may have been written.
-pub fn write<W: Write>(stream: &mut W, bytes: &[u8]) -> Result<()>
+// Writes all bytes to a stream, or fails: it stops at the first write that takes nothing or fails,
+// when some of the bytes may have been written. std's `write_all` would try a write that a signal
+// interrupted again, and it does not say that writing none succeeds.
+pub fn write<W: Write>(stream: &mut W, bytes: &[u8]) -> io::Result<()>
     ensures { WrittenAll bytes.now (is_ok result) }
 {
-    if bytes.len() == 0 {
-        return Ok(());
-    }
-    let mut done = 0;
-    while done < bytes.len() {
-        let n = stream.write(&bytes[done..])?;
-        if n == 0 {
+    let mut rest = bytes;
+    while !rest.is_empty() {
+        let taken = stream.write(rest)?;
+        if taken == 0 {
             return Err(Error::from(ErrorKind::WriteZero));
         }
-        done += n;
+        rest = &rest[taken..];
     }
     Ok(())
 }
 
-// Writes all bytes to standard output, or tells on standard error that it could not; says whether it
-// could.
-pub fn write_output(rt: &HostRuntime, bytes: &[u8]) -> bool
-    ensures { WrittenAll bytes.now result }
+// Writes all bytes to standard output, or tells on standard error that it could not.
+pub fn write_output(rt: &HostRuntime, bytes: &[u8]) -> Result<(), Told>
+    ensures { WrittenAll bytes.now (is_ok result) }
 {
-    match write(&mut rt.stdout(), bytes) {
-        Ok(()) => true,
-        Err(error) => {
-            tell(rt, b"standard output", error);
-            false
-        }
-    }
+    write(&mut rt.stdout(), bytes).map_err(|error| tell(rt, b"standard output", error))
 }
 
-// Writes all bytes to standard error, and says whether it could.
-pub fn write_error(rt: &HostRuntime, bytes: &[u8]) -> bool
-    ensures { WrittenAll bytes.now result }
+// Writes all bytes to standard error, or fails: that is told nowhere.
+pub fn write_error(rt: &HostRuntime, bytes: &[u8]) -> io::Result<()>
+    ensures { WrittenAll bytes.now (is_ok result) }
 {
-    write(&mut rt.stderr(), bytes).is_ok()
+    write(&mut rt.stderr(), bytes)
 }

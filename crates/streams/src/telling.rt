@@ -10,21 +10,21 @@ const TEXT: usize = 128;
 // What stands behind the text where the system gave the error.
 const NUMBER: &[u8] = b" (os error ";
 
+// That something failed, and was told on standard error.
+#[derive(Clone, Copy)]
+pub struct Told;
+
 // How many bytes of an error's text stand before its number; all where it has none.
 fn before_number(text: &[u8]) -> usize
     ensures { result ≤ length text.now }
 {
-    for i in 0..text.len() {
-        if text[i..].starts_with(NUMBER) {
-            return i;
-        }
-    }
-    text.len()
+    let mut parts = text.windows(NUMBER.len());
+    parts.position(|part| part == NUMBER).unwrap_or(text.len())
 }
 
 // Writes a line to standard error: what failed, as the caller names it, a colon and the error's
 // text. Where standard error fails nothing is left to tell it on.
-pub(crate) fn tell(rt: &HostRuntime, what: &[u8], error: Error) {
+pub(crate) fn tell(rt: &HostRuntime, what: &[u8], error: Error) -> Told {
     let mut text = Cursor::new([0u8; TEXT]);
     let _ = write!(text, "{error}");
     let written = text.position() as usize;
@@ -35,4 +35,5 @@ pub(crate) fn tell(rt: &HostRuntime, what: &[u8], error: Error) {
     let _ = write(&mut stderr, b": ");
     let _ = write(&mut stderr, &bytes[..size]);
     let _ = write(&mut stderr, b"\n");
+    Told
 }

@@ -2,12 +2,11 @@
 use Prim.Native.Nat.{ℕ}
 use mathlib.Core.Path.{◌≡◌, sym, ap, ◌∙◌}
 use mathlib.Core.List.{List}
-use Rattle.sheet.specs.declared.check.Check.TheVariants.{Clear, Refused}
+use Rattle.sheet.specs.Check.{Clear, Refused}
 use Rattle.sheet.specs.Values.Laws.{returns_specified}
 use Rattle.machine.specs.declared.loading.Loaded.{Loaded}
 use Rattle.machine.specs.Machine.{Mealy, meaning}
 use Rattle.machine.specs.Loading.{LoadedBy}
-use Rattle.word.specs.declared.answer.Answer.TheVariants.{Refused as RefusedAnswer}
 use Rattle.word.specs.declared.answer.Searched.{Searched}
 use Rattle.word.specs.Search.{search}
 use Rattle.word.specs.Service.{search_causes, answer_of, zeros, padded, values_of, Searches}
@@ -15,7 +14,7 @@ use Rattle.word.specs.Service.Laws.{searching_refused, searching_clear, found_re
 
 module _ (s : List ℕ) (l : Loaded) (h : LoadedBy (search_causes s) s l) where
   pub early_refused : {a b : ℕ} → l.check ≡ Refused a b
-      → Searches s (record { answer = RefusedAnswer a b; word = zeros })
+      → Searches s (record { answer = Refused a b; word = zeros })
   early_refused e =
       let c = sym h.check ∙ e in
       record {

@@ -1,13 +1,13 @@
 -- What the functions of the search promise each other. Nothing here has to be believed: the contract of `find_word`
 -- does not name it.
-use Rattle.std.specs.Prelude.{ℕ, ◌+◌, ◌-◌, ◌*◌, ◌/◌, ◌≤◌, ◌≡◌, Bool, true, false, not, ◌&&◌, List, [], ◌∷◌, ◌++◌}
-use Rattle.std.specs.Prelude.{length, get_or, take}
-use Rattle.std.proofs.Math.Option.{Option, map}
+use Rattle.std.specs.Prelude.{ℕ, ◌+◌, ◌-◌, ◌*◌, ◌/◌, ◌≤◌, ◌≡◌, Bool, true, false, not, List, ◌∷◌, length, get_or}
+use Rattle.std.specs.Prelude.{Option, MatchOption}
+use Rattle.std.specs.List.{list_all}
+use Rattle.std.proofs.Math.Option as maybe
+use Rattle.std.proofs.Math.Option.{none, some, map}
+use Rattle.arrayvec.specs.ArrayVec.{ArrayVec}
 use Rattle.machine.specs.Limits.{most_states}
-use Rattle.word.specs.declared.pairs.Moved.{Moved}
-use Rattle.word.specs.declared.pairs.Moved.TheVariants.{Met, On}
-use Rattle.word.specs.declared.pairs.Pairs.{Pairs}
-use Rattle.word.specs.Search.{pairs_with, all_pairs, alike, after, unmet, word_from}
+use Rattle.word.specs.Search.{most_sought, alike, after, unmet, word_from}
 
 -- how many pairs of different states there are at most
 abbrev pub most_pairs : ℕ
@@ -18,51 +18,40 @@ abbrev pub cells : ℕ → List ℕ → ℕ → ℕ → ℕ
 cells k column s c = get_or column (s * k + c) 0
 
 -- ---- pairs
--- room for the pairs of j behind what is there
-pub record PutRequires (j at : ℕ) (list : List ℕ) : Type 0 where
-  pub fits : at + j ≤ length list
-
--- the pairs of j stand behind what was there
-pub record PutsPairs (j at : ℕ) (before now : List ℕ) (end : ℕ) : Type 0 where
-  pub end_is : end ≡ at + j
-  pub holds : take end now ≡ take at before ++ pairs_with j j
-
--- the pairs of all states below n, from the front of a list that has room for those of the most states
-pub record HoldsAll (n : ℕ) (r : Pairs) : Type 0 where
-  pub few : r.size ≤ most_pairs
-  pub long : length r.cells ≡ most_pairs
-  pub holds : take r.size r.cells ≡ all_pairs n
-
 -- whether no pair answers a command alike
-unfoldable pub none_alike : ℕ → List ℕ → List ℕ → ℕ → Bool
-none_alike k answer [] c = true
-none_alike k answer (p ∷ ps) c = not (alike (cells k answer) c p) && none_alike k answer ps c
+abbrev pub none_alike : ℕ → List ℕ → List ℕ → ℕ → Bool
+none_alike k answer ps c = list_all (λ p. not (alike (cells k answer) c p)) ps
 
 -- what a command leaves of pairs, of a table's two columns
 abbrev pub left_by : ℕ → List ℕ → List ℕ → List ℕ → ℕ → List ℕ
 left_by k next answer ps c = after (cells k next) (cells k answer) ps c
 
--- two of them met, or they stand in the list
-abbrev pub MovesOn : ℕ → List ℕ → List ℕ → List ℕ → ℕ → List ℕ → Moved → Type 0
-MovesOn k next answer ps c list Met = unmet (left_by k next answer ps c) ≡ false
-MovesOn k next answer ps c list (On size) =
-    (size ≤ length ps) × (take size list ≡ left_by k next answer ps c) × (unmet (left_by k next answer ps c) ≡ true)
+-- two of them met, or none did and they are given
+abbrev pub MovesOn : ℕ → List ℕ → List ℕ → List ℕ → ℕ → Option (ArrayVec ℕ) → Type 0
+MovesOn k next answer ps c r =
+    MatchOption r (unmet (left_by k next answer ps c) ≡ false)
+    (λ left. (left.items ≡ left_by k next answer ps c) × (unmet (left_by k next answer ps c) ≡ true))
 
 -- ---- words
--- few pairs, and at least one command
-pub record BehindRequires (ps word : List ℕ) : Type 0 where
-  pub few : length ps ≤ most_pairs
-  pub some : 1 ≤ length word
+-- few pairs, and 1 to 6 commands
+pub record BehindRequires (ps : List ℕ) (size : ℕ) : Type 0 where
+  pub pairs_few : length ps ≤ most_pairs
+  pub some : 1 ≤ size
+  pub few : size ≤ most_sought
 
 -- and none of the pairs has met
-pub record FirstRequires (ps word : List ℕ) : Type 0 where
-  pub behind : BehindRequires ps word
+pub record FirstRequires (ps : List ℕ) (size : ℕ) : Type 0 where
+  pub behind : BehindRequires ps size
   pub apart : unmet ps ≡ true
 
+-- a word is given, or none where there is none
+abbrev pub IsWord : maybe.Option (List ℕ) → Option (ArrayVec ℕ) → Type 0
+IsWord sought r = MatchOption r (sought ≡ none) (λ w. sought ≡ some w.items)
+
 -- the first word of m commands, of a table's two columns
-abbrev pub word_on : ℕ → List ℕ → List ℕ → List ℕ → ℕ → Option (List ℕ)
+abbrev pub word_on : ℕ → List ℕ → List ℕ → List ℕ → ℕ → maybe.Option (List ℕ)
 word_on k next answer ps m = word_from k (cells k next) (cells k answer) m ps
 
 -- the first of those, of m commands, m at least 1, that begin with this one
-abbrev pub word_behind : ℕ → List ℕ → List ℕ → List ℕ → ℕ → ℕ → Option (List ℕ)
+abbrev pub word_behind : ℕ → List ℕ → List ℕ → List ℕ → ℕ → ℕ → maybe.Option (List ℕ)
 word_behind k next answer ps c m = map (◌∷◌ c) (word_on k next answer (left_by k next answer ps c) (m - 1))

@@ -1,17 +1,16 @@
 -- The search for a word as a service (§14.2): its causes, its answer, and the word beside it. The laws stand in
 -- Service.Laws.
+use Rattle.std.specs.Prelude.{Err}
 use Rattle.std.specs.Prelude.{ℕ, ◌≡◌, false, List, [], ◌⊎◌, length, replicate}
 use Rattle.std.proofs.Common.{inl, inr}
 use Rattle.std.proofs.Math.Option.{Option, none, some, get_or}
-use Rattle.sheet.specs.declared.check.Check.{Check}
+use Rattle.sheet.specs.Check.{first_cause, refused_or, Check, Refused}
+use Rattle.word.specs.Answer.{Answer, Found, Nothing}
 use Rattle.sheet.specs.declared.check.Values.{Values}
 use Rattle.sheet.specs.declared.reader.Needs.{Needs}
-use Rattle.sheet.specs.Check.{first_cause, refused_or}
 use Rattle.sheet.specs.Values.{refusal_values, Returns}
 use Rattle.sheet.specs.Writing.{written}
 use Rattle.machine.specs.Causes.{machine_in, load_causes}
-use Rattle.word.specs.declared.answer.Answer.{Answer}
-use Rattle.word.specs.declared.answer.Answer.TheVariants.{Found, Nothing, Refused as RefusedAnswer}
 use Rattle.word.specs.declared.answer.Searched.{Searched}
 use Rattle.word.specs.Search.{most_sought, search}
 pub mod Laws
@@ -31,7 +30,7 @@ answer_of (some w) = Found (length w)
 
 -- what the search answers to a sheet (§14.2)
 unfoldable pub searching : List ℕ → Answer
-searching s = refused_or RefusedAnswer (first_cause (search_causes s)) (answer_of (search (machine_in s)))
+searching s = refused_or Refused (first_cause (search_causes s)) (answer_of (search (machine_in s)))
 
 -- the word that was found for a sheet, or none (§14.2); none too where something is refused
 unfoldable pub word_found : List ℕ → Option (List ℕ)
@@ -54,7 +53,7 @@ word_beside s = padded (word_found s)
 abbrev pub values_of : Answer → Values ⊎ Option ℕ
 values_of (Found size) = inr (some size)
 values_of Nothing = inr none
-values_of (RefusedAnswer number place) = inl (refusal_values number place)
+values_of (Err r) = inl (refusal_values r.number r.place)
 
 -- what the search promises of a sheet (§4.4): the specified answer with its number and values, and every byte of the
 -- array beside it

@@ -6,5 +6,5 @@ mod pairs;
 mod search;
 mod service;
 
-pub use answer::{Answer, MOST_SOUGHT, Searched, WithRecords};
+pub use answer::{MOST_SOUGHT, Searched};
 pub use service::{find_word, find_word_with_records};

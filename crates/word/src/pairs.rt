@@ -1,29 +1,22 @@
-// Pairs of states, each one number: 256 times the one state, and the other. A search keeps the pairs
+// Pairs of states, each one number: 256 times the one state, and the other; no tuple, since the
+// definitions of the search (`pair_of`, `moved`) compute with such numbers. A search keeps the pairs
 // whose states answered a beginning alike, each with the states in which it is then.
-ghost use Rattle.std.specs.Prelude.{◌≡◌, ◌≤◌, length};
+ghost use Rattle.std.specs.Prelude.{◌≡◌, ◌+◌, ◌≤◌, ◌++◌, length};
+ghost use Rattle.arrayvec.specs.ArrayVec.{array_vec_len};
 ghost use Rattle.machine.specs.Limits.{most_states};
-ghost use Rattle.word.specs.Search.{pair_of, alike, moved};
-ghost use Rattle.word.specs.Searching.{cells, PutRequires, PutsPairs, HoldsAll, none_alike, MovesOn};
+ghost use Rattle.word.specs.Search.{pair_of, pairs_with, alike, moved};
+ghost use Rattle.word.specs.Search.{all_pairs as pairs_below};
+ghost use Rattle.word.specs.Searching.{most_pairs, cells, none_alike, MovesOn};
 
+use arrayvec::ArrayVec;
 use machine::{Machine, entry_at};
 use sheet::byte;
 
 // The most pairs.
-pub const PAIRS: usize = Machine::STATES * (Machine::STATES - 1) / 2;
+const PAIRS: usize = Machine::STATES * (Machine::STATES - 1) / 2;
 
-// Pairs, as many as the size says from the front.
-#[derive(Clone, Copy)]
-pub struct Pairs {
-    pub size: usize,
-    pub cells: [u16; PAIRS],
-}
-
-// What a command leaves of pairs: two states that answered alike met, or so many pairs are left.
-#[derive(Clone, Copy)]
-pub enum Moved {
-    Met,
-    On { size: usize },
-}
+// Pairs, at most as many as the most states have.
+pub type Pairs = ArrayVec<u16, PAIRS>;
 
 // A pair as one number.
 fn pair(s: u8, t: u8) -> u16
@@ -32,34 +25,28 @@ fn pair(s: u8, t: u8) -> u16
     256 * (s as u16) + t as u16
 }
 
-// Puts the pairs of a state with those below it behind other pairs.
-fn put_pairs(j: u8, at: usize, cells: &mut [u16]) -> usize
-    requires { PutRequires j at cells.old }
-    ensures { PutsPairs j at cells.old cells.new result }
+// Pushes the pairs of a state with those below it.
+#[tactic(auto, using(crate::proofs::Moving::pushed_long), unfolding(crate::specs::Search::pairs_with))]
+fn push_pairs(j: u8, pairs: &mut Pairs)
+    requires { array_vec_len pairs.old + j ≤ most_pairs }
+    ensures { pairs.new.items ≡ pairs.old.items ++ pairs_with j j }
 {
-    let mut i: u8 = 0;
-    let mut end = at;
-    while i < j {
-        cells[end] = pair(i, j);
-        i += 1;
-        end += 1;
+    for i in 0..j {
+        pairs.push(pair(i, j));
     }
-    end
 }
 
 // All pairs of different states below n.
+#[tactic(auto, using(crate::proofs::Moving::more_pairs), unfolding(crate::specs::Search::all_pairs))]
 pub fn all_pairs(n: u8) -> Pairs
     requires { n ≤ most_states }
-    ensures { HoldsAll n result }
+    ensures { result.items ≡ pairs_below n }
 {
-    let mut cells = [0u16; PAIRS];
-    let mut size = 0;
-    let mut j: u8 = 0;
-    while j < n {
-        size = put_pairs(j, size, &mut cells);
-        j += 1;
+    let mut pairs = ArrayVec::new();
+    for j in 0..n {
+        push_pairs(j, &mut pairs);
     }
-    Pairs { size, cells }
+    pairs
 }
 
 // What a column of the table holds for a state and a command.
@@ -70,54 +57,43 @@ fn cell(column: &[u8], k: u8, s: u8, c: u8) -> u8
 }
 
 // Whether the two states of a pair answer a command alike.
-fn answer_alike(answer: &[u8], k: u8, p: u16, c: u8) -> bool
-    ensures { result ≡ alike (cells k answer.now) c p }
+fn answer_alike(m: &Machine, p: u16, c: u8) -> bool
+    ensures { result ≡ alike (cells m.now.k m.now.answer) c p }
 {
-    cell(answer, k, (p / 256) as u8, c) == cell(answer, k, (p % 256) as u8, c)
+    cell(&m.answer, m.k, (p / 256) as u8, c) == cell(&m.answer, m.k, (p % 256) as u8, c)
 }
 
 // Where a command leads the two states of a pair.
-fn moved_pair(next: &[u8], k: u8, p: u16, c: u8) -> u16
-    ensures { result ≡ moved (cells k next.now) c p }
+fn moved_pair(m: &Machine, p: u16, c: u8) -> u16
+    ensures { result ≡ moved (cells m.now.k m.now.next) c p }
 {
     pair(
-        cell(next, k, (p / 256) as u8, c),
-        cell(next, k, (p % 256) as u8, c),
+        cell(&m.next, m.k, (p / 256) as u8, c),
+        cell(&m.next, m.k, (p % 256) as u8, c),
     )
 }
 
 // Whether the states of each pair answer a command differently.
-pub fn told_apart(answer: &[u8], k: u8, pairs: &[u16], c: u8) -> bool
-    ensures { result ≡ none_alike k answer.now pairs.now c }
+pub fn told_apart(m: &Machine, pairs: &[u16], c: u8) -> bool
+    ensures { result ≡ none_alike m.now.k m.now.answer pairs.now c }
 {
-    let mut i = 0;
-    while i < pairs.len() {
-        if answer_alike(answer, k, pairs[i], c) {
-            return false;
-        }
-        i += 1;
-    }
-    true
+    pairs.iter().all(|p| !answer_alike(m, *p, c))
 }
 
-// Moves the pairs that answer a command alike on by it, into a lent list.
-pub fn move_on(next: &[u8], answer: &[u8], k: u8, pairs: &[u16], c: u8, left: &mut [u16]) -> Moved
-    requires { length pairs.now ≤ length left.old }
-    ensures { MovesOn k next.now answer.now pairs.now c left.new result }
+// The pairs that answer a command alike, each where it leads them, or none where two states met.
+pub fn move_on(m: &Machine, pairs: &[u16], c: u8) -> Option<Pairs>
+    requires { length pairs.now ≤ most_pairs }
+    ensures { MovesOn m.now.k m.now.next m.now.answer pairs.now c result }
 {
-    let mut size = 0;
-    let mut i = 0;
-    while i < pairs.len() {
-        let p = pairs[i];
-        if answer_alike(answer, k, p, c) {
-            let q = moved_pair(next, k, p, c);
+    let mut left = ArrayVec::new();
+    for p in pairs {
+        if answer_alike(m, *p, c) {
+            let q = moved_pair(m, *p, c);
             if q / 256 == q % 256 {
-                return Moved::Met;
+                return None;
             }
-            left[size] = q;
-            size += 1;
+            left.push(q);
         }
-        i += 1;
     }
-    Moved::On { size }
+    Some(left)
 }

@@ -4,16 +4,12 @@ use mathlib.Core.Path.{◌≡◌, refl, sym, ap, subst, ◌∙◌}
 use mathlib.Core.List.{List}
 use native.Mathlib.Omega.{arith}
 use lib.ListN.{length}
-use Rattle.sheet.specs.declared.check.Check.{Check}
-use Rattle.sheet.specs.declared.check.Check.TheVariants.{Clear, Refused}
-use Rattle.sheet.specs.declared.writing.Answer.{Answer}
-use Rattle.sheet.specs.declared.writing.Answer.TheVariants.{Written, Refused as RefusedAnswer}
-use Rattle.sheet.specs.Check.{◌else◌, first_cause}
+use Rattle.sheet.specs.Check.{◌else◌, first_cause, Check, Clear, Refused}
+use Rattle.sheet.specs.Promise.{cause9, Writes, Answer, Written}
 use Rattle.sheet.specs.Check.Laws.{else_clear, else_refused}
 use Rattle.sheet.specs.Format.{standard, longest}
 use Rattle.sheet.specs.Reader.{sheet_causes, needed}
 use Rattle.sheet.specs.Writing.{Puts}
-use Rattle.sheet.specs.Promise.{cause9, Writes}
 use Rattle.sheet.specs.Promise.Laws.{clear_room, room_refused, by_cause, by_room, refused_writes, puts_writes}
 use Rattle.writer.specs.declared.wanted.Wanted.{Wanted}
 use Rattle.writer.specs.declared.wanted.Wanted.TheVariants.{Sequence, Answers}
@@ -23,7 +19,7 @@ use Rattle.writer.specs.Writer.Laws.{clear_formed, formed_short, answers_causes_
 
 -- ---- the writer
 module _ (v : Wanted) (p : Parts) (before : List ℕ) {check : Check} (is : check ≡ first_cause (part_causes v p)) where
-  pub early_refused : {a b : ℕ} → check ≡ Refused a b → WritesParts v p before before (RefusedAnswer a b)
+  pub early_refused : {a b : ℕ} → check ≡ Refused a b → WritesParts v p before before (Refused a b)
   early_refused e = refused_writes before (by_cause (sym is ∙ e)) refl
 
   module _ (clear : check ≡ Clear) where
@@ -33,7 +29,7 @@ module _ (v : Wanted) (p : Parts) (before : List ℕ) {check : Check} (is : chec
     -- cause 9, of the sheet's length
     module _ {size : ℕ} (sized : size ≡ length (sheet_of v p)) {nine : Check} (ne : nine ≡ cause9 (length before) size)
       where
-        pub nine_refused : {a b : ℕ} → nine ≡ Refused a b → WritesParts v p before before (RefusedAnswer a b)
+        pub nine_refused : {a b : ℕ} → nine ≡ Refused a b → WritesParts v p before before (Refused a b)
         nine_refused e =
             let t = room_refused _ _ (sym ne ∙ e) in
             refused_writes before
@@ -50,7 +46,7 @@ module _ (v : Wanted) (p : Parts) (before : List ℕ) {check : Check} (is : chec
 -- ---- answers put into a sheet
 module _ (s ys before : List ℕ) {check : Check}
     (is : check ≡ first_cause (sheet_causes standard (needed standard (needs_of Sequence)) s)) where
-  pub sheet_refused : {a b : ℕ} → check ≡ Refused a b → AddsAnswers s ys before before (RefusedAnswer a b)
+  pub sheet_refused : {a b : ℕ} → check ≡ Refused a b → AddsAnswers s ys before before (Refused a b)
   sheet_refused {a} {b} e =
       refused_writes before
       (by_cause (answers_causes_are s ys

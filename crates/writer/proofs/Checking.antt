@@ -1,11 +1,8 @@
 -- How the code's checks, made one by one, are the first cause of the writer's list. Assumes nothing.
 use Prim.Native.Nat.{ℕ, ◌≤◌}
-use mathlib.Core.Path.{◌≡◌, sym, ap, ap₂, ◌∙◌}
-use mathlib.Core.List.{List}
+use mathlib.Core.Path.{◌≡◌, sym, ap₂, ◌∙◌}
 use lib.ListN.{length}
-use Rattle.sheet.specs.declared.check.Check.{Check}
-use Rattle.sheet.specs.declared.check.Check.TheVariants.{Clear, Refused}
-use Rattle.sheet.specs.Check.{◌else◌, first_cause}
+use Rattle.sheet.specs.Check.{◌else◌, first_cause, Check, Clear, Refused}
 use Rattle.sheet.specs.Check.Laws.{stops_at, goes_on}
 use Rattle.sheet.specs.Format.{standard, offset}
 use Rattle.machine.specs.Limits.{most_machine}
@@ -16,11 +13,6 @@ use Rattle.writer.specs.declared.wanted.Wanted.{Wanted}
 use Rattle.writer.specs.Parts.{Parts, word_start}
 use Rattle.writer.specs.Writer.{later_causes, part_causes}
 use Rattle.writer.specs.Writer.Laws.{part_causes_are}
-
--- ---- what is wanted, as the code finds it
-pub wanted_is : (M : Mealy) (at : ℕ) (xs ys : List ℕ) {v w : Wanted} {c : Check} → v ≡ w
-    → c ≡ first_cause (later_causes w M at xs ys) → c ≡ first_cause (later_causes v M at xs ys)
-wanted_is M at xs ys e h = h ∙ ap (λ (x : Wanted). first_cause (later_causes x M at xs ys)) (sym e)
 
 -- ---- all parts
 module _ (v : Wanted) (p : Parts) where

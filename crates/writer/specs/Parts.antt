@@ -5,6 +5,7 @@ use Rattle.sheet.specs.declared.reader.Needs.{Needs}
 use Rattle.sheet.specs.Format.{standard, offset}
 use Rattle.sheet.specs.Reader.{when, machine_payload, word_in, sequence_in, answers_in}
 use Rattle.sheet.specs.Joining.{joined, fresh}
+use Rattle.writer.specs.declared.parts.Parts.{Parts as Lent}
 use Rattle.writer.specs.declared.wanted.Wanted.{Wanted}
 use Rattle.writer.specs.declared.wanted.Wanted.TheVariants.{Word, Sequence, Answers}
 pub mod Laws
@@ -20,6 +21,10 @@ pub record Parts : Type 0 where
 abbrev pub parts_of : List ℕ → List ℕ → List ℕ → List ℕ → Parts
 parts_of machine word sequence answers =
     record { machine = machine; word = word; sequence = sequence; answers = answers }
+
+-- the parts that a value of the program's type Parts lends
+abbrev pub lent_parts : Lent → Parts
+lent_parts p = parts_of p.machine.now p.word.now p.sequence.now p.answers.now
 
 -- the parts of a sheet, with these answers in place of its own (§15.3)
 abbrev pub with_answers : List ℕ → List ℕ → Parts

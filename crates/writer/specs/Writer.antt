@@ -2,12 +2,10 @@
 -- Writer.Laws; Writer.Reading has how a written sheet is read and loaded, Writer.Same that a sheet's own parts make
 -- that sheet, Writer.Answered what adding answers makes of a sheet.
 use Rattle.std.specs.Prelude.{ℕ, List, [], ◌∷◌, ◌++◌, length}
-use Rattle.sheet.specs.declared.check.Check.{Check}
-use Rattle.sheet.specs.declared.writing.Answer.{Answer}
-use Rattle.sheet.specs.Check.{first_cause}
+use Rattle.sheet.specs.Check.{first_cause, Check}
+use Rattle.sheet.specs.Promise.{Writes, Answer}
 use Rattle.sheet.specs.Format.{standard, offset}
 use Rattle.sheet.specs.Reader.{sheet_causes, when, needed}
-use Rattle.sheet.specs.Promise.{Writes}
 use Rattle.machine.specs.Machine.{Mealy, machine_of}
 use Rattle.machine.specs.Causes.{cause10, table_causes, word_causes, sequence_causes}
 use Rattle.writer.specs.declared.wanted.Wanted.{Wanted}

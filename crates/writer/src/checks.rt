@@ -6,81 +6,57 @@ ghost use Rattle.sheet.specs.Format.{standard, header, offset};
 ghost use Rattle.machine.specs.Limits.{most_machine};
 ghost use Rattle.machine.specs.Machine.{meaning};
 ghost use Rattle.machine.specs.Causes.{sequence_causes, word_causes, cause10};
-ghost use Rattle.writer.specs.Parts.{parts_of};
+ghost use Rattle.writer.specs.Parts.{lent_parts};
 ghost use Rattle.writer.specs.Writer.{later_causes, part_causes};
 
+use crate::parts::Parts;
 use crate::wanted::Wanted;
 use machine::{Machine, sequence_check, table_check, word_check};
-use sheet::{Check, HEADER, first_of, refuse};
+use sheet::{Check, HEADER, refuse};
 
-// Causes 7 and 10, of a sequence whose record starts at an offset and of its answers.
-fn answers_check(m: Machine, at: u32, sequence: &[u8], answers: &[u8]) -> Check
-    ensures { result ≡ (first_cause (sequence_causes (meaning m) at sequence.now)
-        else cause10 (offset at (length sequence.now)) sequence.now answers.now) }
-{
-    let seven = sequence_check(m, at, sequence);
-    let next = at as usize + HEADER + sequence.len();
-    let ten = refuse(10, next, sequence.len() < answers.len());
-    first_of(seven, ten)
-}
-
-// The causes of sequence and answers, where they are wanted.
-fn later_check(wanted: Wanted, m: Machine, at: u32, sequence: &[u8], answers: &[u8]) -> Check
-    ensures { result ≡ first_cause (later_causes wanted (meaning m) at sequence.now answers.now) }
-{
-    match wanted {
-        Wanted::Word => Check::Clear,
-        Wanted::Sequence => sequence_check(m, at, sequence),
-        Wanted::Answers => answers_check(m, at, sequence, answers),
-    }
-}
-
-// The causes of the word, whose record starts at an offset, and of what is wanted behind it.
-fn word_and_later(
-    wanted: Wanted,
-    m: Machine,
-    at: u32,
-    word: &[u8],
-    sequence: &[u8],
-    answers: &[u8],
-) -> Check
-    requires { at ≤ header + most_machine standard }
-    ensures { result ≡ (first_cause (word_causes (meaning m) at word.now)
-        else first_cause (later_causes wanted (meaning m) (offset at (length word.now))
-        sequence.now answers.now)) }
-{
-    let check = word_check(m, at, word);
-    if let Check::Refused {
-        number: _,
-        place: _,
-    } = check
+impl Parts<'_> {
+    // Causes 7 and 10, of the sequence, whose record starts at an offset, and of its answers.
+    fn answers_check(&self, m: &Machine, at: u32) -> Check
+        ensures { result ≡ (first_cause (sequence_causes (meaning m.now) at self.now.sequence.now)
+            else cause10 (offset at (length self.now.sequence.now))
+            self.now.sequence.now self.now.answers.now) }
     {
-        return check;
+        sequence_check(m, at, self.sequence)?;
+        let next = at as usize + HEADER + self.sequence.len();
+        refuse(10, next, self.sequence.len() < self.answers.len())
     }
-    let next = at as usize + HEADER + word.len();
-    later_check(wanted, m, next as u32, sequence, answers)
-}
 
-// All of them, the machine's first.
-pub fn parts_check(
-    wanted: Wanted,
-    machine: &[u8],
-    word: &[u8],
-    sequence: &[u8],
-    answers: &[u8],
-) -> Check
-    ensures { result ≡ first_cause (part_causes wanted (parts_of machine.now word.now sequence.now
-        answers.now)) }
-{
-    let check = table_check(0, machine);
-    if let Check::Refused {
-        number: _,
-        place: _,
-    } = check
+    // The causes of sequence and answers, where they are wanted.
+    fn later_check(&self, wanted: Wanted, m: &Machine, at: u32) -> Check
+        ensures { result ≡ first_cause (later_causes wanted (meaning m.now) at self.now.sequence.now
+            self.now.answers.now) }
     {
-        return check;
+        match wanted {
+            Wanted::Word => Ok(()),
+            Wanted::Sequence => sequence_check(m, at, self.sequence),
+            Wanted::Answers => self.answers_check(m, at),
+        }
     }
-    let m = Machine::load(machine);
-    let next = HEADER + machine.len();
-    word_and_later(wanted, m, next as u32, word, sequence, answers)
+
+    // The causes of the word, whose record starts at an offset, and of what is wanted behind it.
+    fn word_and_later(&self, wanted: Wanted, m: &Machine, at: u32) -> Check
+        requires { at ≤ header + most_machine standard }
+        ensures { result ≡ (first_cause (word_causes (meaning m.now) at self.now.word.now)
+            else first_cause (later_causes wanted (meaning m.now) (offset at (length self.now.word.now))
+            self.now.sequence.now self.now.answers.now)) }
+    {
+        word_check(m, at, self.word)?;
+        let next = at as usize + HEADER + self.word.len();
+        self.later_check(wanted, m, next as u32)
+    }
+
+    // All of them, the machine's first.
+    pub fn check(&self, wanted: Wanted) -> Check
+        ensures { result ≡ first_cause (part_causes wanted (lent_parts self.now)) }
+    {
+        table_check(0, self.machine)?;
+        let m = Machine::load(self.machine);
+        let next = HEADER + self.machine.len();
+        self.word_and_later(wanted, &m, next as u32)
+    }
 }

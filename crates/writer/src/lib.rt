@@ -3,6 +3,7 @@
 #![tactic(auto)]
 
 mod checks;
+mod parts;
 mod putting;
 mod service;
 mod wanted;

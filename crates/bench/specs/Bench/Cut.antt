@@ -1,12 +1,11 @@
 -- The first 20,356 bytes of a part are enough, one more than the longest part may have: a longer one that
 -- is wanted is refused, whatever follows. One before it that is too long is refused first, so that where later records
 -- start plays no role.
+use Rattle.std.specs.Prelude.{Err}
 use Rattle.std.specs.Prelude.{ℕ, ◌+◌, ◌<◌, ◌≡◌, refl, true, List, length, take}
 use Rattle.std.proofs.Common.{sym, ap, ◌∙◌, true≢false, inl, inr, arith, lt-ltb, take_all, length-take-le}
 use Rattle.facts.specs.Numbers.{less_or_not}
-use Rattle.sheet.specs.declared.check.Check.{Check}
-use Rattle.sheet.specs.declared.check.Check.TheVariants.{Clear, Refused}
-use Rattle.sheet.specs.Check.{◌else◌, first_cause}
+use Rattle.sheet.specs.Check.{◌else◌, first_cause, Check, Clear, Refused}
 use Rattle.sheet.specs.Check.Laws.{present, else_clear, refusal_stays, else_assoc}
 use Rattle.sheet.specs.Format.{standard, offset}
 use Rattle.sheet.specs.Reader.{sheet_causes, needed}
@@ -30,7 +29,7 @@ refusal_same : (c : Check) (n p : ℕ) (xs ys : List ℕ)
     → bytes_unless (c else Refused n p) xs ≡ bytes_unless (c else Refused n p) ys
 unfolding ◌else◌
 refusal_same Clear n p xs ys = refl
-refusal_same (Refused m q) n p xs ys = refl
+refusal_same (Err r) n p xs ys = refl
 
 refused_same : (c : Check) (n p : ℕ) {a b : Check} (xs ys : List ℕ) → a ≡ (c else Refused n p)
     → b ≡ (c else Refused n p)

@@ -4,9 +4,8 @@
 use Rattle.std.specs.Prelude.{ℕ, ◌+◌, ◌<◌, ◌≡◌, refl, Bool, true, false, List, [], ◌∷◌, map, length, take}
 use Rattle.std.proofs.Common.{sym, ap, ◌∙◌, arith, take_all, length-take-le, inl, inr}
 use Rattle.std.proofs.lemmas.List.{length-map}
-use Rattle.sheet.specs.declared.check.Check.TheVariants.{Refused}
+use Rattle.sheet.specs.Check.{first_cause, Refused}
 use Rattle.sheet.specs.declared.reader.Needs.{Needs}
-use Rattle.sheet.specs.Check.{first_cause}
 use Rattle.sheet.specs.Check.Laws.{refusal_stays}
 use Rattle.sheet.specs.Format.{longest, standard}
 use Rattle.sheet.specs.Reader.{refusal_of, sheet_causes, needed}

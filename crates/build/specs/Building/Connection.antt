@@ -4,9 +4,7 @@ use Rattle.std.specs.Prelude.{ℕ, ◌<◌, ◌≡◌, refl, true, false, List, 
 use Rattle.std.proofs.Common.{sym, ap, ◌∙◌, arith, length-append}
 use Rattle.std.proofs.Math.Option.{Option, none, some, get_or}
 use Rattle.facts.specs.Lists.{low_append}
-use Rattle.sheet.specs.declared.check.Check.{Check}
-use Rattle.sheet.specs.declared.check.Check.TheVariants.{Clear, Refused}
-use Rattle.sheet.specs.Check.{refusal◌with◌if◌, ◌else◌, first_cause, first}
+use Rattle.sheet.specs.Check.{refusal◌with◌if◌, ◌else◌, first_cause, first, Check, Clear, Refused}
 use Rattle.sheet.specs.Check.Laws.{both_clear, else_clear, else_refused, cause_one, cause_append, absent, present}
 use Rattle.sheet.specs.Check.Laws.{clear_absent, first_clear, first_clear_at, first_found, first_present}
 use Rattle.sheet.specs.Check.Laws.{present_test}

@@ -2,9 +2,9 @@
 -- of the buffer. What it shows of the sequence (`BuiltSequence`) is in proofs/BuildingService.antt.
 use Rattle.std.specs.Prelude.{ℕ, ◌-◌, ◌≤◌, ◌<◌, ◌≡◌, refl, List, length, take, drop}
 use Rattle.std.proofs.Common.{sym, ◌∙◌, true≢false, inl, inr, arith}
-use Rattle.sheet.specs.declared.check.Check.TheVariants.{Clear, Refused}
-use Rattle.sheet.specs.declared.writing.Answer.TheVariants.{Written, Refused as RefusedAnswer}
-use Rattle.sheet.specs.Check.{first_cause}
+use Rattle.sheet.specs.Check.{first_cause, Clear, Refused}
+use Rattle.sheet.specs.Promise.{Written}
+use Rattle.certify.specs.Answer.{Certified as CertifiedAnswer}
 use Rattle.sheet.specs.Check.Laws.{both_clear, else_clear, either_refused}
 use Rattle.sheet.specs.Reader.{word_in, word_record}
 use Rattle.sheet.specs.Promise.Laws.{room_clear, clear_room, Outcome, wrote, by_cause, by_room, writing_outcome}
@@ -15,7 +15,6 @@ use Rattle.machine.specs.Causes.{machine_in, load_causes}
 use Rattle.machine.specs.Causes.Laws.{clear_commands}
 use Rattle.machine.specs.Causes.Lists.{word_causes_are, distinguishes_clear, loading_clear, machine_proper}
 use Rattle.machine.specs.Causes.Lists.{load_proper, clear_machine, clear_word, word_distinguishes}
-use Rattle.certify.specs.declared.answer.Answer.TheVariants.{Certified as CertifiedAnswer}
 use Rattle.certify.specs.Recognition.{Certified}
 use Rattle.certify.specs.Marks.{count, marks}
 use Rattle.certify.specs.Certification.{outcome}
@@ -74,7 +73,7 @@ pub data RefusedFor (room : ℕ) (s : List ℕ) (a b : ℕ) : Type 0 where
   narrow : a ≡ 9 → b ≡ length (sequence (machine_in s) (word_in s)) → room < b → RefusedFor room s a b
 
 why : (room : ℕ) (s : List ℕ) {a b : ℕ}
-    → Outcome (first_cause (connected_causes s)) room (sequence (machine_in s) (word_in s)) (RefusedAnswer a b)
+    → Outcome (first_cause (connected_causes s)) room (sequence (machine_in s) (word_in s)) (Refused a b)
     → RefusedFor room s a b
 why room s (by_cause e) = elim (either_refused _ _ (sym (connected_causes_are s) ∙ e)) [
   | inl l ↦ early l
@@ -84,11 +83,11 @@ why room s (by_cause e) = elim (either_refused _ _ (sym (connected_causes_are s)
 ]
 why room s (by_room e n p l) = narrow n p l
 
-pub refused_for : (room : ℕ) (s : List ℕ) {a b : ℕ} → building room s ≡ RefusedAnswer a b → RefusedFor room s a b
+pub refused_for : (room : ℕ) (s : List ℕ) {a b : ℕ} → building room s ≡ Refused a b → RefusedFor room s a b
 refused_for room s e = why room s (writing_outcome e)
 
 -- it writes nothing
-pub refused_buffer : (s buffer : List ℕ) {a b : ℕ} → building (length buffer) s ≡ RefusedAnswer a b
+pub refused_buffer : (s buffer : List ℕ) {a b : ℕ} → building (length buffer) s ≡ Refused a b
     → buffer_after s buffer ≡ buffer
 refused_buffer s buffer e = refused_leaves buffer (writing_outcome e)
 

@@ -6,10 +6,9 @@ use Rattle.std.proofs.Common.{sym, ap, ap₂, ◌∙◌, ne_eqb}
 use Rattle.std.proofs.Math.Option.{or_else}
 use Rattle.facts.specs.FirstOf.{guard, first_of}
 use Rattle.facts.specs.FirstString.{first_string}
-use Rattle.sheet.specs.declared.check.Check.{Check}
-use Rattle.sheet.specs.declared.check.Check.TheVariants.{Clear, Refused as RefusedCheck}
-use Rattle.sheet.specs.declared.writing.Answer.TheVariants.{Written, Refused}
-use Rattle.sheet.specs.Check.{refusal◌with◌if◌, ◌else◌, first_cause, first}
+use Rattle.sheet.specs.Check.{refusal◌with◌if◌, ◌else◌, first_cause, first, Check, Clear, Refused}
+use Rattle.sheet.specs.Promise.{Written}
+use Rattle.certify.specs.Answer.{Certified}
 use Rattle.sheet.specs.Check.Laws.{absent, else_clear}
 use Rattle.sheet.specs.Format.{record_at, end, role_of, cause1, cause2, cause_of, parse_step, parse_from, parse}
 use Rattle.sheet.specs.Format.{parsed, of_kind, ◌or◌, find, standard}
@@ -22,7 +21,6 @@ use Rattle.machine.specs.Machine.{no_answer, machine_of, run, answers}
 use Rattle.machine.specs.Causes.{cause3, cause4, cause12, commands_cause, cause6, machine_in, table_causes}
 use Rattle.machine.specs.Causes.{machine_causes, word_causes, load_causes}
 use Rattle.certify.specs.Marks.Twin.{twin_table, twin, single_table, single}
-use Rattle.certify.specs.declared.answer.Answer.TheVariants.{Certified}
 use Rattle.certify.specs.Certification.{outcome}
 use Rattle.certify.specs.Certification.Twin.{twin_built as twin_outcome, single_built as single_outcome}
 use Rattle.build.specs.Transfer.{first_path, transfer}
@@ -61,7 +59,7 @@ record Computed : Type 0 where
   twin_built : sequence (machine_in twin_sheet) (word_in twin_sheet)
       ≡ 0 ∷ 0 ∷ 0 ∷ 0 ∷ 0 ∷ 0 ∷ 1 ∷ 0 ∷ 0 ∷ 0 ∷ 1 ∷ 0 ∷ []
   twin_clear : first_cause (connected_causes twin_sheet) ≡ Clear
-  disconnected : first_cause (connected_causes (unit_sheet disconnected_table (0 ∷ []))) ≡ RefusedCheck 8 1
+  disconnected : first_cause (connected_causes (unit_sheet disconnected_table (0 ∷ []))) ≡ Refused 8 1
   single_built : (answer : ℕ)
       → sequence (machine_in (single_sheet answer)) (word_in (single_sheet answer)) ≡ 0 ∷ 0 ∷ 0 ∷ 0 ∷ []
   single_clear : (answer : ℕ) → (answer ≡ no_answer → ⊥) → first_cause (connected_causes (single_sheet answer)) ≡ Clear

@@ -3,10 +3,10 @@
 use Rattle.std.specs.Prelude.{ℕ, refl, Bool, List}
 use Rattle.std.proofs.Common.{arith}
 use Rattle.sheet.specs.Check.{first_cause}
+use Rattle.sheet.specs.Promise.{cause9}
 use Rattle.sheet.specs.Check.Bounds.{WhereRefused, place_of, place_else}
 use Rattle.sheet.specs.Reader.{sequence_in}
 use Rattle.sheet.specs.Reader.Bounds.{Small}
-use Rattle.sheet.specs.Promise.{cause9}
 use Rattle.sheet.specs.Promise.Laws.{room_refused}
 use Rattle.machine.specs.Causes.{load_causes}
 use Rattle.machine.specs.Causes.Lists.{sequence_commands}

@@ -7,13 +7,12 @@ use Rattle.std.proofs.Common.{ap₂, ◌∙◌}
 use Rattle.std.proofs.Math.Bool.{not}
 use borrow.Author.Tests.{eq-eqb, eqb-true}
 use Rattle.facts.specs.Tests.{both_true}
-use Rattle.sheet.specs.declared.check.Check.{Check}
-use Rattle.sheet.specs.declared.check.Check.TheVariants.{Clear, Refused}
-use Rattle.sheet.specs.Check.{refusal◌with◌if◌, ◌else◌, first_cause, first}
+use Rattle.sheet.specs.Check.{refusal◌with◌if◌, ◌else◌, first_cause, first, Check, Clear, Refused}
+use Rattle.sheet.specs.Promise.{cause9}
+use Rattle.certify.specs.Answer.{Certified as CertifiedAnswer, Open}
 use Rattle.sheet.specs.Check.Laws.{cause_one, cause_append, both_clear, else_clear}
 use Rattle.sheet.specs.Reader.{word_in, sequence_in}
 use Rattle.sheet.specs.Writing.{written}
-use Rattle.sheet.specs.Promise.{cause9}
 use Rattle.sheet.specs.Promise.Laws.{clear_room}
 use Rattle.machine.specs.Limits.{most_sequence}
 use Rattle.machine.specs.declared.loading.Loaded.{Loaded}
@@ -21,8 +20,6 @@ use Rattle.machine.specs.Machine.{Mealy, state_at, meaning, Proper, Commands}
 use Rattle.machine.specs.Causes.{machine_in, load_causes}
 use Rattle.machine.specs.Causes.Lists.{load_proper, sequence_commands, load_without_answers}
 use Rattle.machine.specs.Loading.{LoadedBy}
-use Rattle.certify.specs.declared.answer.Answer.TheVariants.{Certified as CertifiedAnswer, Open}
-use Rattle.certify.specs.declared.answer.Answer.TheVariants.{Refused as RefusedAnswer}
 use Rattle.certify.specs.Marks.{marked, count, marks}
 use Rattle.certify.specs.Marks.Laws.{any_found, any_holds, marked_true, true_marked}
 use Rattle.certify.specs.Certification.{sequence_needs, mark_bytes, marking_causes, certify_causes}
@@ -87,7 +84,7 @@ outcome_open M w xs e = rw e
 
 -- ---- the service's answer and buffer, by the first cause
 pub certification_refused : (room : ℕ) (s : List ℕ) {n p : ℕ} → first_cause (certify_causes room s) ≡ Refused n p
-    → certification room s ≡ RefusedAnswer n p
+    → certification room s ≡ Refused n p
 unfolding certification
 certification_refused room s e = rw e
 

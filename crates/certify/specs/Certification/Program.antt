@@ -4,15 +4,11 @@ use Rattle.std.specs.Prelude.{ℕ, ◌+◌, ◌*◌, ◌<◌, ◌≡◌, Bool, t
 use Rattle.std.proofs.Common.{sym, ap, ◌∙◌, true≢false, inl, inr, ne_eqb}
 use Rattle.std.proofs.lemmas.Bool.{eqb-false}
 use Rattle.facts.specs.Tests.{true_or_false}
-use Rattle.sheet.specs.declared.check.Check.{Check}
-use Rattle.sheet.specs.declared.check.Check.TheVariants.{Clear, Refused}
-use Rattle.sheet.specs.Check.{refusal◌with◌if◌, ◌else◌, first}
+use Rattle.sheet.specs.Check.{refusal◌with◌if◌, ◌else◌, first, Check, Clear, Refused}
+use Rattle.certify.specs.Answer.{Answer, Certified as CertifiedAnswer, Open}
 use Rattle.sheet.specs.Check.Laws.{first_same, first_rows}
 use Rattle.sheet.specs.Values.{refusal_values}
 use Rattle.machine.specs.Machine.{Mealy}
-use Rattle.certify.specs.declared.answer.Answer.{Answer}
-use Rattle.certify.specs.declared.answer.Answer.TheVariants.{Certified as CertifiedAnswer, Open}
-use Rattle.certify.specs.declared.answer.Answer.TheVariants.{Refused as RefusedAnswer}
 use Rattle.certify.specs.Marks.{marked}
 use Rattle.certify.specs.Certification.{verified, open_cause, answer_of, values_of}
 
@@ -62,6 +58,6 @@ pub values_open : {a : Answer} {n number : ℕ} → a ≡ Open n number
     → record { class = 111; place = n; a = 0; b = number } ≡ values_of a
 values_open e = rw e
 
-pub values_refused : {a : Answer} {number place : ℕ} → a ≡ RefusedAnswer number place
+pub values_refused : {a : Answer} {number place : ℕ} → a ≡ Refused number place
     → refusal_values number place ≡ values_of a
 values_refused e = rw e

@@ -2,8 +2,8 @@
 -- certified, what is open, and with which numbers. The collection of all starred cases takes them from here.
 use Rattle.std.specs.Prelude.{ℕ, ◌≡◌, refl, [], ◌∷◌}
 use Rattle.sheet.specs.Check.{refusal◌with◌if◌, ◌else◌, first}
+use Rattle.certify.specs.Answer.{Certified, Open}
 use Rattle.machine.specs.Machine.{machine_of, state_at, run}
-use Rattle.certify.specs.declared.answer.Answer.TheVariants.{Certified, Open}
 use Rattle.certify.specs.Marks.{any, count}
 use Rattle.certify.specs.Marks.Twin.{twin, single, marks_built, marks_longer}
 use Rattle.certify.specs.Marks.Twin.{marks_three, marks_single_pair, marks_single_built}

@@ -9,8 +9,7 @@ use Rattle.std.proofs.Math.Seq.{take-append-add, drop-append-add}
 use Rattle.facts.specs.Numbers.{less_or_not}
 use Rattle.facts.specs.CommonPrefix.{Agreed, agreed_holds, agreed_is}
 use Rattle.facts.specs.FirstOf.{nothing, value, seen}
-use Rattle.sheet.specs.declared.check.Check.TheVariants.{Clear}
-use Rattle.sheet.specs.Check.{first_cause}
+use Rattle.sheet.specs.Check.{first_cause, Clear}
 use Rattle.sheet.specs.Reader.{word_in}
 use Rattle.machine.specs.Machine.{Mealy, run, answers, Proper, Distinguishes}
 use Rattle.machine.specs.Machine.Laws.{run_append, run_stays, answers_append, answers_length, answers_take}

@@ -4,8 +4,7 @@
 use Rattle.std.specs.Prelude.{ℕ, ◌-◌, ◌≤◌, ◌<◌, ◌≡◌, refl, List, length, get_or}
 use Rattle.std.proofs.Common.{sym, ap, ◌∙◌, get_or-take}
 use Rattle.facts.specs.Lists.{Below, low_append}
-use Rattle.sheet.specs.declared.check.Check.TheVariants.{Clear}
-use Rattle.sheet.specs.Check.{first_cause}
+use Rattle.sheet.specs.Check.{first_cause, Clear}
 use Rattle.sheet.specs.Reader.{word_in}
 use Rattle.machine.specs.Machine.{Mealy, no_answer, answers}
 use Rattle.machine.specs.Machine.Laws.{answers_always}

@@ -1,12 +1,12 @@
 -- Dialogues: what start and the steps after it give, each with the desk as last returned. By the two contracts alone,
 -- every order is the specified one; the desk ends after L + n - 1 answers at the latest, whatever they are; it repeats
 -- its end; its phase says whether it reads or drives; and stranger has one of two reasons (§13.2, §13.3).
+use Rattle.std.specs.Prelude.{Err}
 use Rattle.std.specs.Prelude.{ℕ, ◌+◌, ◌≤◌, ◌<◌, ◌≡◌, refl, true, List, [], ◌∷◌, ◌++◌, length, get_or, take}
 use Rattle.std.proofs.Common.{sym, ap, ◌∙◌, arith, take_at}
 use Rattle.std.proofs.Math.Option.{some}
-use Rattle.sheet.specs.declared.check.Check.{Check}
-use Rattle.sheet.specs.declared.check.Check.TheVariants.{Clear, Refused}
-use Rattle.sheet.specs.Check.{first_cause, refused_or}
+use Rattle.sheet.specs.Check.{first_cause, refused_or, Check, Clear, Refused}
+use Rattle.desk.specs.First.{Command as FirstCommand}
 use Rattle.sheet.specs.Reader.{word_in}
 use Rattle.machine.specs.Machine.{run, answers}
 use Rattle.machine.specs.Causes.{machine_in}
@@ -16,7 +16,6 @@ use Rattle.desk.specs.declared.desk.Desk.{Desk}
 use Rattle.desk.specs.declared.desk.Order.{Order}
 use Rattle.desk.specs.declared.desk.Order.TheVariants.{Command, Home, Stranger}
 use Rattle.desk.specs.declared.desk.Phase.TheVariants.{Reading, Driving}
-use Rattle.desk.specs.declared.starting.First.TheVariants.{Command as FirstCommand, Refused as RefusedFirst}
 use Rattle.desk.specs.declared.starting.Started.{Started}
 use Rattle.desk.specs.declared.stepping.Stepped.{Stepped}
 use Rattle.desk.specs.Desk.{Course, Strange, Ordered, strange, course, is_end}
@@ -32,10 +31,10 @@ pub data Dialogue (s : List ℕ) : List ℕ → Desk → Order → Type 0 where
       → Dialogue s (ys ++ (y ∷ [])) r.desk r.order
 
 -- ---- the first command
-first_by : (c : Check) (a : ℕ) {b : ℕ} → refused_or RefusedFirst c (FirstCommand a) ≡ FirstCommand b
+first_by : (c : Check) (a : ℕ) {b : ℕ} → refused_or Refused c (FirstCommand a) ≡ FirstCommand b
     → (c ≡ Clear) × (b ≡ a)
 first_by Clear a e = (refl, cc)
-first_by (Refused n p) a e = let z : ◌≡◌ {A = ℕ} 0 1 = cc in absurd (omega arith)
+first_by (Err r) a e = let z : ◌≡◌ {A = ℕ} 0 1 = cc in absurd (omega arith)
 
 pub starting_first : (s : List ℕ) → first_cause (connected_causes s) ≡ Clear
     → starting s ≡ FirstCommand (get_or (word_in s) 0 0)
@@ -43,7 +42,7 @@ unfolding starting
 starting_first s e = rw e
 
 pub starting_refused : (s : List ℕ) {a b : ℕ} → first_cause (connected_causes s) ≡ Refused a b
-    → starting s ≡ RefusedFirst a b
+    → starting s ≡ Refused a b
 unfolding starting
 starting_refused s e = rw e
 

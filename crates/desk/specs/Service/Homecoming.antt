@@ -8,8 +8,8 @@ use Rattle.std.proofs.Math.ListN.{get_or-append}
 use Rattle.std.proofs.Math.Seq.{take-length, drop-length}
 use Rattle.facts.specs.Numbers.{less_or_not}
 use Rattle.facts.specs.Lists.{Below, low_append, low_take}
-use Rattle.sheet.specs.declared.check.Check.TheVariants.{Clear}
-use Rattle.sheet.specs.Check.{first_cause}
+use Rattle.sheet.specs.Check.{first_cause, Clear}
+use Rattle.desk.specs.First.{Command as FirstCommand}
 use Rattle.sheet.specs.Reader.{word_in}
 use Rattle.machine.specs.Machine.{Mealy, run, answers, Proper}
 use Rattle.machine.specs.Machine.Laws.{run_append, answers_none, answers_cons, answers_append, answers_length}
@@ -20,7 +20,6 @@ use Rattle.build.specs.Building.{connected_causes}
 use Rattle.desk.specs.declared.desk.Desk.{Desk}
 use Rattle.desk.specs.declared.desk.Order.{Order}
 use Rattle.desk.specs.declared.desk.Order.TheVariants.{Command, Home}
-use Rattle.desk.specs.declared.starting.First.TheVariants.{Command as FirstCommand}
 use Rattle.desk.specs.declared.starting.Started.{Started}
 use Rattle.desk.specs.declared.stepping.Stepped.{Stepped}
 use Rattle.desk.specs.Desk.{Course, course, order_of}

@@ -2,8 +2,9 @@
 -- answer says. That each answer says it, both directions, and the identity claim are in proofs/JudgingLaws.antt.
 use Rattle.std.specs.Prelude.{ℕ, ◌≤◌, ◌≡◌, refl, true, List, length, drop}
 use Rattle.std.proofs.Common.{sym, ◌∙◌}
-use Rattle.sheet.specs.declared.check.Check.TheVariants.{Clear, Refused}
-use Rattle.sheet.specs.Check.{◌else◌, first_cause, refused_or}
+use Rattle.sheet.specs.Check.{◌else◌, first_cause, refused_or, Clear, Refused}
+use Rattle.certify.specs.Answer.{Answer as Certification, Certified as CertifiedAnswer, Open}
+use Rattle.judge.specs.Answer.{Answer}
 use Rattle.sheet.specs.Check.Laws.{both_clear, cause_one, cause_append}
 use Rattle.sheet.specs.Reader.{word_in, sequence_in, answers_in, answers_record}
 use Rattle.machine.specs.Limits.{most_sequence}
@@ -11,15 +12,11 @@ use Rattle.machine.specs.Machine.{answers, state_at, Separates, Proper, Commands
 use Rattle.machine.specs.Causes.{cause10, machine_in, load_causes}
 use Rattle.machine.specs.Causes.Laws.{clear_few}
 use Rattle.machine.specs.Causes.Lists.{load_proper, word_distinguishes}
-use Rattle.certify.specs.declared.answer.Answer.{Answer as Certification}
-use Rattle.certify.specs.declared.answer.Answer.TheVariants.{Certified as CertifiedAnswer, Open}
 use Rattle.certify.specs.Recognition.{Certified, OpenNumber, MarksOf}
 use Rattle.certify.specs.Certification.{sequence_needs, mark_bytes, marking_causes, certify_causes, certification}
 use Rattle.certify.specs.Certification.{marks_after, kept_in}
 use Rattle.certify.specs.Certification.Laws.{load_clear, marked_commands, certify_without_answers}
 use Rattle.certify.proofs.CertificationContract.{certifies}
-use Rattle.judge.specs.declared.answer.Answer.{Answer}
-use Rattle.judge.specs.declared.answer.Answer.TheVariants.{Refused as RefusedAnswer}
 use Rattle.judge.specs.Judging.{judge_causes, cause11, verdict, judgement, judged_marks}
 use Rattle.judge.specs.Judging.Verdict.{Judged}
 
@@ -47,18 +44,18 @@ module _ (room : ℕ) (s : List ℕ) (e : first_cause (judge_causes room s) ≡ 
 -- ---- the answer and the buffer, by the first cause
 module _ (room : ℕ) (s : List ℕ) where
   pub judgement_refused : {n p : ℕ} → first_cause (judge_causes room s) ≡ Refused n p
-      → judgement room s ≡ RefusedAnswer n p
+      → judgement room s ≡ Refused n p
   unfolding judgement
   judgement_refused e = rw e
 
   -- otherwise by what certifying answers
   pub judgement_by : first_cause (judge_causes room s) ≡ Clear → {b : Certification} → certification room s ≡ b
-      → judgement room s ≡ refused_or RefusedAnswer (cause11 b) (verdict (machine_in s) (sequence_in s) (answers_in s))
+      → judgement room s ≡ refused_or Refused (cause11 b) (verdict (machine_in s) (sequence_in s) (answers_in s))
   unfolding judgement
   judgement_by e f = rw (e, f)
 
   pub judgement_open : first_cause (judge_causes room s) ≡ Clear → {n v : ℕ} → certification room s ≡ Open n v
-      → judgement room s ≡ RefusedAnswer 11 v
+      → judgement room s ≡ Refused 11 v
   unfolding cause11
   judgement_open e f = judgement_by e f
 
@@ -91,9 +88,9 @@ judged_later s buffer e = rw (judged_clear s buffer e) (certifies s buffer refl 
 -- every result, where nothing is refused and the sequence is certified; a refusal with the number and place of the
 -- first cause, or, where no other cause is present and the sequence is open, with 11 and the open number
 pub data Result (room : ℕ) (s : List ℕ) : Answer → Type 0 where
-  refused : {n p : ℕ} → first_cause (judge_causes room s) ≡ Refused n p → Result room s (RefusedAnswer n p)
+  refused : {n p : ℕ} → first_cause (judge_causes room s) ≡ Refused n p → Result room s (Refused n p)
   not_certified : {v : ℕ} → first_cause (judge_causes room s) ≡ Clear
-      → OpenNumber (machine_in s) (word_in s) (sequence_in s) v → Result room s (RefusedAnswer 11 v)
+      → OpenNumber (machine_in s) (word_in s) (sequence_in s) v → Result room s (Refused 11 v)
   judged : {a : Answer} → first_cause (judge_causes room s) ≡ Clear → Certified (machine_in s) (word_in s) (sequence_in s)
       → Judged (machine_in s) (sequence_in s) (answers_in s) a → Result room s a
 

@@ -1,8 +1,7 @@
 -- The byte for no answer in judging. Where none of judging's causes but 11 is present, no specified answer is that byte.
 -- What follows of the results, pass, wrong and unheard, is in proofs/JudgingNoAnswer.antt.
 use Rattle.std.specs.Prelude.{ℕ, ◌<◌, ◌≡◌, true, List, length, get_or}
-use Rattle.sheet.specs.declared.check.Check.TheVariants.{Clear}
-use Rattle.sheet.specs.Check.{first_cause}
+use Rattle.sheet.specs.Check.{first_cause, Clear}
 use Rattle.sheet.specs.Reader.{word_in, sequence_in, answers_in}
 use Rattle.machine.specs.Machine.{no_answer, answers, AlwaysAnswers}
 use Rattle.machine.specs.Machine.Laws.{answers_always}

@@ -6,8 +6,7 @@ use borrow.Author.Tests.{lt-ltb, le-ltb, eq-eqb, ne_eqb}
 use Rattle.facts.specs.CommonPrefix.{agreed_is}
 use Rattle.machine.specs.Machine.{Mealy, no_answer, answers, state_at}
 use Rattle.machine.specs.Machine.Laws.{answers_length}
-use Rattle.judge.specs.declared.answer.Answer.{Answer}
-use Rattle.judge.specs.declared.answer.Answer.TheVariants.{Pass, Wrong, Unheard, Unfinished}
+use Rattle.judge.specs.Answer.{Answer, Pass, Wrong, Unheard, Unfinished}
 use Rattle.judge.specs.Judging.{difference, result_at, verdict}
 
 -- ---- the results, as §7 says them

@@ -2,10 +2,8 @@
 use Rattle.std.specs.Prelude.{ℕ, ◌+◌, ◌*◌, ◌≤◌, ◌<◌, ◌≡◌, Bool, true, false, List, length, get_or}
 use Rattle.std.proofs.Common.{arith}
 use Rattle.std.proofs.Math.Dec.{leb}
-use Rattle.sheet.specs.declared.check.Check.{Check}
-use Rattle.sheet.specs.declared.check.Check.TheVariants.{Clear}
+use Rattle.sheet.specs.Check.{refusal◌with◌if◌, first_cause, first, Check, Clear}
 use Rattle.sheet.specs.declared.reader.Needs.{Needs}
-use Rattle.sheet.specs.Check.{refusal◌with◌if◌, first_cause, first}
 use Rattle.sheet.specs.Check.Laws.{cause_none}
 use Rattle.sheet.specs.Check.Bounds.{WhereRefused, place_clear, place_of, place_cause, place_else, place_first}
 use Rattle.sheet.specs.Format.{longest, offset, standard}

@@ -8,9 +8,7 @@ use Rattle.std.proofs.lemmas.Bool.{eqb-false, not-false, lt-leb}
 use Rattle.std.proofs.Math.Arith.{digits_lt}
 use Rattle.facts.specs.Tests.{neither, or_right}
 use Rattle.facts.specs.Numbers.{less_or_not}
-use Rattle.sheet.specs.declared.check.Check.{Check}
-use Rattle.sheet.specs.declared.check.Check.TheVariants.{Clear, Refused}
-use Rattle.sheet.specs.Check.{refusal◌with◌if◌, ◌else◌, first, first_cause}
+use Rattle.sheet.specs.Check.{refusal◌with◌if◌, ◌else◌, first, first_cause, Check, Clear, Refused}
 use Rattle.sheet.specs.Check.Laws.{absent, present, clear_absent, not_clear, else_clear, refusal_stays, both_clear}
 use Rattle.sheet.specs.Check.Laws.{clear_all, all_clear, first_clear, first_clear_at}
 use Rattle.sheet.specs.Check.Laws.{first_same, cause_cons, cause_two}

@@ -3,10 +3,8 @@
 use Rattle.std.specs.Prelude.{ℕ, ◌+◌, ◌*◌, ◌≤◌, ◌<◌, ◌≡◌, refl, Bool, true, false, length, take}
 use Rattle.std.proofs.Common.{sym, ap, ap₂, ◌∙◌, arith, take_all}
 use mathlib.Core.List.{List, ◌++◌, Memᴰ}
-use Rattle.sheet.specs.declared.check.Check.{Check}
-use Rattle.sheet.specs.declared.check.Check.TheVariants.{Clear, Refused}
+use Rattle.sheet.specs.Check.{◌else◌, first_cause, AllClear, Check, Clear, Refused}
 use Rattle.sheet.specs.declared.reader.Needs.{Needs}
-use Rattle.sheet.specs.Check.{◌else◌, first_cause, AllClear}
 use Rattle.sheet.specs.Check.Laws.{else_clear, refusal_stays, both_clear, cause_none, cause_one, cause_two}
 use Rattle.sheet.specs.Check.Laws.{cause_append, clear_all, all_clear}
 use Rattle.sheet.specs.Format.{Format, standard}

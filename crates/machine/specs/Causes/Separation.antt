@@ -4,8 +4,7 @@ use Rattle.std.proofs.Common.{sym, ap, ap₂, ◌∙◌, true≢false, inl, inr,
 use Rattle.std.proofs.Math.Path.{fun_ext}
 use Rattle.facts.specs.Tests.{true_or_false, both_true}
 use Rattle.facts.specs.Lists.{same, same_refl, same_equal}
-use Rattle.sheet.specs.declared.check.Check.TheVariants.{Clear, Refused}
-use Rattle.sheet.specs.Check.{refusal◌with◌if◌, first}
+use Rattle.sheet.specs.Check.{refusal◌with◌if◌, first, Clear, Refused}
 use Rattle.sheet.specs.Check.Laws.{absent, present, clear_absent, first_clear, first_clear_at}
 use Rattle.machine.specs.Machine.{Mealy, tabled, answers, Separates}
 use Rattle.machine.specs.Machine.Laws.{answers_tabled}

@@ -1,10 +1,8 @@
 -- The laws of what is loaded: with the causes of loading alone the machine is within its limits; and with a cause more.
 use Rattle.std.specs.Prelude.{ℕ, ◌≡◌, List}
 use Rattle.std.proofs.Common.{sym, ap, ◌∙◌}
-use Rattle.sheet.specs.declared.check.Check.{Check}
-use Rattle.sheet.specs.declared.check.Check.TheVariants.{Clear}
+use Rattle.sheet.specs.Check.{◌else◌, first_cause, Check, Clear}
 use Rattle.sheet.specs.declared.reader.Needs.{Needs}
-use Rattle.sheet.specs.Check.{◌else◌, first_cause}
 use Rattle.sheet.specs.Check.Laws.{both_clear}
 use Rattle.machine.specs.declared.loading.Loaded.{Loaded}
 use Rattle.machine.specs.Machine.{meaning, Proper}

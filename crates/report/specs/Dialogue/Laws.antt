@@ -1,8 +1,7 @@
 -- The laws of the dialogue's beginning: what is written where nothing is refused, and where something is.
 use Rattle.std.specs.Prelude.{ℕ, ◌≡◌, List, get_or}
 use Rattle.std.proofs.Math.Path.{ap}
-use Rattle.sheet.specs.declared.check.Check.TheVariants.{Clear, Refused}
-use Rattle.sheet.specs.Check.{first_cause}
+use Rattle.sheet.specs.Check.{first_cause, Clear, Refused}
 use Rattle.sheet.specs.Reader.{word_in}
 use Rattle.build.specs.Building.{connected_causes}
 use Rattle.desk.specs.Service.Dialogue.{starting_first, starting_refused}

@@ -1,11 +1,11 @@
 -- The lines that the specification writes out (§8.1), as examples of the definitions.
 use Rattle.std.specs.Prelude.{◌≡◌, refl, [], ◌∷◌}
 use Rattle.facts.specs.Decimal.{bytes, decimal_within, decimal}
-use Rattle.judge.specs.declared.answer.Answer.TheVariants.{Pass, Wrong, Unheard, Unfinished}
-use Rattle.judge.specs.declared.answer.Answer.TheVariants.{Refused as RefusedJudgement}
-use Rattle.certify.specs.declared.answer.Answer.TheVariants.{Certified, Open, Refused as RefusedCertification}
+use Rattle.judge.specs.Answer.{Pass, Wrong, Unheard, Unfinished}
+use Rattle.sheet.specs.Check.{Refused}
+use Rattle.certify.specs.Answer.{Certified, Open}
 use Rattle.desk.specs.declared.desk.Order.TheVariants.{Command, Home, Stranger}
-use Rattle.report.specs.Phrases.{phrases, phrase}
+use Rattle.report.specs.Phrases.{phrase}
 use Rattle.report.specs.Lines.{refusal_line, pass_line, wrong_line, unheard_line, unfinished_line, judge_line}
 use Rattle.report.specs.Lines.{certified_line, open_line, certify_line, listed, word_line, none_line, command_line}
 use Rattle.report.specs.Lines.{home_line, stranger_line, order_line}
@@ -26,13 +26,13 @@ pub unfinished : judge_line (Unfinished 4) ≡ bytes "UNFINISHED 4\n"
 unfolding unfinished_line decimal decimal_within
 unfinished = refl
 
-pub refused : judge_line (RefusedJudgement 6 1) ≡ bytes "REFUSED 6 at 1 word does not separate\n"
-unfolding refusal_line phrase phrases decimal decimal_within
+pub refused : judge_line (Refused 6 1) ≡ bytes "REFUSED 6 at 1 word does not separate\n"
+unfolding refusal_line phrase decimal decimal_within
 refused = refl
 
 -- a number without a phrase
-pub refused_later : judge_line (RefusedJudgement 12 9) ≡ bytes "REFUSED 12 at 9\n"
-unfolding refusal_line phrase phrases decimal decimal_within
+pub refused_later : judge_line (Refused 12 9) ≡ bytes "REFUSED 12 at 9\n"
+unfolding refusal_line phrase decimal decimal_within
 refused_later = refl
 
 pub certified : certify_line (Certified 13) ≡ bytes "CERTIFIED 13\n"
@@ -43,8 +43,8 @@ pub open_number : certify_line (Open 5 2) ≡ bytes "OPEN 2 recognised 5\n"
 unfolding open_line decimal decimal_within
 open_number = refl
 
-pub too_long : certify_line (RefusedCertification 1 40912) ≡ bytes "REFUSED 1 at 40912 sheet cut or too long\n"
-unfolding refusal_line phrase phrases decimal decimal_within
+pub too_long : certify_line (Refused 1 40912) ≡ bytes "REFUSED 1 at 40912 sheet cut or too long\n"
+unfolding refusal_line phrase decimal decimal_within
 too_long = refl
 
 pub word_found : word_line (0 ∷ 1 ∷ []) ≡ bytes "WORD 0 1\n"

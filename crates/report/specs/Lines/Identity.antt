@@ -1,12 +1,12 @@
 -- The identity claim as the reader of the line has it: a line that begins with P is that of a pass, and no other line
 -- is; it tells the end state.
+use Rattle.std.specs.Prelude.{Err}
 use Rattle.std.specs.Prelude.{ℕ, ◌≡◌, refl, List, get_or}
 use Rattle.std.proofs.Common.{ap, arith}
 use Rattle.facts.specs.Decimal.{bytes}
 use Rattle.sheet.specs.Reader.{sequence_in, answers_in}
 use Rattle.machine.specs.Causes.{machine_in}
-use Rattle.judge.specs.declared.answer.Answer.{Answer}
-use Rattle.judge.specs.declared.answer.Answer.TheVariants.{Pass, Wrong, Unheard, Unfinished, Refused}
+use Rattle.judge.specs.Answer.{Answer, Pass, Wrong, Unheard, Unfinished}
 use Rattle.machine.specs.Unit.{Unit, own_answers}
 use Rattle.judge.specs.Renaming.{Renaming}
 use Rattle.judge.specs.Judging.{judgement}
@@ -27,7 +27,7 @@ passing_pass (Pass size end) e = (size, end, refl)
 passing_pass (Wrong place specified given) e = let z : ⊥ = omega (arith, e) in absurd z
 passing_pass (Unheard place) e = let z : ⊥ = omega (arith, e) in absurd z
 passing_pass (Unfinished number) e = let z : ⊥ = omega (arith, e) in absurd z
-passing_pass (Refused number place) e = let z : ⊥ = omega (arith, e) in absurd z
+passing_pass (Err r) e = let z : ⊥ = omega (arith, e) in absurd z
 
 -- whatever the unit, if the line begins so and the answers judged are the unit's own, the line is that of a pass with
 -- some end state, and there is a renaming, which assigns the unit's present state to that end state

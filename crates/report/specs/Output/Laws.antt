@@ -1,8 +1,7 @@
 -- The laws of what is written.
 use Rattle.std.specs.Prelude.{ℕ, ◌≤◌, ◌≡◌, refl, List}
 use Rattle.std.proofs.Common.{sym, ap, subst, arith, length-append}
-use Rattle.sheet.specs.declared.check.Check.{Check}
-use Rattle.sheet.specs.declared.check.Check.TheVariants.{Clear, Refused}
+use Rattle.sheet.specs.Check.{Check, Clear, Refused}
 use Rattle.sheet.specs.Promise.Laws.{writes_outcome, written_clear}
 use Rattle.report.specs.declared.output.Written.{Written}
 use Rattle.report.specs.Lines.{refusal_line}

@@ -10,12 +10,12 @@ pub phrase_is : {number n : ℕ} {text : List ℕ} → number ≡ n → text ≡
 phrase_is e h = h ∙ ap phrase (sym e)
 
 phrase_zero : phrase 0 ≡ []
-unfolding phrase phrases
+unfolding phrase
 phrase_zero = refl
 
 -- above 11 there is no phrase
 pub phrase_above : (number : ℕ) → 11 < number → phrase number ≡ []
-unfolding phrase phrases
+unfolding phrase
 phrase_above number h = get_or-eq_default ([] ∷ phrases) [] h
 
 down : (n m : ℕ) → n ≤ m + 1 → (n ≡ m + 1 → ⊥) → n ≤ m

@@ -4,12 +4,10 @@ use Rattle.std.specs.Prelude.{ℕ, ◌≡◌, List}
 use Rattle.std.proofs.Math.Path.{sym}
 use Rattle.std.proofs.Common.{ap, ap₂, ◌∙◌}
 use Rattle.std.proofs.Math.Option.{some}
-use Rattle.sheet.specs.declared.check.Check.{Check}
-use Rattle.sheet.specs.declared.check.Check.TheVariants.{Clear, Refused}
-use Rattle.sheet.specs.Check.{first_cause}
+use Rattle.sheet.specs.Check.{first_cause, Check, Clear, Refused}
+use Rattle.word.specs.Answer.{Found}
 use Rattle.machine.specs.Causes.{machine_in}
 use Rattle.word.specs.Search.{search}
-use Rattle.word.specs.declared.answer.Answer.TheVariants.{Found}
 use Rattle.word.specs.Service.{search_causes, searching, word_found}
 use Rattle.word.specs.Service.Laws.{found_clear, found_answered}
 use Rattle.writer.specs.declared.wanted.Wanted.{Wanted}

@@ -2,9 +2,9 @@
 use Rattle.std.specs.Prelude.{ℕ, ◌+◌, ◌≤◌, ◌≡◌, refl, false, List, [], ◌∷◌, ◌++◌, length, take}
 use Rattle.std.proofs.Common.{sym, ap, ap₂, ◌∙◌, arith}
 use Rattle.facts.specs.Bytes.{Bytes}
-use Rattle.sheet.specs.declared.check.Check.TheVariants.{Clear}
-use Rattle.sheet.specs.declared.writing.Answer.TheVariants.{Written}
-use Rattle.sheet.specs.Check.{◌else◌, first_cause}
+use Rattle.sheet.specs.Check.{◌else◌, first_cause, Clear}
+use Rattle.sheet.specs.Promise.{Written}
+use Rattle.certify.specs.Answer.{Certified}
 use Rattle.sheet.specs.Check.Laws.{else_clear}
 use Rattle.sheet.specs.Format.{standard, longest, end}
 use Rattle.sheet.specs.Reader.{word_in, sequence_in, word_record, sequence_record}
@@ -16,7 +16,6 @@ use Rattle.sheet.specs.Joining.Front.{kept_front}
 use Rattle.machine.specs.Causes.{machine_in, load_causes}
 use Rattle.machine.specs.Causes.Lists.{distinguishes_clear, sequence_clear, loading_clear, clear_sheet, kind_reads}
 use Rattle.machine.specs.Causes.Lists.{clear_machine}
-use Rattle.certify.specs.declared.answer.Answer.TheVariants.{Certified}
 use Rattle.certify.specs.Marks.{count, marks}
 use Rattle.certify.specs.Certification.{sequence_needs, certification}
 use Rattle.certify.specs.Certification.Laws.{marking_causes_are}

@@ -3,13 +3,12 @@
 use Rattle.std.specs.Prelude.{ℕ, ◌≤◌, ◌≡◌, refl, List, [], ◌∷◌, ◌++◌, length, take}
 use Rattle.std.proofs.Common.{sym, ap, ap₂, ◌∙◌, true≢false, arith}
 use Rattle.facts.specs.Bytes.{Bytes}
-use Rattle.sheet.specs.declared.check.Check.{Check}
-use Rattle.sheet.specs.declared.check.Check.TheVariants.{Clear}
-use Rattle.sheet.specs.Check.{◌else◌, first_cause}
+use Rattle.sheet.specs.Check.{◌else◌, first_cause, Check, Clear}
+use Rattle.sheet.specs.Promise.{cause_to_write}
+use Rattle.word.specs.Answer.{Found}
 use Rattle.sheet.specs.Check.Laws.{else_clear}
 use Rattle.sheet.specs.Format.{standard, longest, end}
 use Rattle.sheet.specs.Reader.{word_in, machine_record}
-use Rattle.sheet.specs.Promise.{cause_to_write}
 use Rattle.sheet.specs.Joining.{bytes_of, fresh}
 use Rattle.sheet.specs.Joining.Laws.{joined_none, joined_long, standard_roles}
 use Rattle.sheet.specs.Joining.Front.{kept_front}
@@ -18,7 +17,6 @@ use Rattle.machine.specs.Causes.Lists.{loading_clear, clear_sheet, clear_machine
 use Rattle.build.specs.Sequence.{sequence}
 use Rattle.build.specs.Building.{build_needs, cause8, build_cause}
 use Rattle.build.specs.Building.Connection.{connected_causes_are}
-use Rattle.word.specs.declared.answer.Answer.TheVariants.{Found}
 use Rattle.word.specs.Service.{search_needs, search_causes, searching}
 use Rattle.word.specs.Service.Laws.{found_passes, found_answered}
 use Rattle.report.specs.Sheets.{word_sheet}

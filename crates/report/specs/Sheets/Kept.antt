@@ -1,9 +1,8 @@
 -- What a sheet is read as whose first record is the machine's of another sheet, as it is there.
 use Rattle.std.specs.Prelude.{ℕ, ◌+◌, ◌≤◌, ◌≡◌, true, List, ◌∷◌, length}
 use Rattle.std.proofs.Common.{sym, ap, ap₂, subst, ◌∙◌, arith}
-use Rattle.sheet.specs.declared.check.Check.TheVariants.{Clear}
+use Rattle.sheet.specs.Check.{◌else◌, first_cause, Clear}
 use Rattle.sheet.specs.declared.reader.Needs.{Needs}
-use Rattle.sheet.specs.Check.{◌else◌, first_cause}
 use Rattle.sheet.specs.Check.Laws.{else_clear}
 use Rattle.sheet.specs.Format.{standard, longest, header}
 use Rattle.sheet.specs.Reader.{needed, machine_payload, word_in, sequence_in, machine_record}

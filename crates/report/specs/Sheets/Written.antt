@@ -1,18 +1,17 @@
 -- The sheet that the writer writes, and the services (§15.4): one whose needed roles were written refuses it for none of
 -- causes 1 to 7 and 12, nor for 10. And the sheets that judging accepts: each is the sheet of its own parts, and no two
 -- of them have equal parts.
+use Rattle.std.specs.Prelude.{Err}
 use Rattle.std.specs.Prelude.{ℕ, ◌≤◌, ◌≡◌, true, false, List, length}
 use Rattle.std.proofs.Common.{sym, ap, ap₂, ◌∙◌, true≢false}
 use Rattle.facts.specs.Bytes.{Bytes}
-use Rattle.sheet.specs.declared.check.Check.TheVariants.{Clear}
-use Rattle.sheet.specs.declared.writing.Answer.{Answer}
-use Rattle.sheet.specs.declared.writing.Answer.TheVariants.{Written}
-use Rattle.sheet.specs.Check.{◌else◌, first_cause}
+use Rattle.sheet.specs.Check.{◌else◌, first_cause, Clear}
+use Rattle.sheet.specs.Promise.{cause9, Answer, Written}
+use Rattle.judge.specs.Answer.{Answer as Judgement, Pass, Wrong, Unheard, Unfinished}
 use Rattle.sheet.specs.Check.Laws.{else_clear, else_end}
 use Rattle.sheet.specs.Format.{standard}
 use Rattle.sheet.specs.Reader.{sequence_in, answers_in, answers_record}
 use Rattle.sheet.specs.Writing.{written}
-use Rattle.sheet.specs.Promise.{cause9}
 use Rattle.machine.specs.Machine.{machine_of}
 use Rattle.machine.specs.Causes.Laws.{few_clear}
 use Rattle.word.specs.Service.{search_needs, search_causes}
@@ -20,9 +19,6 @@ use Rattle.certify.specs.Certification.{sequence_needs, mark_bytes, certify_caus
 use Rattle.certify.specs.Certification.Laws.{marking_causes_are, load_clear}
 use Rattle.build.specs.Building.{build_needs, cause8, connected_causes}
 use Rattle.build.specs.Building.Connection.{connected_causes_are}
-use Rattle.judge.specs.declared.answer.Answer.{Answer as Judgement}
-use Rattle.judge.specs.declared.answer.Answer.TheVariants.{Pass, Wrong, Unheard, Unfinished}
-use Rattle.judge.specs.declared.answer.Answer.TheVariants.{Refused as RefusedJudgement}
 use Rattle.judge.specs.Judging.{judge_causes, judgement}
 use Rattle.judge.specs.Judging.Laws.{judge_causes_are, marking_clear, few_answers, Result, refused, not_certified}
 use Rattle.judge.specs.Judging.Laws.{judged}
@@ -81,7 +77,7 @@ Accepts (Pass size end) = Unit {0}
 Accepts (Wrong place specified given) = Unit {0}
 Accepts (Unheard place) = Unit {0}
 Accepts (Unfinished number) = Unit {0}
-Accepts (RefusedJudgement number place) = ⊥
+Accepts (Err r) = ⊥
 
 accepted : (room : ℕ) (s : List ℕ) {a : Judgement} → Result room s a → Accepts a
     → first_cause (judge_causes room s) ≡ Clear

@@ -2,9 +2,7 @@
 -- capture rig packs both into one number, so every service needs bounds on them.
 use Rattle.std.specs.Prelude.{ℕ, ◌<◌, ◌≡◌, refl, Bool, true, List, [], ◌∷◌, map}
 use Rattle.std.proofs.Common.{sym, ◌∙◌, inl, inr}
-use Rattle.sheet.specs.declared.check.Check.{Check}
-use Rattle.sheet.specs.declared.check.Check.TheVariants.{Clear, Refused}
-use Rattle.sheet.specs.Check.{refusal◌with◌if◌, ◌else◌, first_cause, first}
+use Rattle.sheet.specs.Check.{refusal◌with◌if◌, ◌else◌, first_cause, first, Check, Clear, Refused}
 use Rattle.sheet.specs.Check.Laws.{clear_refused, either_refused, cause_none, cause_cons, first_present}
 use Rattle.sheet.specs.Check.Laws.{present_test}
 

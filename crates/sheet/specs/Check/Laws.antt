@@ -1,15 +1,30 @@
 -- The laws of checks: how a cause, two checks in a row, a list of causes and a first cause answer.
+use Rattle.std.specs.Prelude.{Result, Ok, Err}
+use Rattle.std.specs.Result.{IsErrAnd, result_and}
 use Rattle.std.specs.Prelude.{ℕ, zero, suc, ◌+◌, ◌*◌, ◌≤◌, ◌<◌, ◌≡◌, refl, Bool, true, false, ◌||◌, List, [], ◌∷◌}
 use Rattle.std.specs.Prelude.{◌++◌, ◌⊎◌}
 use Rattle.std.proofs.Common.{sym, ap, ◌∙◌, arith, le_of_suc-le-suc, eq-or-lt_of_le, not-suc-le-zero, add-zero}
 use Rattle.std.proofs.Common.{add-suc, zero-mul, suc-mul, add-one, inl, inr}
-use Rattle.sheet.specs.declared.check.Check.{Check}
-use Rattle.sheet.specs.declared.check.Check.TheVariants.{Clear, Refused}
-use Rattle.sheet.specs.Check.{refusal◌with◌if◌, ◌else◌, first_cause, AllClear, first}
+use Rattle.sheet.specs.declared.check.Refusal.{Refusal}
+use Rattle.sheet.specs.Check.{refusal◌with◌if◌, ◌else◌, first_cause, refused_or, AllClear, first, Check, Clear}
+use Rattle.sheet.specs.Check.{Refused}
 
 -- a refusal is not clear
 pub clear_refused : {A : Type 0} {n p : ℕ} {c : Check} → c ≡ Clear → c ≡ Refused n p → A
 clear_refused e r = let z : ◌≡◌ {A = ℕ} 0 1 = cc in absurd (omega arith)
+
+-- number and place of a refusal
+abbrev refused_number : {A : Type 0} → Result A Refusal → ℕ
+refused_number (Ok a) = 0
+refused_number (Err r) = r.number
+
+abbrev refused_place : {A : Type 0} → Result A Refusal → ℕ
+refused_place (Ok a) = 0
+refused_place (Err r) = r.place
+
+-- equal refusals have the same number and place
+pub same_refusal : {A : Type 0} {a b p q : ℕ} → Refused {A = A} a p ≡ Refused b q → (a ≡ b) × (p ≡ q)
+same_refusal e = (ap refused_number e, ap refused_place e)
 
 -- ---- one cause
 pub absent : (n p : ℕ) {b : Bool} → b ≡ false → (refusal n with p if b) ≡ Clear
@@ -52,6 +67,31 @@ pub goes_on : (c d : Check) {e k : Check} → e ≡ (c else d) → k ≡ c → k
 unfolding ◌else◌
 goes_on c d ee ke h = rw (ee, ← ke, h) refl
 
+-- both made, and the first refusal taken
+pub else_and : (c d : Check) → result_and c d ≡ (c else d)
+unfolding ◌else◌
+else_and Clear d = refl
+else_and (Err r) d = refl
+
+-- what `?` hands on: the same refusal
+pub hands_on : {A : Type 0} (c : Result A Refusal) {r : Refusal} → IsErrAnd c (λ x. x ≡ r) → c ≡ Err r
+hands_on (Ok a) h = absurd h
+hands_on (Err x) h = ap Err h
+
+-- a check, and then an answer
+pub cause_before : {A : Type 0} (c : Check) {a b : A} → refused_or Refused c (Ok a) ≡ Ok b → (c ≡ Clear) × (b ≡ a)
+cause_before Clear e = (refl, cc)
+cause_before (Err r) e = cc
+
+pub cause_refuses : {A : Type 0} (c : Check) (a : A) {r : Refusal} → refused_or Refused c (Ok a) ≡ Err r → c ≡ Err r
+cause_refuses Clear a e = cc
+cause_refuses (Err x) a e = cc
+
+-- code that stops by `?` at the first of two checks
+pub stops_with : (c d : Check) {e k s : Check} {r : Refusal} → IsErrAnd s (λ x. x ≡ r) → e ≡ (c else d) → k ≡ c
+    → k ≡ Err r → s ≡ e
+stops_with c d h ee ke q = hands_on _ h ∙ sym q ∙ stops_at c d ee ke q
+
 -- two causes with one number and place
 pub either_there : (n p : ℕ) (a b : Bool)
     → ((refusal n with p if a) else (refusal n with p if b)) ≡ (refusal n with p if (a || b))
@@ -62,24 +102,24 @@ either_there n p false b = refl
 pub else_end : (c : Check) → (c else Clear) ≡ c
 unfolding ◌else◌
 else_end Clear = refl
-else_end (Refused n p) = refl
+else_end (Err r) = refl
 
 pub else_assoc : (a b c : Check) → ((a else b) else c) ≡ (a else (b else c))
 unfolding ◌else◌
 else_assoc Clear b c = refl
-else_assoc (Refused n p) b c = refl
+else_assoc (Err r) b c = refl
 
 pub both_clear : (a b : Check) → (a else b) ≡ Clear → (a ≡ Clear) × (b ≡ Clear)
 unfolding ◌else◌
 both_clear Clear b e = (refl, e)
-both_clear (Refused n p) b e = (e, cc)
+both_clear (Err r) b e = (e, cc)
 
 -- where they refuse, the first one does, or it is clear and the second one does
 pub either_refused : (c d : Check) {a b : ℕ} → (c else d) ≡ Refused a b
     → (c ≡ Refused a b) ⊎ ((c ≡ Clear) × (d ≡ Refused a b))
 unfolding ◌else◌
 either_refused Clear d e = inr (refl, e)
-either_refused (Refused n p) d e = inl e
+either_refused (Err r) d e = inl e
 
 -- ---- a list of causes
 pub cause_none : first_cause [] ≡ Clear
@@ -157,6 +197,10 @@ module _ (f : ℕ → Check) where
       → c ≡ first n f
   first_stops {n} {i} l h ce e = e ∙ sym (first_found n i f l h (sym ce ∙ e))
 
+  pub first_stops_with : {n i : ℕ} → i < n → first i f ≡ Clear → {c s : Check} → c ≡ f i → {r : Refusal}
+      → IsErrAnd s (λ x. x ≡ r) → c ≡ Err r → s ≡ first n f
+  first_stops_with l h ce g e = hands_on _ g ∙ sym e ∙ first_stops l h ce e
+
   pub first_goes_on : (i : ℕ) → first i f ≡ Clear → {c : Check} → c ≡ f i → c ≡ Clear → first (i + 1) f ≡ Clear
   first_goes_on i h ce e = first_passed i f h (sym ce ∙ e)
 
@@ -199,5 +243,5 @@ first_present (suc n) f e = elim (either_refused (first n f) (f n) e) [
 pub present_test : (n p : ℕ) (t : Bool) {a b : ℕ} → (refusal n with p if t) ≡ Refused a b
     → (t ≡ true) × ((a ≡ n) × (b ≡ p))
 unfolding refusal◌with◌if◌
-present_test n p true e = (refl, (cc, cc))
+present_test n p true e = (refl, same_refusal (sym e))
 present_test n p false e = clear_refused refl e

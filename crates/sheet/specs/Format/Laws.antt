@@ -1,5 +1,6 @@
 -- The laws of the format: how the parsing goes on and ends, what holds of it by induction, where its records lie,
 -- and looking for a kind.
+use Rattle.std.specs.Prelude.{Err}
 use Prim.Native.Nat.{ℕ, zero, suc, ◌+◌, ◌-◌, ◌≤◌, ◌<◌}
 use Rattle.std.specs.Prelude.{◌≡◌, true, false, cond, ◌||◌, ◌⊎◌, List, [], ◌∷◌, eqb}
 use Rattle.std.proofs.Math.Path.{refl}
@@ -10,15 +11,12 @@ use borrow.Author.Tests.{lt-ltb, le-ltb, lt-leb, ltb-false, leb-false, eqb-true}
 use Rattle.facts.specs.Tests.{true_or_false, neither}
 use Rattle.facts.specs.Numbers.{less_or_not}
 use Rattle.facts.specs.Lists.{among}
-use Rattle.sheet.specs.declared.check.Check.{Check}
-use Rattle.sheet.specs.declared.check.Check.TheVariants.{Clear, Refused}
+use Rattle.sheet.specs.Check.{refusal◌with◌if◌, ◌else◌, Check, Clear, Refused}
+use Rattle.std.specs.Prelude.{Option, Some, None}
 use Rattle.sheet.specs.declared.format.Role.{Role}
 use Rattle.sheet.specs.declared.format.Role.TheVariants.{Machine, Word, Sequence, Answers, Unknown}
 use Rattle.sheet.specs.declared.record.Record.{Record}
-use Rattle.sheet.specs.declared.record.Found.{Found}
-use Rattle.sheet.specs.declared.record.Found.TheVariants.{At, Missing}
 use Rattle.sheet.specs.declared.record.Records.{Records}
-use Rattle.sheet.specs.Check.{refusal◌with◌if◌, ◌else◌}
 use Rattle.sheet.specs.Check.Laws.{clear_absent, both_clear}
 use Rattle.sheet.specs.Format.{Format, standard, header, record_at, end, role_of, rank_in, cause1, cause2}
 use Rattle.sheet.specs.Format.{cause_of, cause_at}
@@ -136,7 +134,8 @@ module _ (F : Format) where
       where
         check : at < length s → (c : Check) → cause_at F s at last ≡ c → P at last (parse F s at last)
         check h Clear e = rw (parse_record s at last h e) (goes_on at last h e (rest h))
-        check h (Refused n p) e = rw (parse_stopped s at last n p h e) (stops at last n p h e)
+        check h (Err r) e =
+            rw (parse_stopped s at last r.number r.place h e) (stops at last r.number r.place h e)
 
     turns : (f at last : ℕ) → length s - at ≤ f → P at last (parse F s at last)
     turns zero at last l = turn at last (λ h. let z : ⊥ = omega arith in absurd z)
@@ -148,24 +147,24 @@ module _ (F : Format) where
 
 -- ---- looking for a kind
 -- a missing record is not found
-pub missing_found : {A : Type 0} {f : Found} {r : Record} → f ≡ Missing → f ≡ At r → A
+pub missing_found : {A : Type 0} {f : Option Record} {r : Record} → f ≡ None → f ≡ Some r → A
 missing_found e h = let z : ◌≡◌ {A = ℕ} 0 1 = cc in absurd (omega arith)
 
-pub or_missing : (f : Found) → (f or Missing) ≡ f
+pub or_missing : (f : Option Record) → (f or None) ≡ f
 unfolding ◌or◌
-or_missing (At r) = refl
-or_missing Missing = refl
+or_missing (Some r) = refl
+or_missing None = refl
 
-pub missing_or : (f : Found) → (Missing or f) ≡ f
+pub missing_or : (f : Option Record) → (None or f) ≡ f
 unfolding ◌or◌
 missing_or f = refl
 
-pub or_assoc : (f g h : Found) → ((f or g) or h) ≡ (f or (g or h))
+pub or_assoc : (f g h : Option Record) → ((f or g) or h) ≡ (f or (g or h))
 unfolding ◌or◌
-or_assoc (At r) g h = refl
-or_assoc Missing g h = refl
+or_assoc (Some r) g h = refl
+or_assoc None g h = refl
 
-pub find_none : (ks : List ℕ) → find ks [] ≡ Missing
+pub find_none : (ks : List ℕ) → find ks [] ≡ None
 unfolding find
 find_none ks = refl
 
@@ -174,12 +173,12 @@ unfolding find
 find_cons ks r rs = refl
 
 -- among no records, none is found
-pub none_found : {A : Type 0} (ks : List ℕ) {r : Record} → find ks [] ≡ At r → A
+pub none_found : {A : Type 0} (ks : List ℕ) {r : Record} → find ks [] ≡ Some r → A
 none_found ks e = missing_found (find_none ks) e
 
 -- what is found is the first record, which is then of one of the kinds, or is found among the others
-pub found_cons : (ks : List ℕ) (a : Record) (rs : List Record) {r : Record} → find ks (a ∷ rs) ≡ At r
-    → ((among a.kind ks ≡ true) × (a ≡ r)) ⊎ (find ks rs ≡ At r)
+pub found_cons : (ks : List ℕ) (a : Record) (rs : List Record) {r : Record} → find ks (a ∷ rs) ≡ Some r
+    → ((among a.kind ks ≡ true) × (a ≡ r)) ⊎ (find ks rs ≡ Some r)
 unfolding find of_kind ◌or◌
 found_cons ks a rs q = elim (true_or_false (among a.kind ks)) [
   | inl e ↦ inl (e, cc (rw e at q))
@@ -234,7 +233,7 @@ by_kind P m w q y none k = elim (true_or_false (eqb k (new_kind standard Machine
 pub in_role_lem : (r : Record) → one_record standard r ≡ in_role r (role_of standard r.kind)
 unfolding of_kind
 in_role_lem r =
-    by_kind (λ k role. records_by standard (λ ks. cond (among k ks) (At r) Missing) ≡ in_role r role) refl refl refl refl
+    by_kind (λ k role. records_by standard (λ ks. cond (among k ks) (Some r) None) ≡ in_role r role) refl refl refl refl
     (λ k a b c d. rw (a, b, c, d) refl) r.kind
 
 -- so what is found with it is what is found or, of its role, the record

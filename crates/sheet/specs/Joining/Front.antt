@@ -1,4 +1,5 @@
 -- Sheets without causes 1 and 2 that have the first roles of their format: the records of these come first.
+use Rattle.std.specs.Prelude.{is_none}
 use Prim.Native.Nat.{ℕ, zero, suc, ◌+◌, ◌-◌, ◌≤◌, ◌<◌}
 use Rattle.std.specs.Prelude.{◌≡◌, refl, true, false, not, ◌⊎◌, get_or, take, drop}
 use Rattle.std.proofs.Math.Path.{sym, ap, ap₂, subst}
@@ -11,17 +12,15 @@ use Rattle.std.proofs.Math.ListN.{length}
 use Rattle.facts.specs.Tests.{true_or_false}
 use Rattle.facts.specs.Lists.{among, Each, each_among}
 use Rattle.facts.specs.Bytes.{Bytes}
-use Rattle.sheet.specs.declared.check.Check.TheVariants.{Clear}
+use Rattle.sheet.specs.Check.{first_cause, Clear}
+use Rattle.std.specs.Prelude.{Option, Some}
 use Rattle.sheet.specs.declared.record.Record.{Record}
 use Rattle.sheet.specs.declared.format.Role.{Role}
 use Rattle.sheet.specs.declared.format.Role.TheVariants.{Machine, Word, Sequence, Answers, Unknown}
-use Rattle.sheet.specs.declared.record.Found.{Found}
-use Rattle.sheet.specs.declared.record.Found.TheVariants.{At}
-use Rattle.sheet.specs.Check.{first_cause}
 use Rattle.sheet.specs.Check.Laws.{clear_absent, else_clear, both_clear, cause_cons}
 use Rattle.sheet.specs.Format.{Format, standard, header, end, role_of, rank, parsed, of_kind, ◌or◌, find}
 use Rattle.sheet.specs.Format.Laws.{none_found}
-use Rattle.sheet.specs.Reader.{is_missing, missing, sheet_causes, record_or, record_of, content}
+use Rattle.sheet.specs.Reader.{missing, sheet_causes, record_or, record_of, content}
 use Rattle.sheet.specs.Reader.Laws.{at_found, found_clear, causes_clear, sheet_short}
 use Rattle.sheet.specs.Joining.{joined, placed, InOrder, payload_of, contents, record_in, roles_of, Successive}
 use Rattle.sheet.specs.Joining.{bytes_of, has, Lacks, Adjacent, last_end}
@@ -65,7 +64,7 @@ ranked F k l = elim (true_or_false (among k F.machine)) [
 
 -- one that the sheet lacks, among those behind the first n
 lacking : (F : Format) (s : List ℕ) (roles : List (List ℕ)) (n i : ℕ) → Lacks F s (drop n roles) → n ≤ i
-    → i < length roles → is_missing (find (get_or roles i []) (parsed F s).records) ≡ true
+    → i < length roles → is_none (find (get_or roles i []) (parsed F s).records) ≡ true
 lacking F s [] n i h l m = let z : ⊥ = omega arith in absurd z
 lacking F s (ks ∷ roles) zero zero h l m = h.0
 lacking F s (ks ∷ roles) zero (suc i) h l m = lacking F s roles zero i h.1 (omega arith) (omega arith)
@@ -81,7 +80,7 @@ has_behind ks (r ∷ rs) c cs e = rw (has_behind ks rs c cs e) (or-true (among r
 module _ (F : Format) (s : List ℕ) where
   -- the record of a role is found among these, and carries what reading gives
   abbrev Here : ℕ → List (ℕ × List ℕ) → List ℕ → Type 0
-  Here at cs ks = (find ks (placed at cs) ≡ At (record_of F ks s)) × (payload_of ks cs ≡ content F ks s)
+  Here at cs ks = (find ks (placed at cs) ≡ Some (record_of F ks s)) × (payload_of ks cs ≡ content F ks s)
 
   abbrev AllHere : ℕ → List (ℕ × List ℕ) → List (List ℕ) → Type 0
   AllHere at cs [] = Unit {0}
@@ -169,7 +168,7 @@ module _ (F : Format) (s : List ℕ) (bytes : Bytes s) (roles : List (List ℕ))
       let w = causes_clear F roles s clear in
       let found-is = found_clear F ks s (rw (w.0, w.1) (else_clear Clear)) in
       let found = at_found (find ks (parsed F s).records) (clear_absent 2 (length s) _ h.0)
-      ∙ ap (λ (f : Found). At (record_or f)) (sym found-is) in
+      ∙ ap (λ (f : Option Record). Some (record_or f)) (sym found-is) in
       let is = whole F s bytes stop in
       let short = subst (λ (t : List ℕ). length t ≤ F.longest) is (sheet_short F roles s clear) in
       let reads = content_joined F (contents F s) (contents_in_order F s bytes stop) short ks in
@@ -207,8 +206,8 @@ module _ (F : Format) (s : List ℕ) (bytes : Bytes s) (roles : List (List ℕ))
       let there : has ks (contents F s) ≡ true =
       ap (has ks) (front.is ∙ ap (λ (q : List (ℕ × List ℕ)). map (record_in F s) roles ++ q) e)
       ∙ has_behind ks (map (record_in F s) roles) c cs (ranked F c.0 (omega (arith, above.0))) in
-      let found : is_missing (find ks (parsed F s).records) ≡ false =
-      ap (λ (q : List Record). is_missing (find ks q)) (sym (contents_placed F s bytes stop))
+      let found : is_none (find ks (parsed F s).records) ≡ false =
+      ap (λ (q : List Record). is_none (find ks q)) (sym (contents_placed F s bytes stop))
       ∙ missing_placed ks (contents F s) 0 ∙ ap not there in
       let low : r - 1 < length (roles_of F) = omega (arith, above.0, rank_four (role_of F c.0)) in
       let missed = lacking F s (roles_of F) (length roles) (r - 1) lacks (omega (arith, above.0)) low in

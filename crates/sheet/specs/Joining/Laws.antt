@@ -1,4 +1,5 @@
 -- How joined records are read: they parse as they were placed, and reading a role gives the payload of its record.
+use Rattle.std.specs.Prelude.{is_none}
 use Rattle.std.specs.Prelude.{ℕ, ◌+◌, ◌^◌, ◌≤◌, ◌<◌, ◌≡◌, true, not, take, drop}
 use Rattle.std.proofs.Math.Path.{refl, sym, ap}
 use Rattle.std.proofs.Common.{subst, ap₂, ◌∙◌, inl, inr, arith, le-ltb, eqb-true, take_at, drop_at}
@@ -6,15 +7,15 @@ use mathlib.Core.List.{List, [], ◌∷◌, ◌++◌, map, append_assoc, append-
 use Rattle.std.proofs.Math.ListN.{length, length-append}
 use Rattle.facts.specs.Tests.{true_or_false, both_true}
 use Rattle.facts.specs.Lists.{among, among_one}
-use Rattle.sheet.specs.declared.check.Check.TheVariants.{Clear}
-use Rattle.sheet.specs.declared.record.Found.{Found}
+use Rattle.sheet.specs.Check.{refusal◌with◌if◌, first_cause, Clear}
+use Rattle.std.specs.Prelude.{Option}
+use Rattle.sheet.specs.declared.record.Record.{Record}
 use Rattle.sheet.specs.declared.reader.Part.{Part}
-use Rattle.sheet.specs.Check.{refusal◌with◌if◌, first_cause}
 use Rattle.sheet.specs.Check.Laws.{absent, else_clear, cause_none, cause_cons, cause_one}
 use Rattle.sheet.specs.Format.{Format, standard, header, record_at, end, role_of, rank, Parsed, ◌before◌, parse}
 use Rattle.sheet.specs.Format.{parsed, of_kind, ◌or◌, find}
 use Rattle.sheet.specs.Format.Laws.{parse_end, parse_as, parsed_is}
-use Rattle.sheet.specs.Reader.{too_long, is_missing, missing, sheet_causes, refusal_of, found_in, record_or}
+use Rattle.sheet.specs.Reader.{too_long, missing, sheet_causes, refusal_of, found_in, record_or}
 use Rattle.sheet.specs.Reader.{record_of}
 use Rattle.sheet.specs.Reader.{payload_part, part, part_bytes, content, Reads}
 use Rattle.sheet.specs.Reader.Laws.{found_clear, needed_clear, clear_reads}
@@ -82,7 +83,7 @@ module _ (pre : List ℕ) (r : ℕ × List ℕ) (more : List ℕ) (at : ℕ) (e 
 -- ---- looking for a kind among placed records
 -- none is found where none of the records is of the kinds
 pub missing_placed : (ks : List ℕ) (rs : List (ℕ × List ℕ)) (at : ℕ)
-    → is_missing (find ks (placed at rs)) ≡ not (has ks rs)
+    → is_none (find ks (placed at rs)) ≡ not (has ks rs)
 unfolding find of_kind ◌or◌
 missing_placed ks [] at = refl
 missing_placed ks (r ∷ rs) at = elim (true_or_false (among r.0 ks)) [
@@ -164,12 +165,12 @@ module _ (F : Format) where
 
       -- reading refuses nothing but a missing record
       pub refusal_joined : (ks : List ℕ)
-          → refusal_of F ks (joined rs) ≡ (refusal 2 with length (joined rs) if is_missing (find ks (placed 0 rs)))
+          → refusal_of F ks (joined rs) ≡ (refusal 2 with length (joined rs) if is_none (find ks (placed 0 rs)))
       unfolding refusal_of
       refusal_joined ks =
           causes_are (ks ∷ [])
           ∙ cause_one (missing F (joined rs) ks)
-          ∙ ap (λ (f : Found). refusal 2 with length (joined rs) if is_missing f) (find_joined ks)
+          ∙ ap (λ (f : Option Record). refusal 2 with length (joined rs) if is_none f) (find_joined ks)
 
       -- what is read of a role is the payload of the placed record
       pub part_joined : (ks : List ℕ) → part F ks (joined rs) ≡ payload_part (find ks (placed 0 rs))
@@ -192,7 +193,7 @@ module _ (F : Format) where
           go [] all = cause_none
           go (ks ∷ roles) all =
               let h = both_true (has ks rs) (has_all roles rs) all in
-              let there = ap is_missing (find_joined ks) ∙ missing_placed ks rs 0 ∙ ap not h.0 in
+              let there = ap is_none (find_joined ks) ∙ missing_placed ks rs 0 ∙ ap not h.0 in
               rw (cause_cons, absent 2 (length (joined rs)) there, go roles h.1) (else_clear Clear)
 
 -- ---- the roles of the format that the services take

@@ -5,7 +5,7 @@ use Rattle.std.proofs.Common.{append_assoc, arith, add-one, length-drop, take-ap
 use Rattle.std.proofs.Common.{length-take-le}
 use Rattle.std.proofs.Math.ListN.{get_or, drop, drop_of_length-le}
 use Rattle.facts.specs.Bytes.{Bytes, of_two_bytes, of_four_bytes}
-use Rattle.sheet.specs.declared.check.Check.TheVariants.{Clear}
+use Rattle.sheet.specs.Check.{Clear}
 use Rattle.sheet.specs.declared.record.Record.{Record}
 use Rattle.sheet.specs.Check.Laws.{clear_refused}
 use Rattle.sheet.specs.Format.{Format, header, record_at, end, role_of, rank, parse, parsed}

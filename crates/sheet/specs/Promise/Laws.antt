@@ -1,20 +1,17 @@
 -- The laws of the promise of a service that writes: cause 9, what an answer says, in both directions, what it leaves in
 -- the buffer, and how the promise is kept.
+use Rattle.std.specs.Prelude.{Err}
 use Rattle.std.specs.Prelude.{ℕ, ◌≤◌, ◌<◌, ◌≡◌, refl, List, ltb, length, take, drop}
 use Rattle.std.proofs.Common.{sym, ap, subst, ◌∙◌, inl, inr, arith}
 use borrow.Author.Tests.{le-ltb, lt-ltb, ltb-true, ltb-false}
 use Rattle.std.proofs.Math.Seq.{take-append_seam, drop-append_seam}
 use Rattle.facts.specs.Numbers.{less_or_not}
-use Rattle.sheet.specs.declared.check.Check.{Check}
-use Rattle.sheet.specs.declared.check.Check.TheVariants.{Clear, Refused}
-use Rattle.sheet.specs.declared.writing.Answer.{Answer}
-use Rattle.sheet.specs.declared.writing.Answer.TheVariants.{Written, Refused as RefusedAnswer}
-use Rattle.sheet.specs.Check.{◌else◌}
+use Rattle.sheet.specs.Check.{◌else◌, Check, Clear, Refused}
+use Rattle.sheet.specs.Promise.{cause9, writing, leaving, values_of, Writes, Answer, Written}
 use Rattle.sheet.specs.Check.Laws.{absent, present, clear_absent, present_test}
 use Rattle.sheet.specs.Values.Laws.{returns_specified}
 use Rattle.sheet.specs.Writing.{Puts, written}
 use Rattle.sheet.specs.Writing.Laws.{paste_start, puts_written}
-use Rattle.sheet.specs.Promise.{cause9, writing, leaving, values_of, Writes}
 
 -- ---- cause 9 is clear exactly where the bytes fit, and otherwise has the bytes needed
 module _ (room bytes : ℕ) where
@@ -34,12 +31,12 @@ module _ (room bytes : ℕ) where
 -- or for 9, where none of them is present and the bytes do not fit
 pub data Outcome (c : Check) (room : ℕ) (xs : List ℕ) : Answer → Type 0 where
   wrote : {n : ℕ} → c ≡ Clear → n ≡ length xs → n ≤ room → Outcome c room xs (Written n)
-  by_cause : {a b : ℕ} → c ≡ Refused a b → Outcome c room xs (RefusedAnswer a b)
-  by_room : {a b : ℕ} → c ≡ Clear → a ≡ 9 → b ≡ length xs → room < b → Outcome c room xs (RefusedAnswer a b)
+  by_cause : {a b : ℕ} → c ≡ Refused a b → Outcome c room xs (Refused a b)
+  by_room : {a b : ℕ} → c ≡ Clear → a ≡ 9 → b ≡ length xs → room < b → Outcome c room xs (Refused a b)
 
 outcome : (c : Check) (room : ℕ) (xs : List ℕ) → Outcome c room xs (writing c room xs)
 unfolding writing ◌else◌ cause9
-outcome (Refused a b) room xs = by_cause refl
+outcome (Err r) room xs = by_cause refl
 outcome Clear room xs = elim (less_or_not room (length xs)) [
   | inl l ↦ rw (present 9 (length xs) (lt-ltb room (length xs) l)) (by_room refl refl refl l)
   | inr l ↦ rw (absent 9 (length xs) (le-ltb room (length xs) l)) (wrote refl refl l)
@@ -59,7 +56,7 @@ module _ {c : Check} {room : ℕ} {xs : List ℕ} where
   written_clear (wrote e s l) = (e, (s, l))
 
   -- where the bytes always fit, a refusal is one of the other causes
-  pub fits_refused : (c ≡ Clear → length xs ≤ room) → {a b : ℕ} → Outcome c room xs (RefusedAnswer a b)
+  pub fits_refused : (c ≡ Clear → length xs ≤ room) → {a b : ℕ} → Outcome c room xs (Refused a b)
       → c ≡ Refused a b
   fits_refused fits (by_cause e) = e
   fits_refused fits (by_room e n s l) = let z : ⊥ = omega (arith, fits e) in absurd z
@@ -70,7 +67,7 @@ writes_outcome h e = writing_outcome (sym h.answer.is ∙ e)
 
 -- ---- the buffer: on a refusal as before; else it begins with the bytes, and the later ones are as they were
 module _ {c : Check} {xs : List ℕ} (before : List ℕ) where
-  pub refused_leaves : {a b : ℕ} → Outcome c (length before) xs (RefusedAnswer a b) → leaving c xs before ≡ before
+  pub refused_leaves : {a b : ℕ} → Outcome c (length before) xs (Refused a b) → leaving c xs before ≡ before
   unfolding leaving ◌else◌ cause9
   refused_leaves (by_cause e) = rw e
   refused_leaves (by_room e n s l) =
@@ -98,8 +95,8 @@ module _ {c : Check} {xs : List ℕ} (before : List ℕ) where
       → Writes c xs before after a
   outcome_writes o e = record { answer = returns_specified values_of (sym (outcome_writing o)); buffer = e }
 
-  pub refused_writes : {after : List ℕ} {a b : ℕ} → Outcome c (length before) xs (RefusedAnswer a b) → after ≡ before
-      → Writes c xs before after (RefusedAnswer a b)
+  pub refused_writes : {after : List ℕ} {a b : ℕ} → Outcome c (length before) xs (Refused a b) → after ≡ before
+      → Writes c xs before after (Refused a b)
   refused_writes o e = outcome_writes o (e ∙ sym (refused_leaves o))
 
   pub puts_writes : {after : List ℕ} {end : ℕ} → c ≡ Clear → Puts before 0 xs after end

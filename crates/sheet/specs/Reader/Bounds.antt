@@ -1,20 +1,20 @@
 -- The places of causes 1 and 2 lie inside the longest sheet, and so do the offsets in the payloads of a sheet that has
 -- neither. Reading a sheet of bytes gives bytes.
+use Rattle.std.specs.Prelude.{is_none}
 use Rattle.std.specs.Prelude.{ℕ, ◌≤◌, ◌<◌, ◌≡◌, refl, List, [], ◌∷◌, map, length}
 use Rattle.std.proofs.Common.{sym, ap, length-take, ltb-false}
 use native.Mathlib.Omega.{arith}
 use Rattle.facts.specs.Bytes.{Bytes, bytes_part}
-use Rattle.sheet.specs.declared.check.Check.TheVariants.{Clear}
-use Rattle.sheet.specs.declared.record.Found.{Found}
-use Rattle.sheet.specs.declared.record.Found.TheVariants.{At, Missing}
-use Rattle.sheet.specs.Check.{first_cause}
+use Rattle.sheet.specs.Check.{first_cause, Clear}
+use Rattle.std.specs.Prelude.{Option, Some, None}
+use Rattle.sheet.specs.declared.record.Record.{Record}
 use Rattle.sheet.specs.Check.Laws.{clear_absent}
 use Rattle.sheet.specs.Check.Bounds.{WhereRefused, place_clear, place_of, place_cause, place_else, place_cons}
 use Rattle.sheet.specs.Check.Bounds.{place_map}
 use Rattle.sheet.specs.Format.{Format, standard, longest, record_at, offset, cause1, cause2, cause_of, cause_at}
 use Rattle.sheet.specs.Format.{Parsed, parsed, find}
 use Rattle.sheet.specs.Format.Laws.{start_at, end_size, parsed_is, parse_induction}
-use Rattle.sheet.specs.Reader.{too_long, is_missing, missing, sheet_causes, refusal_of, record_or, record_of}
+use Rattle.sheet.specs.Reader.{too_long, missing, sheet_causes, refusal_of, record_or, record_of}
 use Rattle.sheet.specs.Reader.{found_in, payload_part, within, part, part_bytes, content}
 use Rattle.sheet.specs.Reader.Laws.{within_inside, found_within, record_inside, sheet_short}
 
@@ -54,7 +54,7 @@ sheet_small roles s =
     let l : length s ≤ longest = ltb-false _ _ (clear_absent 1 longest _ q) in
     place_cons Small (parsed standard s).stop (map (missing standard s) roles) (stop_small s l)
     (λ r. place_map Small (missing standard s) roles
-    (λ ks. place_cause Small 2 (length s) (is_missing (find ks (parsed standard s).records))
+    (λ ks. place_cause Small 2 (length s) (is_none (find ks (parsed standard s).records))
     (λ t. record { number = omega arith; place = l }))))
 
 -- what reading gives is no longer
@@ -63,11 +63,11 @@ unfolding refusal_of
 read_short ks s e = omega (arith, record_inside standard ks s, sheet_short standard (ks ∷ []) s e)
 
 -- ---- offsets in what reading gives
-offset_of : (s : List ℕ) (f : Found) → within s f ≡ f → (i : ℕ) → i < length (part_bytes (payload_part f) s)
+offset_of : (s : List ℕ) (f : Option Record) → within s f ≡ f → (i : ℕ) → i < length (part_bytes (payload_part f) s)
     → offset (record_or f).start i < length s
 unfolding part_bytes
-offset_of s (At r) h i l = let k = simp length-take at l in omega (arith, end_size r, within_inside s r h)
-offset_of s Missing h i l = let z : ⊥ = omega arith in absurd z
+offset_of s (Some r) h i l = let k = simp length-take at l in omega (arith, end_size r, within_inside s r h)
+offset_of s None h i l = let z : ⊥ = omega arith in absurd z
 
 -- they lie inside the sheet
 pub offset_inside : (F : Format) (ks s : List ℕ) (i : ℕ) → i < length (content F ks s)

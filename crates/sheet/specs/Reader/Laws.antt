@@ -1,4 +1,7 @@
 -- The laws of checks 1 and 2 of a whole sheet and of the reader.
+use Rattle.std.specs.Prelude.{is_none}
+use Rattle.std.specs.Prelude.{Ok, Err}
+use Rattle.sheet.specs.declared.check.Refusal.{Refusal}
 use Rattle.std.specs.Prelude.{ℕ, ◌+◌, ◌≤◌, ◌<◌, ◌≡◌, Bool, true, false, ◌&&◌, ◌||◌, leb}
 use Rattle.std.proofs.Math.Path.{refl, sym, ap}
 use Rattle.std.proofs.Common.{ap₂, ◌∙◌, true≢false, eqb-true, ltb-false, lt-ltb, le-ltb, leb-true, le-leb}
@@ -10,42 +13,40 @@ use native.Mathlib.Omega.{arith}
 use Rattle.std.proofs.Math.ListN.{length, length-take}
 use Rattle.facts.specs.Tests.{true_or_false}
 use Rattle.facts.specs.Lists.{among, among_one}
-use Rattle.sheet.specs.declared.check.Check.{Check}
-use Rattle.sheet.specs.declared.check.Check.TheVariants.{Clear, Refused}
+use Rattle.sheet.specs.Check.{refusal◌with◌if◌, ◌else◌, first_cause, Check, Clear, Refused}
+use Rattle.std.specs.Prelude.{Option, Some, None}
 use Rattle.sheet.specs.declared.record.Record.{Record}
-use Rattle.sheet.specs.declared.record.Found.{Found}
 use Rattle.sheet.specs.declared.record.Records.{Records}
-use Rattle.sheet.specs.declared.record.Found.TheVariants.{At, Missing}
 use Rattle.sheet.specs.declared.reader.Needs.{Needs}
 use Rattle.sheet.specs.declared.parse.Reading.{Reading}
-use Rattle.sheet.specs.Check.{refusal◌with◌if◌, ◌else◌, first_cause}
 use Rattle.sheet.specs.Check.Laws.{absent, present, clear_absent, else_clear, else_assoc, both_clear, refusal_stays}
-use Rattle.sheet.specs.Check.Laws.{clear_refused, either_there, cause_none, cause_cons, cause_one, cause_append}
+use Rattle.sheet.specs.Check.Laws.{cause_before, cause_refuses, clear_refused, either_there, cause_none, cause_cons}
+use Rattle.sheet.specs.Check.Laws.{cause_one, cause_append}
 use Rattle.sheet.specs.Format.{Format, standard, record_at, end, role_of, rank, cause_at, Parsed, parsed, find}
 use Rattle.sheet.specs.Format.{records_by, no_records, records_among, of_role}
 use Rattle.sheet.specs.Format.Laws.{clear_inside, clear_rank, parsed_is, parse_induction, none_found, found_cons}
 use Rattle.sheet.specs.Format.Laws.{missing_found, end_size, by_kind}
-use Rattle.sheet.specs.Reader.{too_long, is_missing, missing, sheet_causes, when, needed, refusal_of, lacks}
-use Rattle.sheet.specs.Reader.{whole_cause, found_in, records_in, lacks_needed}
+use Rattle.sheet.specs.Reader.{too_long, missing, sheet_causes, when, needed, refusal_of, lacks}
+use Rattle.sheet.specs.Reader.{whole_cause, whole_reading, found_in, records_in, lacks_needed}
 use Rattle.sheet.specs.Reader.{record_or, record_of, payload_part, part, within, part_within, part_bytes, content}
 use Rattle.sheet.specs.Reader.{seen, handed, Reads, machine_payload, word_in, sequence_in, answers_in}
 use Rattle.std.specs.Borrow.{Bor}
 
 -- a record that the sheet holds
-pub within_inside : (s : List ℕ) (r : Record) → within s (At r) ≡ At r → end r ≤ length s
+pub within_inside : (s : List ℕ) (r : Record) → within s (Some r) ≡ Some r → end r ≤ length s
 within_inside s r h = elim (true_or_false (leb (end r) (length s))) [
   | inl e ↦ leb-true _ _ e
   | inr e ↦ missing_found (rw e refl) h
 ]
 
 -- what is not missing is found
-pub at_found : (f : Found) → is_missing f ≡ false → f ≡ At (record_or f)
-at_found (At r) e = refl
-at_found Missing e = absurd (true≢false e)
+pub at_found : (f : Option Record) → is_none f ≡ false → f ≡ Some (record_or f)
+at_found (Some r) e = refl
+at_found None e = absurd (true≢false e)
 
-pub missing_is : (f : Found) → is_missing f ≡ true → f ≡ Missing
-missing_is (At r) e = absurd (true≢false (sym e))
-missing_is Missing e = refl
+pub missing_is : (f : Option Record) → is_none f ≡ true → f ≡ None
+missing_is (Some r) e = absurd (true≢false (sym e))
+missing_is None e = refl
 
 pub reading_same : {a b : Reading} → a.check ≡ b.check → a.records ≡ b.records → a ≡ b
 reading_same c r = λ i. record { check = c i; records = r i }
@@ -103,9 +104,9 @@ module _ (F : Format) where
   -- what holds of every record that has no cause 1 or 2 holds of the one that is found, and that one is of the kinds
   module _ (s : List ℕ) (P : Record → Type 0)
       (all : (at last : ℕ) → cause_at F s at last ≡ Clear → P (record_at s at)) where
-    found_has : (ks : List ℕ) (r : Record) → find ks (parsed F s).records ≡ At r → P r × (among r.kind ks ≡ true)
+    found_has : (ks : List ℕ) (r : Record) → find ks (parsed F s).records ≡ Some r → P r × (among r.kind ks ≡ true)
     found_has ks r e =
-        parse_induction F s (λ at last w. find ks w.records ≡ At r → P r × (among r.kind ks ≡ true))
+        parse_induction F s (λ at last w. find ks w.records ≡ Some r → P r × (among r.kind ks ≡ true))
         (λ at last l q. none_found ks q)
         (λ at last n p l c q. none_found ks q)
         (λ at last l c h q. elim (found_cons ks (record_at s at) _ q) [
@@ -115,14 +116,14 @@ module _ (F : Format) where
         0 0 (ap (λ (w : Parsed). find ks w.records) (sym (parsed_is F s)) ∙ e)
 
   -- it lies inside the sheet
-  pub found_inside : (s ks : List ℕ) (r : Record) → find ks (parsed F s).records ≡ At r → end r ≤ length s
+  pub found_inside : (s ks : List ℕ) (r : Record) → find ks (parsed F s).records ≡ Some r → end r ≤ length s
   found_inside s ks r e = (found_has s (λ (x : Record). end x ≤ length s) (clear_inside F s) ks r e).0
 
   -- its kind is one of those looked for, and a known one
-  pub found_kind : (s ks : List ℕ) (r : Record) → find ks (parsed F s).records ≡ At r → among r.kind ks ≡ true
+  pub found_kind : (s ks : List ℕ) (r : Record) → find ks (parsed F s).records ≡ Some r → among r.kind ks ≡ true
   found_kind s ks r e = (found_has s (λ (x : Record). end x ≤ length s) (clear_inside F s) ks r e).1
 
-  pub found_known : (s ks : List ℕ) (r : Record) → find ks (parsed F s).records ≡ At r
+  pub found_known : (s ks : List ℕ) (r : Record) → find ks (parsed F s).records ≡ Some r
       → 0 < rank (role_of F r.kind)
   found_known s ks r e =
       (found_has s (λ (x : Record). 0 < rank (role_of F x.kind)) (λ at last q. omega (arith, clear_rank F s at last q))
@@ -130,8 +131,8 @@ module _ (F : Format) where
 
   -- a wanted kind that no sheet can have is missing from every sheet: refusal 2 at the sheet's length, where
   -- nothing comes before it
-  unknown_none : (s : List ℕ) (k : ℕ) → rank (role_of F k) ≡ 0 → is_missing (find (k ∷ []) (parsed F s).records) ≡ true
-  unknown_none s k h = elim (true_or_false (is_missing (find (k ∷ []) (parsed F s).records))) [
+  unknown_none : (s : List ℕ) (k : ℕ) → rank (role_of F k) ≡ 0 → is_none (find (k ∷ []) (parsed F s).records) ≡ true
+  unknown_none s k h = elim (true_or_false (is_none (find (k ∷ []) (parsed F s).records))) [
     | inl e ↦ e
     | inr e ↦ (let q = at_found _ e in
         let same = eqb-true _ k (sym (among_one _ k) ∙ found_kind s (k ∷ []) _ q) in
@@ -150,7 +151,7 @@ module _ (F : Format) where
   unfolding found_in
   found_clear ks s e = rw e
 
-  pub found_refused : (ks s : List ℕ) {n p : ℕ} → whole_cause F s ≡ Refused n p → found_in F ks s ≡ Missing
+  pub found_refused : (ks s : List ℕ) {n p : ℕ} → whole_cause F s ≡ Refused n p → found_in F ks s ≡ None
   unfolding found_in
   found_refused ks s e = rw e
 
@@ -162,12 +163,20 @@ module _ (F : Format) where
   unfolding found_in
   records_refused s e = rw e refl
 
-  pub unknown_found : (s : List ℕ) (k : ℕ) → rank (role_of F k) ≡ 0 → found_in F (k ∷ []) s ≡ Missing
+  -- code that has the records, or the refusal
+  pub reading_clear : (s : List ℕ) {rs : Records} → whole_reading F s ≡ Ok rs
+      → (whole_cause F s ≡ Clear) × (rs ≡ records_in F s)
+  reading_clear s e = cause_before (whole_cause F s) e
+
+  pub reading_refused : (s : List ℕ) {r : Refusal} → whole_reading F s ≡ Err r → whole_cause F s ≡ Err r
+  reading_refused s e = cause_refuses (whole_cause F s) _ e
+
+  pub unknown_found : (s : List ℕ) (k : ℕ) → rank (role_of F k) ≡ 0 → found_in F (k ∷ []) s ≡ None
   unknown_found s k h = go (whole_cause F s) refl
     where
-      go : (c : Check) → whole_cause F s ≡ c → found_in F (k ∷ []) s ≡ Missing
+      go : (c : Check) → whole_cause F s ≡ c → found_in F (k ∷ []) s ≡ None
       go Clear e = found_clear (k ∷ []) s e ∙ missing_is _ (unknown_none s k h)
-      go (Refused n p) e = found_refused (k ∷ []) s e
+      go (Err r) e = found_refused (k ∷ []) s e
 
   -- causes 1 and 2 by what is found: what is missing counts only where nothing comes before it
   lacks_causes : (s : List ℕ) → whole_cause F s ≡ Clear → (roles : List (List ℕ))
@@ -175,7 +184,7 @@ module _ (F : Format) where
   lacks_causes s e [] = absent 2 (length s) refl ∙ sym cause_none
   lacks_causes s e (ks ∷ roles) =
       sym (either_there 2 (length s) _ _)
-      ∙ ap₂ ◌else◌ (ap (λ (f : Found). refusal 2 with length s if is_missing f) (found_clear ks s e))
+      ∙ ap₂ ◌else◌ (ap (λ (f : Option Record). refusal 2 with length s if is_none f) (found_clear ks s e))
       (lacks_causes s e roles)
       ∙ sym (cause_cons _ _)
 
@@ -188,29 +197,29 @@ module _ (F : Format) where
           → (whole_cause F s else (refusal 2 with length s if lacks (λ ks. found_in F ks s) roles))
           ≡ (whole_cause F s else first_cause (map (missing F s) roles))
       go Clear e = ap (λ (c : Check). whole_cause F s else c) (lacks_causes s e roles)
-      go (Refused n p) e = refusal_stays _ e ∙ sym (refusal_stays _ e)
+      go (Err r) e = refusal_stays _ e ∙ sym (refusal_stays _ e)
 
   pub refusal_found : (ks s : List ℕ)
-      → (whole_cause F s else (refusal 2 with length s if is_missing (found_in F ks s))) ≡ refusal_of F ks s
+      → (whole_cause F s else (refusal 2 with length s if is_none (found_in F ks s))) ≡ refusal_of F ks s
   unfolding refusal_of
   refusal_found ks s =
       ap (λ (b : Bool). whole_cause F s else (refusal 2 with length s if b)) (sym (or-false _))
       ∙ causes_found (ks ∷ []) s
 
   -- the same for the roles that a service needs
-  lacks_when : (f : List ℕ → Found) (b : Bool) (ks : List ℕ) (roles : List (List ℕ))
-      → lacks f (when b (ks ∷ []) ++ roles) ≡ ((b && is_missing (f ks)) || lacks f roles)
+  lacks_when : (f : List ℕ → Option Record) (b : Bool) (ks : List ℕ) (roles : List (List ℕ))
+      → lacks f (when b (ks ∷ []) ++ roles) ≡ ((b && is_none (f ks)) || lacks f roles)
   lacks_when f true ks roles = refl
   lacks_when f false ks roles = refl
 
-  lacks_needed_lem : (n : Needs) (f : List ℕ → Found) → lacks f (needed F n) ≡ lacks_needed n (records_by F f)
+  lacks_needed_lem : (n : Needs) (f : List ℕ → Option Record) → lacks f (needed F n) ≡ lacks_needed n (records_by F f)
   lacks_needed_lem n f =
       rw (
         lacks_when f n.word F.word _,
         lacks_when f n.sequence F.sequence _,
         ← append-nil (when n.answers (F.answers ∷ [])),
         lacks_when f n.answers F.answers [],
-        or-false (n.answers && is_missing (f F.answers)),
+        or-false (n.answers && is_none (f F.answers)),
       )
 
   pub checks_found : (n : Needs) (s : List ℕ)
@@ -223,40 +232,40 @@ module _ (F : Format) where
 
   -- ---- the part that reading gives
   -- on a refusal it is the empty one at the sheet's start, whichever cause is present
-  pub part_refused : (ks s : List ℕ) {n p : ℕ} → refusal_of F ks s ≡ Refused n p → part F ks s ≡ payload_part Missing
+  pub part_refused : (ks s : List ℕ) {n p : ℕ} → refusal_of F ks s ≡ Refused n p → part F ks s ≡ payload_part None
   unfolding part
   part_refused ks s e = ap payload_part (go (whole_cause F s) refl)
     where
-      go : (c : Check) → whole_cause F s ≡ c → found_in F ks s ≡ Missing
-      go (Refused a b) q = found_refused ks s q
-      go Clear q = elim (true_or_false (is_missing (found_in F ks s))) [
+      go : (c : Check) → whole_cause F s ≡ c → found_in F ks s ≡ None
+      go (Err r) q = found_refused ks s q
+      go Clear q = elim (true_or_false (is_none (found_in F ks s))) [
         | inl t ↦ missing_is _ t
         | inr t ↦ clear_refused (sym (refusal_found ks s) ∙ rw (q, absent 2 (length s) t) (else_clear Clear)) e
       ]
 
   -- what one pass finds lies inside the sheet
-  pub found_within : (ks s : List ℕ) (f : Found) → found_in F ks s ≡ f → within s f ≡ f
-  found_within ks s Missing e = refl
-  found_within ks s (At r) e = go (whole_cause F s) refl
+  pub found_within : (ks s : List ℕ) (f : Option Record) → found_in F ks s ≡ f → within s f ≡ f
+  found_within ks s None e = refl
+  found_within ks s (Some r) e = go (whole_cause F s) refl
     where
-      go : (c : Check) → whole_cause F s ≡ c → within s (At r) ≡ At r
+      go : (c : Check) → whole_cause F s ≡ c → within s (Some r) ≡ Some r
       go Clear q = simp (le-leb _ _ (found_inside s ks r (sym (found_clear ks s q) ∙ e)))
-      go (Refused n p) q = missing_found (found_refused ks s q) e
+      go (Err r) q = missing_found (found_refused ks s q) e
 
-  pub part_within_lem : (ks s : List ℕ) {f : Found} → f ≡ found_in F ks s → part_within s f ≡ part F ks s
+  pub part_within_lem : (ks s : List ℕ) {f : Option Record} → f ≡ found_in F ks s → part_within s f ≡ part F ks s
   unfolding part part_within
   part_within_lem ks s e = ap payload_part (found_within ks s _ (sym e) ∙ e)
 
-  pub record_is : (ks s : List ℕ) {f : Found} → f ≡ found_in F ks s → record_or f ≡ record_of F ks s
+  pub record_is : (ks s : List ℕ) {f : Option Record} → f ≡ found_in F ks s → record_or f ≡ record_of F ks s
   unfolding record_of
   record_is ks s e = ap record_or e
 
   -- a record starts inside the sheet, and its payload ends there
-  inside_of : (s : List ℕ) (f : Found) → within s f ≡ f
+  inside_of : (s : List ℕ) (f : Option Record) → within s f ≡ f
       → (record_or f).start + length (part_bytes (payload_part f) s) ≤ length s
   unfolding part_bytes
-  inside_of s (At r) h = simp length-take (omega (arith, end_size r, within_inside s r h))
-  inside_of s Missing h = omega arith
+  inside_of s (Some r) h = simp length-take (omega (arith, end_size r, within_inside s r h))
+  inside_of s None h = omega arith
 
   pub record_inside : (ks s : List ℕ) → (record_of F ks s).start + length (content F ks s) ≤ length s
   unfolding record_of content part
@@ -269,7 +278,7 @@ module _ (F : Format) where
   handed_content ks s w e = ap (λ (x : (ℕ × ℕ) × List ℕ). x.1) e
 
   -- those of a record that one pass found
-  pub payload_content : (ks : List ℕ) (s w : Bor (List ℕ)) {f : Found} → f ≡ found_in F ks s.now
+  pub payload_content : (ks : List ℕ) (s w : Bor (List ℕ)) {f : Option Record} → f ≡ found_in F ks s.now
       → seen w ≡ handed s (part_within s.now f) → w.now ≡ content F ks s.now
   payload_content ks s w e h = handed_content ks s w (h ∙ ap (handed s) (part_within_lem ks s.now e))
 
@@ -311,8 +320,8 @@ module _ (F : Format) where
       let q = sym (found_clear ks s both.0) ∙ is in
       record {
         kind = found_kind s ks _ q;
-        from = ap (λ (f : Found). (payload_part f).from) is;
-        size = ap (λ (f : Found). (payload_part f).size) is;
+        from = ap (λ (f : Option Record). (payload_part f).from) is;
+        size = ap (λ (f : Option Record). (payload_part f).size) is;
         inside = found_inside s ks _ q;
       }
 

@@ -4,23 +4,21 @@
 use Rattle.std.specs.Prelude.{ℕ, ◌≤◌, ◌≡◌, refl, List, [], ◌∷◌}
 use Rattle.std.proofs.Common.{ap, ◌∙◌}
 use Rattle.facts.specs.CommonPrefix.{agreed}
-use Rattle.sheet.specs.declared.check.Check.{Check}
-use Rattle.sheet.specs.declared.check.Check.TheVariants.{Clear, Refused}
-use Rattle.sheet.specs.Check.{refusal◌with◌if◌, ◌else◌, first_cause, first}
+use Rattle.sheet.specs.Check.{refusal◌with◌if◌, ◌else◌, first_cause, first, Check, Clear, Refused}
+use Rattle.sheet.specs.Promise.{cause9}
+use Rattle.certify.specs.Answer.{Answer, Certified}
+use Rattle.judge.specs.Answer.{Answer as Judgement, Pass, Wrong, Unfinished}
 use Rattle.sheet.specs.Check.Laws.{else_clear, else_end}
 use Rattle.sheet.specs.Format.{record_at, end, role_of, cause1, cause2, cause_of, parse_step, parse_from, parse}
 use Rattle.sheet.specs.Format.{parsed, of_kind, ◌or◌, find}
 use Rattle.sheet.specs.Reader.{sheet_causes, refusal_of, found_in, record_of, part, part_bytes, content, word_in}
 use Rattle.sheet.specs.Reader.{sequence_in, answers_in}
 use Rattle.sheet.specs.Writing.{header_of}
-use Rattle.sheet.specs.Promise.{cause9}
 use Rattle.sheet.specs.Promise.Laws.{room_clear, by_cause, outcome_writing}
 use Rattle.sheet.specs.Joining.{joined}
 use Rattle.machine.specs.Machine.{Mealy, no_answer, machine_of, run, answers, state_at}
 use Rattle.machine.specs.Causes.{cause3, cause4, cause12, commands_cause, cause6, machine_in, table_causes}
 use Rattle.machine.specs.Causes.{cause10, word_causes, sequence_causes, machine_causes, load_causes}
-use Rattle.certify.specs.declared.answer.Answer.{Answer}
-use Rattle.certify.specs.declared.answer.Answer.TheVariants.{Certified}
 use Rattle.certify.specs.Marks.Twin.{twin_table, single_table, twin as twin_machine, single as single_machine}
 use Rattle.certify.specs.Certification.{marking_causes, certify_causes, outcome, certification}
 use Rattle.certify.specs.Certification.Laws.{certification_clear, certification_refused}
@@ -29,8 +27,6 @@ use Rattle.certify.proofs.CertificationTwin as outcomes_moved
 use Rattle.build.specs.Building.{connected_causes}
 use Rattle.build.specs.Building.Twin.{unit_sheet}
 use Rattle.build.specs.Building.Twin as buildings
-use Rattle.judge.specs.declared.answer.Answer.{Answer as Judgement}
-use Rattle.judge.specs.declared.answer.Answer.TheVariants.{Pass, Wrong, Unfinished}
 use Rattle.judge.specs.Judging.{judge_causes, difference, result_at, verdict, judgement}
 use Rattle.judge.specs.Judging.Laws.{certifying_clear, judgement_refused, judgement_verdict}
 use Rattle.report.specs.Lines.{judge_line}

@@ -1,24 +1,22 @@
 -- The laws of the search as a service: what each answer says, and that the word gives no cause 5 and no cause 6.
+use Rattle.std.specs.Prelude.{Err}
 use Rattle.std.specs.Prelude.{ℕ, ◌≡◌, refl, List, [], ◌∷◌, length, take}
 use Rattle.std.proofs.Common.{ap, ◌∙◌, arith, take_at}
 use Rattle.std.proofs.Math.Option.{Option, none, some, mem_unique}
 use Rattle.facts.specs.FirstOf.{some_none, Seen, nothing, value, seen}
-use Rattle.sheet.specs.declared.check.Check.{Check}
-use Rattle.sheet.specs.declared.check.Check.TheVariants.{Clear, Refused}
-use Rattle.sheet.specs.Check.{first_cause}
+use Rattle.sheet.specs.Check.{first_cause, Check, Clear, Refused}
+use Rattle.word.specs.Answer.{Answer, Found, Nothing}
 use Rattle.sheet.specs.Reader.{machine_payload, word_in, word_record}
 use Rattle.machine.specs.Machine.{Mealy, Proper, Distinguishes}
 use Rattle.machine.specs.Causes.{machine_in, word_causes_in}
 use Rattle.machine.specs.Causes.Lists.{distinguishes_clear, machine_same, load_proper}
-use Rattle.word.specs.declared.answer.Answer.{Answer}
-use Rattle.word.specs.declared.answer.Answer.TheVariants.{Found, Nothing, Refused as RefusedAnswer}
 use Rattle.word.specs.Search.{Eligible, IsSought, search}
 use Rattle.word.specs.Search.Laws.{search_is, is_search, none_eligible, eligible_none, single_word}
 use Rattle.word.specs.Service.{search_needs, search_causes, answer_of, searching, word_found, padded, word_beside}
 
 -- ---- the answer and the array, by the first cause
 module _ (s : List ℕ) where
-  pub searching_refused : {a b : ℕ} → first_cause (search_causes s) ≡ Refused a b → searching s ≡ RefusedAnswer a b
+  pub searching_refused : {a b : ℕ} → first_cause (search_causes s) ≡ Refused a b → searching s ≡ Refused a b
   unfolding searching
   searching_refused e = rw e
 
@@ -42,7 +40,7 @@ module _ (s : List ℕ) where
 -- that is sought, or no word of 1 to 6 commands separates. The word that was found is told besides, by which the array
 -- is known
 pub data Outcome (s : List ℕ) (a : Answer) : Type 0 where
-  refused : (number place : ℕ) → first_cause (search_causes s) ≡ Refused number place → a ≡ RefusedAnswer number place
+  refused : (number place : ℕ) → first_cause (search_causes s) ≡ Refused number place → a ≡ Refused number place
       → word_found s ≡ none → Outcome s a
   found : (w : List ℕ) → first_cause (search_causes s) ≡ Clear → IsSought (machine_in s) w → a ≡ Found (length w)
       → word_found s ≡ some w → Outcome s a
@@ -54,7 +52,7 @@ pub searching_outcome : (s : List ℕ) → Outcome s (searching s)
 searching_outcome s = go (first_cause (search_causes s)) refl (seen (search (machine_in s)))
   where
     go : (c : Check) → first_cause (search_causes s) ≡ c → Seen (search (machine_in s)) → Outcome s (searching s)
-    go (Refused number place) c o = refused number place c (searching_refused s c) (found_refused s c)
+    go (Err r) c o = refused r.number r.place c (searching_refused s c) (found_refused s c)
     go Clear c (nothing e) =
         missing c (none_eligible (machine_in s) (searched_proper s c) e) (rw (searching_clear s c, e))
         (found_clear s c ∙ e)

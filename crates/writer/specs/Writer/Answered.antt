@@ -1,14 +1,13 @@
 -- What adding answers makes of a sheet (§15.4): its bytes up to the end of its sequence's record, and the answers; the
 -- places of its refusals are places of the given sheet. Of a sheet that was written it refuses with 10 and 9 alone.
+use Rattle.std.specs.Prelude.{Err}
 use Rattle.std.specs.Prelude.{ℕ, ◌≡◌, refl, true, List, [], ◌∷◌, ◌++◌, length, take}
 use Rattle.std.proofs.Common.{sym, ap, subst, ◌∙◌, true≢false, arith}
 use Rattle.std.proofs.Math.Path.{ap₂}
 use mathlib.Core.List.Memᴰ
 use Rattle.facts.specs.Bytes.{Bytes}
-use Rattle.sheet.specs.declared.check.Check.{Check}
-use Rattle.sheet.specs.declared.check.Check.TheVariants.{Clear, Refused}
-use Rattle.sheet.specs.declared.writing.Answer.TheVariants.{Written}
-use Rattle.sheet.specs.Check.{◌else◌, first_cause}
+use Rattle.sheet.specs.Check.{◌else◌, first_cause, Check, Clear}
+use Rattle.sheet.specs.Promise.{Written}
 use Rattle.sheet.specs.Check.Laws.{else_assoc, else_refused, else_clear, both_clear}
 use Rattle.sheet.specs.Format.{standard, end}
 use Rattle.sheet.specs.Reader.{sheet_causes, needed, machine_payload, word_in, sequence_in, machine_record}
@@ -102,7 +101,7 @@ answered_causes s ys bytes =
     go : (c : Check) → first_cause (sheet_causes standard roles s) ≡ c
         → (first_cause (sheet_causes standard roles s) else first_cause (part_causes Answers (with_answers s ys)))
         ≡ (((first_cause (sheet_causes standard roles s) else first_cause (table_causes_in s)) else behind) else ten)
-    go (Refused n p) e = rw e (simp else_refused)
+    go (Err r) e = rw e (simp (else_refused r.number r.place))
     go Clear e = rw (parts_causes s ys bytes e) (simp else_assoc)
 
 -- the buffer, where the answer is written: its first bytes read as the sheet's machine, word and sequence and these

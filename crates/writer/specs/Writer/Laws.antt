@@ -4,9 +4,7 @@
 use Rattle.std.specs.Prelude.{ℕ, ◌≤◌, ◌≡◌, refl, true, List, [], ◌∷◌, ◌++◌, length}
 use Rattle.std.proofs.Common.{sym, ap₂, ◌∙◌, true≢false, arith}
 use Rattle.std.proofs.Math.Path.{ap}
-use Rattle.sheet.specs.declared.check.Check.{Check}
-use Rattle.sheet.specs.declared.check.Check.TheVariants.{Clear}
-use Rattle.sheet.specs.Check.{◌else◌, first_cause}
+use Rattle.sheet.specs.Check.{◌else◌, first_cause, Check, Clear}
 use Rattle.sheet.specs.Check.Laws.{else_clear, both_clear, cause_none, cause_one, cause_append, else_end}
 use Rattle.sheet.specs.Format.{standard, longest, offset}
 use Rattle.sheet.specs.Reader.{sheet_causes, when, needed}

@@ -1,19 +1,19 @@
 -- How a written sheet is read (§15.4): each wanted part at its offset, the others missing; and for needs that were
 -- written, the causes of loading and 10 are absent.
+use Rattle.std.specs.Prelude.{is_none}
 use Rattle.std.specs.Prelude.{ℕ, ◌+◌, ◌≤◌, ◌≡◌, refl, Bool, true, false, ◌&&◌, length, take}
 use Rattle.std.proofs.Common.{sym, subst, ◌∙◌, true≢false}
 use Rattle.std.proofs.Math.Path.{ap, ap₂}
 use mathlib.Core.List.{List, [], ◌∷◌, ◌++◌}
 use Rattle.facts.specs.Tests.{both_true}
-use Rattle.sheet.specs.declared.check.Check.TheVariants.{Clear, Refused}
+use Rattle.sheet.specs.Check.{◌else◌, first_cause, Clear, Refused}
+use Rattle.sheet.specs.Promise.{Written}
+use Rattle.std.specs.Prelude.{Some, None}
 use Rattle.sheet.specs.declared.record.Record.{Record}
-use Rattle.sheet.specs.declared.record.Found.TheVariants.{At, Missing}
 use Rattle.sheet.specs.declared.reader.Needs.{Needs}
-use Rattle.sheet.specs.declared.writing.Answer.TheVariants.{Written}
-use Rattle.sheet.specs.Check.{◌else◌, first_cause}
 use Rattle.sheet.specs.Check.Laws.{absent, present, else_clear}
 use Rattle.sheet.specs.Format.{standard, header, longest, of_kind, ◌or◌, find}
-use Rattle.sheet.specs.Reader.{is_missing, when, needed, refusal_of, record_or, record_of, payload_part, part}
+use Rattle.sheet.specs.Reader.{when, needed, refusal_of, record_or, record_of, payload_part, part}
 use Rattle.sheet.specs.Reader.{content}
 use Rattle.sheet.specs.Reader.{machine_payload, word_in, sequence_in, answers_in, machine_record, word_record}
 use Rattle.sheet.specs.Reader.{sequence_record, answers_record}
@@ -52,10 +52,10 @@ pub record ReadsBack (v : Wanted) (p : Parts) (t : List ℕ) : Type 0 where
   pub answers : GivesWhen (needs_of v).answers t standard.answers (answers_start p) p.answers
 
 module _ (rs : List (ℕ × List ℕ)) (order : InOrder standard 0 rs) (short : length (joined rs) ≤ longest) where
-  found_gives : (ks : List ℕ) {r : Record} (xs : List ℕ) → find ks (placed 0 rs) ≡ At r → r.size ≡ length xs
+  found_gives : (ks : List ℕ) {r : Record} (xs : List ℕ) → find ks (placed 0 rs) ≡ Some r → r.size ≡ length xs
       → payload_of ks rs ≡ xs → Gives (joined rs) ks r.start xs
   found_gives ks {r} xs e sized is = record {
-    clear = refusal_joined standard rs order short ks ∙ absent 2 (length (joined rs)) (ap is_missing e);
+    clear = refusal_joined standard rs order short ks ∙ absent 2 (length (joined rs)) (ap is_none e);
     start = ap (λ (q : Record). q.start) (record_joined standard rs order short ks ∙ ap record_or e);
     position =
         part_joined standard rs order short ks
@@ -64,9 +64,9 @@ module _ (rs : List (ℕ × List ℕ)) (order : InOrder standard 0 rs) (short : 
     payload = content_joined standard rs order short ks ∙ is;
   }
 
-  missing_refused : (ks : List ℕ) → find ks (placed 0 rs) ≡ Missing
+  missing_refused : (ks : List ℕ) → find ks (placed 0 rs) ≡ None
       → refusal_of standard ks (joined rs) ≡ Refused 2 (length (joined rs))
-  missing_refused ks e = refusal_joined standard rs order short ks ∙ present 2 (length (joined rs)) (ap is_missing e)
+  missing_refused ks e = refusal_joined standard rs order short ks ∙ present 2 (length (joined rs)) (ap is_none e)
 
 reads : (v : Wanted) (p : Parts) → WellFormed v p → ReadsBack v p (sheet_of v p)
 unfolding sheet_of find of_kind ◌or◌

@@ -1,16 +1,15 @@
 -- A sheet of exactly the wanted roles, without causes 1 to 7, 12 and 10, is the sheet of its own parts (§15.4); among
 -- sheets of the same roles the parts determine it.
+use Rattle.std.specs.Prelude.{is_none}
 use Rattle.std.specs.Prelude.{ℕ, ◌≤◌, ◌≡◌, refl, true, List, [], ◌∷◌, length}
 use Rattle.std.proofs.Math.Path.{sym}
 use Rattle.std.proofs.Common.{ap, ◌∙◌}
 use mathlib.Core.List.Memᴰ
 use Rattle.facts.specs.Bytes.{Bytes}
-use Rattle.sheet.specs.declared.check.Check.TheVariants.{Clear}
-use Rattle.sheet.specs.declared.writing.Answer.{Answer}
-use Rattle.sheet.specs.declared.writing.Answer.TheVariants.{Written}
-use Rattle.sheet.specs.Check.{first_cause}
+use Rattle.sheet.specs.Check.{first_cause, Clear}
+use Rattle.sheet.specs.Promise.{Answer, Written}
 use Rattle.sheet.specs.Format.{standard, Parsed, parsed, of_kind, ◌or◌, find}
-use Rattle.sheet.specs.Reader.{is_missing, sheet_causes, needed, machine_payload, sequence_in, answers_in}
+use Rattle.sheet.specs.Reader.{sheet_causes, needed, machine_payload, sequence_in, answers_in}
 use Rattle.sheet.specs.Reader.{machine_record}
 use Rattle.sheet.specs.Reader.{answers_record}
 use Rattle.sheet.specs.Writing.{written}
@@ -115,10 +114,10 @@ unfolding sheet_of find of_kind ◌or◌
 lacks_others v p order = go v order
   where
     missing : (v : Wanted) → InOrder standard 0 (records_of v p) → (ks : List ℕ)
-        → is_missing (find ks (parsed standard (joined (records_of v p))).records)
-        ≡ is_missing (find ks (placed 0 (records_of v p)))
+        → is_none (find ks (parsed standard (joined (records_of v p))).records)
+        ≡ is_none (find ks (placed 0 (records_of v p)))
     missing v order ks =
-        ap (λ (w : Parsed). is_missing (find ks w.records)) (parsed_joined standard (records_of v p) order)
+        ap (λ (w : Parsed). is_none (find ks w.records)) (parsed_joined standard (records_of v p) order)
 
     go : (v : Wanted) → InOrder standard 0 (records_of v p) → Lacks standard (joined (records_of v p)) (unwanted v)
     go Word order = (missing Word order standard.sequence, (missing Word order standard.answers, tt))

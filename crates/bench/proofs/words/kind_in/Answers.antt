@@ -1,18 +1,11 @@
-use Rattle.std.proofs.Common.{sym, ap, ◌∙◌, Bool, cond}
-use mathlib.Core.Option.{none, some}
+use Rattle.std.proofs.Common.{ap, ◌∙◌}
 use Rattle.bench.specs.Words.{read_or, kind_in}
 use Rattle.bench.proofs.words.kind_in.Goals as goal
 
-pub returns-then-number : goal.returns-then-number
+pub returns-in-Some : goal.returns-in-Some
 unfolding kind_in
-returns-then-number c =
-    c.on_sheet.ensures
-    ∙ sym (ap (λ (b : Bool). read_or (cond b (some c.number_in-number.result.value) none)) c.if-number.true)
-    ∙ ap read_or c.number_in-number.ensures
+returns-in-Some c = c.on_sheet.ensures ∙ ap read_or c.in-Some.ensures
 
-pub returns : goal.returns
+pub returns-in-None : goal.returns-in-None
 unfolding kind_in
-returns c =
-    c.wrong.ensures
-    ∙ sym (ap (λ (b : Bool). read_or (cond b (some c.number_in-number.result.value) none)) c.if-number.false)
-    ∙ ap read_or c.number_in-number.ensures
+returns-in-None c = c.wrong.ensures ∙ ap read_or c.in-None.ensures

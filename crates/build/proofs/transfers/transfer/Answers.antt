@@ -2,15 +2,12 @@ use Rattle.std.proofs.Common.{rules}
 use Rattle.build.proofs.Descending.{answer_none, answer_some}
 use Rattle.build.proofs.transfers.transfer.Goals as goal
 
-pub returns-then-length : goal.returns-then-length
-returns-then-length c =
-    let m = c.args.m in
-    answer_none m.n m.k m.start m.next m.answer _ _ (search rules) (search rules)
-    (c.distances-distance.ensures _ _) _ c.if-length.true
+pub returns-in_err-length : goal.returns-in_err-length
+returns-in_err-length c =
+    let d = c.measure.ensures in
+    rw c.from_residual.ensures (answer_none _ _ _ d.few (search rules) d.distances c.in_err-length.was)
 
 pub returns : goal.returns
 returns c =
-    let m = c.args.m in
-    answer_some m.n m.k m.start m.next m.answer _ _ (search rules) (search rules)
-    (c.distances-distance.ensures _ _) c.if-length.false
-    c.descend-commands.ensures
+    let d = c.measure.ensures in
+    answer_some _ _ _ d.few (search rules) d.distances c.in_ok-length.was _ c.descend.ensures

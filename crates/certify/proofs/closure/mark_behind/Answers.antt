@@ -1,27 +1,19 @@
-use Rattle.std.proofs.Common.{arith, sym, ◌∙◌}
-use Rattle.certify.proofs.Behind.{seen_starts, told_marked, told_other, seen_on, seen_all}
+use Rattle.std.proofs.Common.{◌≡◌, get_or, inl, inr, rules, arith}
+use Rattle.std.proofs.lemmas.Grind.{common_steps}
+use Rattle.std.proofs.lemmas.List.{places}
+use Rattle.facts.specs.Numbers.{less_or_not}
 use Rattle.certify.proofs.closure.mark_behind.Goals as goal
-use Rattle.certify.proofs.closure.mark_behind.Goals.{then-marks-p-eq1, else-marks-p-eq1}
 
-pub loop-p-init : goal.loop-p-init
-loop-p-init c = seen_starts _
-
-pub loop-p-smaller : goal.loop-p-smaller
-loop-p-smaller c = omega (arith, c.loop-p.invariant.long, c.loop-p-test.true)
-
-pub loop-p-preserved : goal.loop-p-preserved
-loop-p-preserved c =
-    let h = c.loop-p.invariant in
-    let p = c.loop-p.p in
-    let at = h.rest p (omega arith) in
-    seen_on c.loop-p-test.true h
-    (elim c.if-marks-p-eq1.branch [
-      | then-marks-p-eq1 w ↦ rw w.seen-is (told_marked _ p (sym at ∙ w.if-marks-p-eq1.true))
-      | else-marks-p-eq1 w ↦ rw w.seen-is (told_other (λ e. w.if-marks-p-eq1.false (at ∙ e)) h.told)
-    ])
-
-pub shape_of-marks : goal.shape_of-marks
-shape_of-marks c = c.loop-p.invariant.long
-
-pub returns : goal.returns
-returns c = seen_all c.loop-p.invariant (omega (arith, c.loop-p.invariant.long, c.loop-p-test.false))
+pub returns-in-Some : goal.returns-in-Some
+returns-in-Some c =
+    let first = c.in-Some.first in
+    let marked : get_or c.args.marks.now first 0 ≡ 1 = grind (arith, common_steps) in
+    record {
+      long = grind (arith, common_steps);
+      bits = grind (arith, common_steps);
+      behind = grind (arith, common_steps);
+      from = λ p e. elim (less_or_not p first) [
+        | inl l ↦ (p, omega arith, search (rules, places))
+        | inr l ↦ (first, l, marked)
+      ];
+    }

@@ -1,21 +1,20 @@
 use Rattle.std.proofs.Common.{arith, ◌≡◌, refl, sym, ap, ◌+◌, ◌≤◌, length, length-take-le, rules}
-use lib.Seq.{length_front}
 use Rattle.sheet.specs.Reader.{word_in, sequence_in}
 use Rattle.sheet.specs.Reader.Laws.{word_read, sequence_read}
 use Rattle.certify.specs.Certification.Laws.{certifiable_proper, certifiable_commands, certifiable_fits}
 use Rattle.certify.proofs.Answering.{certifies_clear}
 use Rattle.certify.proofs.service.certify_loaded.Goals as goal
-use Rattle.certify.proofs.service.certify_loaded.Goals.{After-payload-xs}
+use Rattle.certify.proofs.service.certify_loaded.Goals.{After-recognise-arg-1}
 
-word_is : (d : After-payload-xs) → d.payload-w.result.now ≡ word_in d.args.sheet.now
+word_is : (d : After-recognise-arg-1) → d.payload-w.result.now ≡ word_in d.args.sheet.now
 word_is d =
     word_read d.args.sheet d.payload-w.result d.requires.records d.payload-w.ensures
 
-sequence_is : (d : After-payload-xs) → d.payload-xs.result.now ≡ sequence_in d.args.sheet.now
+sequence_is : (d : After-recognise-arg-1) → d.payload-xs.result.now ≡ sequence_in d.args.sheet.now
 sequence_is d =
     sequence_read d.args.sheet d.payload-xs.result d.requires.records d.payload-xs.ensures
 
-fits : (d : After-payload-xs) → length d.payload-xs.result.now + 1 ≤ length d.args.marks.now
+fits : (d : After-recognise-arg-1) → length d.payload-xs.result.now + 1 ≤ length d.args.marks.now
 fits d = omega (arith, ap length (sequence_is d), certifiable_fits _ _ d.requires)
 
 pub slice_bounds-recognise-end : goal.slice_bounds-recognise-end
@@ -23,11 +22,11 @@ slice_bounds-recognise-end c = let room = fits c in search rules
 
 pub slice_bounds-recognise-end-2 : goal.slice_bounds-recognise-end-2
 slice_bounds-recognise-end-2 c =
-    sym (length-take-le _ c.args.marks.now (fits (goal.at.slice_bounds-recognise-end-2 c).After-payload-xs))
+    sym (length-take-le _ c.args.marks.now (fits (goal.at.slice_bounds-recognise-end-2 c).After-recognise-arg-1))
 
 pub recognise-requires : goal.recognise-requires
 recognise-requires c =
-    let d = (goal.at.recognise-requires c).After-payload-xs in
+    let d = (goal.at.recognise-requires c).After-recognise-arg-1 in
     let h = c.requires in
     record {
       proper = certifiable_proper _ _ h;
@@ -35,13 +34,8 @@ recognise-requires c =
       marks_len = length-take-le _ _ (fits d);
     }
 
-pub shape_of-marks : goal.shape_of-marks
-shape_of-marks c =
-    length_front c.args.marks.now c.recognise.new.marks
-    (length c.payload-xs.result.now + 1) c.recognise.auto.marks
-
 pub returns : goal.returns
 returns c =
-    let d = (goal.at.returns c).After-payload-xs in
+    let d = (goal.at.returns c).After-recognise-arg-1 in
     certifies_clear c.args.sheet.now c.args.marks.now c.requires.clear c.requires.machine (word_is d)
     (sequence_is d) c.recognise.ensures.value c.recognise.ensures.marks_after refl

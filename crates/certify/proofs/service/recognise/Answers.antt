@@ -1,4 +1,3 @@
-use Rattle.std.proofs.Common.{arith}
 use Rattle.machine.specs.Machine.{meaning}
 use Rattle.certify.proofs.Answering.{entries_tabled, few_tabled, word_close_required, marks_are, outcome_is}
 use Rattle.certify.proofs.service.recognise.Goals as goal
@@ -8,23 +7,9 @@ close-known-requires c =
     word_close_required c.args.w.now c.args.xs.now c.mark_words.ensures
     (meaning c.args.m) c.requires.proper c.requires.commands
 
-pub overflow_mul-entries : goal.overflow_mul-entries
-overflow_mul-entries c =
-    omega (arith, few_tabled c.args.m c.requires.proper)
-
-pub open_check-check-requires : goal.open_check-check-requires
-open_check-check-requires c = record {
-  some_marks = omega (arith, c.close-known.ensures.exact.long);
-  entries_le_most_entries = few_tabled c.args.m c.requires.proper;
-}
-
-pub shape_of-marks : goal.shape_of-marks
-shape_of-marks c =
-    omega (
-      arith,
-      c.close-known.ensures.exact.long,
-      c.requires.marks_len,
-    )
+pub open_check-check-requires-clause-entries_le_most_entries :
+    goal.open_check-check-requires-clause-entries_le_most_entries
+open_check-check-requires-clause-entries_le_most_entries c = few_tabled c.args.m c.requires.proper
 
 pub returns : goal.returns
 returns c =

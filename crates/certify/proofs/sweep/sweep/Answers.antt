@@ -1,92 +1,61 @@
-use Rattle.std.proofs.Common.{arith, refl, sym}
-use Rattle.machine.specs.Machine.Laws.{meaning_start}
-use Rattle.certify.proofs.Loop.{next_tabled, starts, running_long, running_rising}
-use Rattle.certify.proofs.Loop.{running_merge_required, running_roots, running_ends, running_entry, merged_long}
-use Rattle.certify.proofs.Loop.{learnt_long, turns}
+use Rattle.std.proofs.Common.{◌≡◌, length, arith, refl, sym}
+use Rattle.machine.specs.Limits.{most_sequence}
+use Rattle.machine.specs.Machine.Laws.{meaning_commands, meaning_start, tabled_next}
+use Rattle.certify.proofs.Alternatives.{rising_none}
+use Rattle.certify.proofs.Loop.{starts, running_merge_required, running_next_required, running_ends, running_entry}
+use Rattle.certify.proofs.Loop.{turns}
 use Rattle.certify.proofs.sweep.sweep.Goals as goal
 
+pub invariant_of-tables : goal.invariant_of-tables
+invariant_of-tables c = record {
+  few = c.requires.close_requires.commands.few;
+  rising = rising_none _ most_sequence;
+}
+
 pub loop-t-init : goal.loop-t-init
-loop-t-init c =
-    starts c.requires
-    (sym (meaning_start c.args.m))
+loop-t-init c = record { same_xs = refl; running = starts c.requires (sym (meaning_start c.args.m)) }
 
 pub merge-q-requires : goal.merge-q-requires
 merge-q-requires c =
-    let h = c.loop-t.invariant in
-    record {
-      cur_in_bounds = omega (arith, h.head.low_cur, h.head.place);
-      t_in_bounds = h.head.place;
-      marks_len = running_long h;
-      xs_len_bound = h.required.close_requires.commands.few;
-      rising = running_rising h;
-    }
+    let head = c.loop-t.invariant in rw head.same_xs (running_merge_required head.running)
 
-pub bounds-xs-t : goal.bounds-xs-t
-bounds-xs-t c = c.loop-t-test.true
-
-pub learn-changed-requires : goal.learn-changed-requires
-learn-changed-requires c =
-    let h = c.loop-t.invariant in
-    let f = next_tabled c.args.m in
-    let merged = c.merge-q.ensures _ (running_merge_required h f) in
-    let tl = c.loop-t-test.true in
-    record {
-      i_in_bounds = omega (arith, merged_long h tl merged);
-      e_lt_most_entries = running_entry h tl f.commands c.entry_at-e.ensures;
-    }
+pub learn-changed-requires-clause-e_lt_most_entries : goal.learn-changed-requires-clause-e_lt_most_entries
+learn-changed-requires-clause-e_lt_most_entries c =
+    running_entry c.loop-t.invariant.running c.loop-t-test.true (meaning_commands c.args.m) c.entry_at-e.ensures
 
 pub represent_next-cur-requires : goal.represent_next-cur-requires
 represent_next-cur-requires c =
-    let h = c.loop-t.invariant in
-    let f = next_tabled c.args.m in
-    let merged = c.merge-q.ensures _ (running_merge_required h f) in
-    let tl = c.loop-t-test.true in
-    record {
-      cur_in_bounds = omega (arith, h.head.low_cur);
-      t_in_bounds = tl;
-      marks_len = learnt_long h tl f c.entry_at-e.ensures merged c.learn-changed.ensures;
-      xs_len_bound = h.required.close_requires.commands.few;
-      rising = running_rising h;
-      by_index = running_roots h;
-    }
+    let head = c.loop-t.invariant in
+    rw head.same_xs
+    (running_next_required head.running c.loop-t-test.true (meaning_commands c.args.m) c.entry_at-e.ensures
+    (rw head.same_xs at c.merge-q.ensures) c.learn-changed.ensures)
 
-pub bounds-next-e : goal.bounds-next-e
-bounds-next-e c =
-    let h = c.loop-t.invariant in
-    let f = next_tabled c.args.m in
-    running_entry h c.loop-t-test.true f.commands c.entry_at-e.ensures
-
-pub overflow_add-t : goal.overflow_add-t
-overflow_add-t c =
-    let tl = c.loop-t-test.true in
-    omega (arith, c.loop-t.invariant.required.close_requires.commands.few)
-
-pub loop-t-smaller : goal.loop-t-smaller
-loop-t-smaller c =
-    let tl = c.loop-t-test.true in
-    omega arith
+pub bounds-m-e : goal.bounds-m-e
+bounds-m-e c =
+    running_entry c.loop-t.invariant.running c.loop-t-test.true (meaning_commands c.args.m) c.entry_at-e.ensures
 
 pub loop-t-preserved : goal.loop-t-preserved
 loop-t-preserved c =
-    let h = c.loop-t.invariant in
-    let f = next_tabled c.args.m in
-    let merged = c.merge-q.ensures _ (running_merge_required h f) in
-    turns h c.loop-t-test.true f c.entry_at-e.ensures merged c.learn-changed.ensures c.represent_next-cur.ensures
-    refl
+    let m = c.args.m in
+    let head = c.loop-t.invariant in
+    let next = c.represent_next-cur.ensures in
+    record {
+      same_xs = rw next.same_xs head.same_xs;
+      running =
+          turns head.running c.loop-t-test.true (meaning_commands m) c.entry_at-e.ensures
+          (rw head.same_xs at c.merge-q.ensures) c.learn-changed.ensures
+          (rw head.same_xs at next.next)
+          (tabled_next m.n m.k m.start m.next m.answer _ _ refl c.entry_at-e.ensures);
+    }
 
 pub merge-q-requires-2 : goal.merge-q-requires-2
 merge-q-requires-2 c =
-    let h = c.loop-t.invariant in
-    record {
-      cur_in_bounds = omega (arith, h.head.low_cur, h.head.place);
-      t_in_bounds = h.head.place;
-      marks_len = running_long h;
-      xs_len_bound = h.required.close_requires.commands.few;
-      rising = running_rising h;
-    }
+    let head = c.loop-t.invariant in
+    let e : c.loop-t.t ≡ length c.args.xs.now = omega (arith, c.loop-t-test.false) in
+    rw head.same_xs (running_merge_required (rw e at head.running))
 
 pub returns : goal.returns
 returns c =
-    let h = c.loop-t.invariant in
-    let f = next_tabled c.args.m in
-    running_ends h c.loop-t-test.false (c.merge-q-2.ensures _ (running_merge_required h f))
+    let head = c.loop-t.invariant in
+    let e : c.loop-t.t ≡ length c.args.xs.now = omega (arith, c.loop-t-test.false) in
+    running_ends (rw e at head.running) (omega arith) (rw head.same_xs at c.merge-q-2.ensures)

@@ -1,32 +1,21 @@
-use Rattle.std.proofs.Common.{arith, ◌+◌, sym, ap, ap₂, ◌∙◌, take, length-take, take_all, rules}
-use Rattle.certify.specs.Marks.{count}
-use Rattle.certify.specs.Marks.Laws.{count_most, count_next, count_none}
+use Rattle.std.proofs.Common.{ℕ, ◌≡◌, ◌+◌, ◌∙◌, Bool, true, false, cond, List, eqb, count_by, take, take_all, refl}
+use Rattle.std.proofs.Common.{sym, ap, zero-add}
+use Rattle.std.proofs.lemmas.List.Recursion.{is_count_by}
+use Rattle.certify.specs.Marks.{mark, count}
 use Rattle.certify.proofs.tally.count.Goals as goal
 
-pub loop-i-init : goal.loop-i-init
-loop-i-init c = (search rules, sym (count_none c.args.marks.now))
+one_more : (b : Bool) (n : ℕ) → mark b + n ≡ cond b (1 + n) n
+one_more true n = refl
+one_more false n = zero-add n
 
-pub overflow_add-n : goal.overflow_add-n
-overflow_add-n c =
-    let marks = c.args.marks.now in
-    let next = count_next marks c.loop-i.i c.loop-i-test.true in
-    omega (
-      arith,
-      c.loop-i.invariant.1,
-      c.bit.ensures,
-      count_most (take (c.loop-i.i + 1) marks),
-      length-take (c.loop-i.i + 1) marks,
-    )
-
-pub loop-i-preserved : goal.loop-i-preserved
-loop-i-preserved c = (
-  search rules,
-  ap₂ ◌+◌ c.loop-i.invariant.1 c.bit.ensures
-      ∙ sym (count_next c.args.marks.now
-      c.loop-i.i c.loop-i-test.true),
-)
+-- the number of marks, in std's words
+counted : (marks : List ℕ) → count marks ≡ count_by (λ (m : ℕ). eqb m 1) marks
+unfolding count
+counted = is_count_by count (λ m. eqb m 1) refl (λ m marks. one_more (eqb m 1) (count marks))
 
 pub returns : goal.returns
 returns c =
-    c.loop-i.invariant.1
-    ∙ ap count (take_all c.loop-i.i c.args.marks.now c.loop-i-test.false)
+    let marks = c.args.marks.now in
+    c.loop-mark.invariant
+    ∙ sym (counted (take c.loop-mark.mark-index marks))
+    ∙ ap count (take_all c.loop-mark.mark-index marks c.loop-mark-test.false)

@@ -1,21 +1,13 @@
-use Rattle.std.proofs.Common.{rules}
-use Rattle.sheet.specs.Check.Laws.{first_none, first_stops, first_goes_on, first_ends}
+use Rattle.sheet.specs.Check.Laws.{first_none, first_stops_with, first_goes_on}
 use Rattle.certify.proofs.tally.least_unknown.Goals as goal
 
 pub loop-e-init : goal.loop-e-init
-loop-e-init c = (search rules, first_none _)
+loop-e-init c = first_none _
 
-pub returns-in-Refused : goal.returns-in-Refused
-returns-in-Refused c =
-    first_stops _ (search rules) c.loop-e.invariant.1
-    c.refuse-check.ensures c.in-Refused.is
+pub returns-in_err-refuse : goal.returns-in_err-refuse
+returns-in_err-refuse c =
+    first_stops_with _ c.loop-e-test.true c.loop-e.invariant c.refuse.ensures c.from_residual.ensures.1
+    c.in_err-refuse.was
 
 pub loop-e-preserved : goal.loop-e-preserved
-loop-e-preserved c = (
-  search rules,
-  first_goes_on _ _ c.loop-e.invariant.1 c.refuse-check.ensures
-      c.in_default.is,
-)
-
-pub returns : goal.returns
-returns c = first_ends _ c.loop-e.invariant.0 c.loop-e-test.false c.loop-e.invariant.1
+loop-e-preserved c = first_goes_on _ _ c.loop-e.invariant c.refuse.ensures c.in_ok-refuse.was

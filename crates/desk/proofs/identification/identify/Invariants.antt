@@ -1,11 +1,8 @@
-use Rattle.std.proofs.Common.{◌-◌, ◌≤◌, ◌≡◌}
+use Rattle.std.proofs.Common.{◌≡◌}
 use mathlib.Core.Option.{none}
 use Rattle.machine.specs.Machine.{meaning}
 use Rattle.desk.specs.Desk.{first_state}
 use Rattle.desk.proofs.identification.identify.Given as goal
 
 abbrev pub invariant-loop-s : goal.invariant-loop-s
-invariant-loop-s l = (l.s ≤ l.m.n) × (first_state (meaning l.m) l.w l.ys l.s ≡ none)
-
-abbrev pub decreases-loop-s : goal.decreases-loop-s
-decreases-loop-s l = l.m.n - l.s
+invariant-loop-s l = first_state (meaning l.m) l.w l.ys l.s ≡ none

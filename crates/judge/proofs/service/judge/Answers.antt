@@ -1,7 +1,7 @@
+use Rattle.std.specs.Prelude.{Ok}
+use Rattle.sheet.specs.Check.Laws.{hands_on, else_and}
 use Rattle.std.proofs.Common.{ℕ, ◌≡◌, sym, ap, ◌∙◌, true, List, length}
-use Rattle.sheet.specs.declared.check.Check.TheVariants.{Clear}
-use Rattle.sheet.specs.declared.check.Check.{Check}
-use Rattle.sheet.specs.Check.{first_cause, ◌else◌}
+use Rattle.sheet.specs.Check.{first_cause, ◌else◌, Clear, Check}
 use Rattle.sheet.specs.declared.record.Records.{Records}
 use Rattle.sheet.specs.Reader.{sequence_in, answers_in, answers_record}
 use Rattle.sheet.specs.Reader.Laws.{sequence_read, answers_read, record_is as read_record}
@@ -10,7 +10,6 @@ use Rattle.certify.specs.Certification.Laws.{certifiable_proper, certifiable_com
 use Rattle.judge.specs.Judging.{judge_causes}
 use Rattle.judge.specs.Judging.Laws.{marking_clear, certifying_clear}
 use Rattle.judge.proofs.Answering.{checks_are, few_here, promised, judges_refused, judges_certified, judges_open}
-use Rattle.judge.proofs.Answering.{judges_refused_there}
 use Rattle.sheet.specs.Format.{standard}
 use Rattle.judge.proofs.service.judge.Goals as goal
 use Rattle.judge.proofs.service.judge.Goals.{After-refuse-ten}
@@ -33,9 +32,9 @@ answers_are : (d : After-refuse-ten) → d.payload-ys.result.now ≡ answers_in 
 answers_are d =
     answers_read d.args.sheet d.payload-ys.result d.load_sequence-loaded.ensures.records d.payload-ys.ensures
 
-record_is : (d : After-refuse-ten) → d.record_or-r.result ≡ answers_record (sheet d)
+record_is : (d : After-refuse-ten) → d.record_or-start.result ≡ answers_record (sheet d)
 record_is d =
-    d.record_or-r.ensures
+    d.record_or-start.ensures
     ∙ read_record standard standard.answers (sheet d)
     (ap (λ (r : Records). r.answers) d.load_sequence-loaded.ensures.records)
 
@@ -57,22 +56,22 @@ certifiable d e clear =
     loaded_certifiable true _ _ d.load_sequence-loaded.ensures (loaded_clear d e clear)
     (certifying_clear (length (buffer d)) (sheet d) (sym (check_is d e) ∙ clear))
 
-pub returns-in-Refused : goal.returns-in-Refused
-returns-in-Refused c =
-    let d = (goal.at.returns-in-Refused c).After-refuse-ten in
-    let whole = promised (judges_refused (sheet d) (buffer d) (check_is d c.first_of-check.ensures) c.in-Refused.is) in
-    record { judges = whole.0; identity = whole.1 }
+pub returns-in_err-and : goal.returns-in_err-and
+returns-in_err-and c =
+    let d = (goal.at.returns-in_err-and c).After-refuse-ten in
+    let whole = promised (judges_refused (sheet d) (buffer d) (check_is d (c.and.ensures ∙ else_and _ _)) c.in_err-and.was) in
+    rw (hands_on _ c.from_residual.ensures.1) (record { judges = whole.0; identity = whole.1 })
 
-pub certify_loaded-certified-requires : goal.certify_loaded-certified-requires
-certify_loaded-certified-requires c =
-    certifiable (goal.at.certify_loaded-certified-requires c).After-refuse-ten c.first_of-check.ensures
-    c.in_default.is
+pub certify_loaded-requires : goal.certify_loaded-requires
+certify_loaded-requires c =
+    certifiable (goal.at.certify_loaded-requires c).After-refuse-ten (c.and.ensures ∙ else_and _ _)
+    c.in_ok-and.was
 
 pub compare-requires : goal.compare-requires
 compare-requires c =
     let d = (goal.at.compare-requires c).After-refuse-ten in
-    let clear = c.in_default.is in
-    let e = c.first_of-check.ensures in
+    let clear = c.in_ok-and.was in
+    let e = (c.and.ensures ∙ else_and _ _) in
     let h = certifiable d e clear in
     record {
       proper = certifiable_proper _ _ h;
@@ -83,10 +82,10 @@ compare-requires c =
 pub returns-in-Certified : goal.returns-in-Certified
 returns-in-Certified c =
     let d = (goal.at.returns-in-Certified c).After-refuse-ten in
-    let clear = c.in_default.is in
-    let e = c.first_of-check.ensures in
+    let clear = c.in_ok-and.was in
+    let e = (c.and.ensures ∙ else_and _ _) in
     let whole = promised (judges_certified (sheet d) (buffer d) (check_is d e) clear
-    c.certify_loaded-certified.ensures c.in-Certified.is
+    c.certify_loaded.ensures (ap Ok c.in-Certified.is)
     (c.load_sequence-loaded.ensures.machine (loaded_clear d e clear)) (sequence_is d)
     (answers_are d) c.compare.ensures) in
     record { judges = whole.0; identity = whole.1 }
@@ -94,13 +93,6 @@ returns-in-Certified c =
 pub returns-in-Open : goal.returns-in-Open
 returns-in-Open c =
     let d = (goal.at.returns-in-Open c).After-refuse-ten in
-    let whole = promised (judges_open (sheet d) (buffer d) (check_is d c.first_of-check.ensures) c.in_default.is
-    c.certify_loaded-certified.ensures c.in-Open.is) in
-    record { judges = whole.0; identity = whole.1 }
-
-pub returns-in-Refused-certified : goal.returns-in-Refused-certified
-returns-in-Refused-certified c =
-    let d = (goal.at.returns-in-Refused-certified c).After-refuse-ten in
-    let whole = promised (judges_refused_there (sheet d) (buffer d) (check_is d c.first_of-check.ensures)
-    c.in_default.is c.certify_loaded-certified.ensures c.in-Refused-certified.is) in
+    let whole = promised (judges_open (sheet d) (buffer d) (check_is d (c.and.ensures ∙ else_and _ _)) c.in_ok-and.was
+    c.certify_loaded.ensures (ap Ok c.in-Open.is)) in
     record { judges = whole.0; identity = whole.1 }

@@ -8,5 +8,5 @@ use Rattle.machine.proofs.checks.sequence_check.Goals as goal
 pub returns : goal.returns
 returns c =
     let args = c.args in
-    held_commands args.m 7 most_sequence args.at args.xs.now c.commands.ensures
-    ∙ sym (sequence_causes_are (meaning args.m) args.at args.xs.now)
+    held_commands args.m.now 7 most_sequence args.at args.xs.now c.commands.ensures
+    ∙ sym (sequence_causes_are (meaning args.m.now) args.at args.xs.now)

@@ -1,6 +1,4 @@
-use Rattle.std.proofs.Common.{arith, ◌+◌, ◌≡◌, refl, sym, ◌∙◌, get_or, length-set, ext_get_or, rules}
-use Rattle.facts.specs.Lists.{set_more}
-use Rattle.sheet.specs.Format.{standard}
+use Rattle.std.proofs.Common.{arith, refl, sym, ◌∙◌, ext_get_or, rules}
 use Rattle.machine.specs.House.{house_payload}
 use Rattle.machine.specs.House.Laws.{payload_long}
 use Rattle.machine.proofs.HouseTable.{payload_starts}
@@ -8,15 +6,6 @@ use Rattle.machine.proofs.house.house_payload.Goals as goal
 
 pub loop-at-init : goal.loop-at-init
 loop-at-init c = (search rules, refl, λ j l. payload_starts j (omega arith))
-
-pub loop-at-preserved : goal.loop-at-preserved
-loop-at-preserved c =
-    let head = c.loop-at in (
-      search rules,
-      simp length-set head.invariant.1,
-      λ j l. set_more (λ j x. x ≡ get_or house_payload j 0) head.payload (standard.table + head.at) _ (search rules)
-          head.invariant.2 c.table_byte.ensures j (omega arith),
-    )
 
 pub returns : goal.returns
 returns c =

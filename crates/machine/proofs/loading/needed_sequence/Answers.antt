@@ -8,7 +8,7 @@ pub returns-then-needed : goal.returns-then-needed
 returns-then-needed c =
     needed_made sequence_causes c.if-needed.true c.requires.machine
     (start_is standard.sequence c.args.sheet.now c.requires.found
-    c.record_or-r.ensures)
+    c.record_or.ensures)
     (payload_content standard _ c.args.sheet c.payload.result c.requires.found
     c.payload.ensures)
     c.sequence_check.ensures

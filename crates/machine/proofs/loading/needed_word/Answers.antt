@@ -7,7 +7,7 @@ use Rattle.machine.proofs.loading.needed_word.Goals as goal
 pub returns-then-needed : goal.returns-then-needed
 returns-then-needed c =
     needed_made word_causes c.if-needed.true c.requires.machine
-    (start_is standard.word c.args.sheet.now c.requires.found c.record_or-r.ensures)
+    (start_is standard.word c.args.sheet.now c.requires.found c.record_or.ensures)
     (payload_content standard _ c.args.sheet c.payload.result c.requires.found
     c.payload.ensures)
     c.word_check.ensures

@@ -8,11 +8,11 @@ use Rattle.report.proofs.dialogue.begin.Goals as goal
 pub returns : goal.returns
 unfolding begun
 returns c = record {
-  started = c.start-started.result;
-  starts = c.start-started.ensures;
+  started = c.start-first.result;
+  starts = c.start-first.ensures;
   desk = refl;
   left = refl;
-  over = c.is_refused.ensures ∙ ap is_refused c.start-started.ensures.first.is;
-  written = writes_output _ refl
-      (prints_same (ap first_line (sym c.start-started.ensures.first.is)) c.first_line-size.ensures);
+  over = c.is_err.ensures.value ∙ ap is_refused c.start-first.ensures.first.is;
+  written = writes_output _ refl c.to_output.ensures
+      (prints_same (ap first_line (sym c.start-first.ensures.first.is)) c.first_line.ensures);
 }

@@ -5,4 +5,4 @@ use Rattle.report.proofs.dialogue.input_ended.Goals as goal
 
 pub returns : goal.returns
 unfolding input_ended
-returns c = writes_error _ refl c.put_stop-size.ensures
+returns c = writes_error _ refl c.to_error.ensures c.stop_line.ensures

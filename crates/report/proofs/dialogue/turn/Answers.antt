@@ -1,21 +1,24 @@
-use Rattle.std.proofs.Common.{sym, ◌∙◌}
-use Rattle.report.proofs.Conversing.{turns_answer, turns_other, turns_long}
+use Rattle.std.proofs.Common.{refl, ◌≡◌}
+use Rattle.report.specs.Dialogue.{turn_output}
+use Rattle.report.proofs.Making.{writes_output, writes_error}
+use Rattle.report.proofs.Conversing.{unmade, turns_by}
 use Rattle.report.proofs.dialogue.turn.Goals as goal
 
 pub returns-in-Answer : goal.returns-in-Answer
+unfolding turn_output
 returns-in-Answer c =
-    let args = c.args in
-    turns_answer args.desk args.left args.line.now args.out.now _
-    (sym c.reply_of-what.ensures ∙ c.in-Answer.is) c.answered.ensures
+    turns_by _ _ _ _ _ c.in-Answer.ensures c.step-stepped.result
+    (λ y q. let e : c.in-Answer.value ≡ y = cc in rw (← e) c.step-stepped.ensures)
+    refl refl c.is_end.ensures (writes_output _ refl c.to_output.ensures c.order_line.ensures)
 
 pub returns-in-Other : goal.returns-in-Other
+unfolding turn_output
 returns-in-Other c =
-    let args = c.args in
-    turns_other args.desk args.left args.line.now args.out.now _
-    (sym c.reply_of-what.ensures ∙ c.in-Other.is) c.other.ensures
+    turns_by _ _ _ _ _ c.in-Other.ensures (unmade c.args.desk) (λ y q. cc)
+    refl c.saturating_sub.ensures refl (writes_error _ refl c.to_error.ensures c.others_line.ensures)
 
 pub returns-in-Long : goal.returns-in-Long
+unfolding turn_output
 returns-in-Long c =
-    let args = c.args in
-    turns_long args.desk args.left args.line.now args.out.now _
-    (sym c.reply_of-what.ensures ∙ c.in-Long.is) c.long.ensures
+    turns_by _ _ _ _ _ c.in-Long.ensures (unmade c.args.desk) (λ y q. cc)
+    refl refl refl (writes_error _ refl c.to_error-in-Long.ensures c.stop_line.ensures)

@@ -1,10 +1,9 @@
 use Rattle.report.specs.Lines.{pass_line}
-use Rattle.sheet.specs.Writing.Laws.{puts_append}
+use Rattle.report.proofs.Putting.{next_append, next_prints}
 use Rattle.report.proofs.lines.passed.Goals as goal
 
 pub returns : goal.returns
 unfolding pass_line
 returns c =
-    puts_append _ _ (puts_append _ _ c.put_labelled-a.ensures.puts
-    c.put_labelled-b.ensures.puts)
-    c.put.ensures
+    next_prints c.new-line.ensures.bytes c.new-line.ensures.end
+    (next_append _ _ (next_append _ _ c.put_labelled.ensures.next c.put_labelled-2.ensures.next) c.put.ensures)

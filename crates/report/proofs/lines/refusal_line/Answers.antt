@@ -1,12 +1,13 @@
 use Rattle.report.specs.Lines.{refusal_line}
-use Rattle.sheet.specs.Writing.Laws.{puts_append}
+use Rattle.report.proofs.Putting.{next_append, next_prints}
 use Rattle.report.proofs.lines.refusal_line.Goals as goal
 
 pub returns : goal.returns
 unfolding refusal_line
 returns c =
-    puts_append _ _ (puts_append _ _
-    (puts_append _ _ c.put_labelled-a.ensures.puts
-    c.put_labelled-b.ensures.puts)
-    c.put_phrase-c.ensures.puts)
-    c.put.ensures
+    next_prints c.new-line.ensures.bytes c.new-line.ensures.end
+    (next_append _ _
+    (next_append _ _
+    (next_append _ _ c.put_labelled.ensures.next c.put_labelled-2.ensures.next)
+    c.put_phrase.ensures.next)
+    c.put.ensures)

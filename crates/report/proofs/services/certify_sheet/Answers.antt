@@ -6,6 +6,6 @@ use Rattle.report.proofs.services.certify_sheet.Goals as goal
 
 pub returns : goal.returns
 returns c =
-    writes_output _ refl
+    writes_output _ refl c.to_output.ensures
     (prints_same (ap certify_line (sym c.certify-answer.ensures.answer.is))
-    c.certify_line-size.ensures)
+    c.certify_line.ensures)

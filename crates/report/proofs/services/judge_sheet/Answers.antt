@@ -6,6 +6,6 @@ use Rattle.report.proofs.services.judge_sheet.Goals as goal
 
 pub returns : goal.returns
 returns c =
-    writes_output _ refl
+    writes_output _ refl c.to_output.ensures
     (prints_same (ap judge_line (sym c.judge-answer.ensures.judges.answer.is))
-    c.judge_line-size.ensures)
+    c.judge_line.ensures)

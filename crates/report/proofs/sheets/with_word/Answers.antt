@@ -1,71 +1,55 @@
-use Rattle.std.proofs.Common.{arith, ℕ, ◌+◌, ◌≤◌, ap, ap₂, ◌∙◌, List, [], ◌∷◌, length, rules}
+use Rattle.std.proofs.Common.{arith, ℕ, ap, ap₂, ◌∙◌, List, [], ◌∷◌, length}
 use Rattle.sheet.specs.declared.record.Record.{Record}
-use Rattle.sheet.specs.Format.{standard, header}
+use Rattle.sheet.specs.Format.{standard}
 use Rattle.sheet.specs.Reader.Laws.{payload_content, record_is}
 use Rattle.sheet.specs.Joining.{joined, fresh}
-use Rattle.sheet.specs.Writing.Laws.{puts_same}
-use Rattle.machine.specs.Limits.{most_machine}
-use Rattle.word.specs.Search.{most_sought}
 use Rattle.report.specs.Sheets.{word_sheet}
+use Rattle.report.proofs.Putting.{next_same, next_long}
 use Rattle.report.proofs.Listing.{word_written, word_line_lem}
 use Rattle.report.proofs.sheets.with_word.Goals as goal
-use Rattle.report.proofs.sheets.with_word.Goals.{After-put-arg-3-1}
 
-pub put_two-size-requires : goal.put_two-size-requires
-put_two-size-requires c = record {
-  short = omega (
-    arith,
-    ap length (payload_content standard _ c.args.sheet c.payload.result c.requires.found c.payload.ensures),
-    c.requires.machine,
-    c.requires.few,
-  );
-  room = search rules;
-}
+pub put_two-requires-clause-short : goal.put_two-requires-clause-short
+put_two-requires-clause-short c =
+    let payload = payload_content standard _ c.args.sheet c.payload.result c.requires.found c.payload.ensures in
+    omega (arith, ap length payload)
 
 -- the records leave room for the line
-sized : (u : After-put-arg-3-1) → u.put_two-size.result ≤ header + most_machine standard + (header + most_sought)
-sized u =
+pub put-requires : goal.put-requires
+put-requires c =
+    let payload = payload_content standard _ c.args.sheet c.payload.result c.requires.found c.payload.ensures in
+    omega (arith, ap length payload, ap length c.new-both.ensures.bytes, next_long c.put_two.ensures.next)
+
+pub put_list-requires : goal.put_list-requires
+put_list-requires c =
+    let payload = payload_content standard _ c.args.sheet c.payload.result c.requires.found c.payload.ensures in
     omega (
       arith,
-      u.put_two-size.ensures.value,
-      ap length (payload_content standard _ u.args.sheet u.payload.result u.requires.found u.payload.ensures),
-      u.requires.machine,
-      u.requires.few,
+      ap length payload,
+      ap length c.new-both.ensures.bytes,
+      next_long c.put_two.ensures.next,
+      next_long c.put.ensures,
     )
 
-pub put-a-requires : goal.put-a-requires
-put-a-requires c = omega (arith, sized c)
-
-pub put_list-b-requires : goal.put_list-b-requires
-put_list-b-requires c =
+pub put-requires-2 : goal.put-requires-2
+put-requires-2 c =
+    let payload = payload_content standard _ c.args.sheet c.payload.result c.requires.found c.payload.ensures in
     omega (
       arith,
-      c.put-a.ensures.ends,
-      c.put-a.auto.out,
-      sized (goal.at.put_list-b-requires c).After-put-arg-3-1,
-      c.requires.few,
-    )
-
-pub put-end-requires : goal.put-end-requires
-put-end-requires c =
-    omega (
-      arith,
-      c.put_list-b.ensures.upper_bound,
-      c.put_list-b.auto.out,
-      c.put-a.ensures.ends,
-      c.put-a.auto.out,
-      sized (goal.at.put-end-requires c).After-put-arg-3-1,
-      c.requires.few,
+      ap length payload,
+      ap length c.new-both.ensures.bytes,
+      next_long c.put_two.ensures.next,
+      next_long c.put.ensures,
+      next_long c.put_list.ensures.next,
     )
 
 pub returns : goal.returns
 unfolding word_sheet
 returns c =
-    let w = c.args.w.now in
-    word_written c.args.sheet.now w c.args.out.now
-    (puts_same
+    let w = c.args.word.now in
+    word_written c.args.sheet.now w c.args.out.now c.new-both.ensures.bytes c.new-both.ensures.end
+    (next_same
     (ap₂ (λ (kind : ℕ) (p : List ℕ). joined ((kind, p) ∷ fresh standard.word w ∷ []))
-    (ap (λ (r : Record). r.kind) (c.record_or-r.ensures ∙ record_is standard _ _ c.requires.found))
+    (ap (λ (r : Record). r.kind) (c.record_or.ensures ∙ record_is standard _ _ c.requires.found))
     (payload_content standard _ c.args.sheet c.payload.result c.requires.found c.payload.ensures))
-    c.put_two-size.ensures.puts)
-    (word_line_lem w c.put-a.ensures c.put_list-b.ensures.puts c.put-end.ensures)
+    c.put_two.ensures.next)
+    (word_line_lem w c.put.ensures c.put_list.ensures.next c.put-2.ensures)

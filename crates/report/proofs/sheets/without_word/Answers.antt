@@ -5,4 +5,4 @@ use Rattle.report.proofs.sheets.without_word.Goals as goal
 
 pub returns : goal.returns
 unfolding none_line
-returns c = writes_error none_line refl c.put-size.ensures
+returns c = writes_error none_line refl c.to_error.ensures c.print.ensures

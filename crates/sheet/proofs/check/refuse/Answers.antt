@@ -5,6 +5,6 @@ pub returns-then-present : goal.returns-then-present
 unfolding refusal◌with◌if◌
 returns-then-present c = cc
 
-pub returns-else-present : goal.returns-else-present
+pub returns : goal.returns
 unfolding refusal◌with◌if◌
-returns-else-present c = cc
+returns c = cc

@@ -1,12 +1,11 @@
-use Rattle.std.proofs.Common.{rules}
 use Rattle.sheet.proofs.Within.{part_held, part_cut, part_none}
 use Rattle.sheet.proofs.reader.part_within.Goals as goal
 
-pub returns-then-from-size : goal.returns-then-from-size
-returns-then-from-size c = record { value = part_held _ c.in-At.is (search rules); inside = search rules }
+pub returns-in_default-clause-value : goal.returns-in_default-clause-value
+returns-in_default-clause-value c = part_none _ c.in_default.is
 
-pub returns-else-from-size : goal.returns-else-from-size
-returns-else-from-size c = record { value = part_cut _ c.in-At.is (search rules); inside = search rules }
+pub returns-then-sheet-from-clause-value : goal.returns-then-sheet-from-clause-value
+returns-then-sheet-from-clause-value c = part_cut _ c.in-Some.is c.if-sheet-from.true
 
-pub returns-in-Missing : goal.returns-in-Missing
-returns-in-Missing c = record { value = part_none _ c.in-Missing.is; inside = search rules }
+pub returns-clause-value : goal.returns-clause-value
+returns-clause-value c = part_held _ c.in-Some.is c.if-sheet-from.false

@@ -5,4 +5,4 @@ use Rattle.sheet.proofs.reader.payload.Goals as goal
 
 pub returns : goal.returns
 unfolding handed part_bytes
-returns c = rw (add_comm, add-sub_cancel_left, c.part_within-p.ensures.value)
+returns c = rw (add_comm, add-sub_cancel_left, c.part_within-from.ensures.value)

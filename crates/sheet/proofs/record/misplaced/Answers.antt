@@ -9,4 +9,4 @@ returns c =
     let args = c.args in
     c.refuse.ensures
     ∙ ap (λ (n : ℕ). refusal 2 with args.r.start if leb n args.last)
-    (c.rank.ensures ∙ ap rank c.role_of.ensures)
+    (c.rank.ensures ∙ ap rank c.from.ensures)

@@ -1,9 +1,9 @@
--- What is written stands within the bytes.
-use Rattle.std.proofs.Common.{length, ◌-◌, ◌≤◌}
+-- What is left stands within the bytes. The measure is what is left.
+use Rattle.std.proofs.Common.{length, ◌≤◌}
 use Rattle.streams.proofs.output.write.Given as goal
 
-abbrev pub invariant-loop-done : goal.invariant-loop-done
-invariant-loop-done g l = l.done ≤ length l.bytes
+abbrev pub invariant-loop-rest : goal.invariant-loop-rest
+invariant-loop-rest g l = length l.rest ≤ length l.bytes
 
-abbrev pub decreases-loop-done : goal.decreases-loop-done
-decreases-loop-done g l = length l.bytes - l.done
+abbrev pub decreases-loop-rest : goal.decreases-loop-rest
+decreases-loop-rest g l = length l.rest

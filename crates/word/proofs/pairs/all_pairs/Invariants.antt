@@ -1,9 +1,6 @@
-use Rattle.std.proofs.Common.{◌-◌}
-use Rattle.word.proofs.Moving.{Filling}
+use Rattle.std.proofs.Common.{◌≡◌}
+use Rattle.word.specs.Search.{all_pairs}
 use Rattle.word.proofs.pairs.all_pairs.Given as goal
 
 abbrev pub invariant-loop-j : goal.invariant-loop-j
-invariant-loop-j l = Filling l.n l.cells l.size l.j
-
-abbrev pub decreases-loop-j : goal.decreases-loop-j
-decreases-loop-j l = l.n - l.j
+invariant-loop-j l = l.pairs.items ≡ all_pairs l.j

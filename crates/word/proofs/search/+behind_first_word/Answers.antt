@@ -1,35 +1,57 @@
-use Rattle.std.proofs.Common.{sym, ◌∙◌, length-set}
-use Rattle.word.proofs.Descent.{behind_last, behind_met, behind_on, trying_on, trying_found, trying_end}
+use Rattle.std.proofs.Common.{Some, None, ◌≡◌, Bool, true, false, refl, ◌∙◌, sym, arith, rules}
+use Rattle.std.specs.Bool.{then_some}
+use Rattle.word.proofs.Descent.{last_told, last_alike, behind_met, behind_more, first_found, none_found, on_long}
 use Rattle.word.proofs.search.+behind_first_word.Goals as goal
+use Rattle.word.proofs.search.+behind_first_word.Goals.{behind-then-length-eq1+in_ok-word}
+use Rattle.word.proofs.search.+behind_first_word.Goals.{behind-else-length-eq1+in_ok-left+in_ok-word-2}
 
-pub behind-returns-then-word-eq1 : goal.behind-returns-then-word-eq1
-behind-returns-then-word-eq1 t c =
-    behind_last c.args.k c.args.next.now c.args.answer.now c.args.pairs.now c.args.c c.args.word.now
-    (sym (length-set c.args.word.now 0 c.args.c) ∙ c.if-word-eq1.true) c.told_apart.ensures
+some_then : {A : Type 0} (b : Bool) (x y : A) → Some y ≡ then_some b x → (b ≡ true) × (y ≡ x)
+some_then true x y e = (refl, cc)
+some_then false x y e = cc
 
-pub behind-returns-in-Met : goal.behind-returns-in-Met
-behind-returns-in-Met t c =
-    behind_met c.args.k c.args.next.now c.args.answer.now c.args.pairs.now c.args.c c.args.word.now c.in-Met.ensures
+none_then : {A : Type 0} (b : Bool) (x : A) → None ≡ then_some b x → b ≡ false
+none_then true x e = cc
+none_then false x e = refl
 
-pub behind-returns-in-On : goal.behind-returns-in-On
-behind-returns-in-On t c =
-    behind_on c.args.k c.args.next.now c.args.answer.now c.args.pairs.now c.args.c c.args.word.now
-    c.move_on-moved.new.left c.in-On.size c.in-On.ensures.1 c.first_word.new.word c.requires.some
-    c.first_word.auto.word c.first_word.result c.first_word.ensures
+pub behind-returns-in_err-word : goal.behind-returns-in_err-word
+behind-returns-in_err-word t c =
+    rw (c.from_residual.ensures, c.if-length-eq1.true)
+    (last_alike _ _ _ _ c.args.c (sym c.told_apart.ensures ∙ none_then _ _ c.in_err-word.ensures))
 
-pub first_word-returns-then-behind : goal.first_word-returns-then-behind
-first_word-returns-then-behind t c =
-    trying_found c.args.k c.args.next.now c.args.answer.now c.args.pairs.now _ _ _
-    c.loop-c.invariant c.loop-c-test.true c.behind.auto.word
-    c.behind.ensures c.if-behind.true c.requires.behind.some c.requires.apart
+pub behind-returns-in_err-left : goal.behind-returns-in_err-left
+behind-returns-in_err-left t c =
+    rw c.from_residual-in_err-left.ensures (behind_met _ _ _ _ c.args.c c.args.length c.in_err-left.ensures)
 
-pub first_word-loop-c-preserved : goal.first_word-loop-c-preserved
-first_word-loop-c-preserved t c =
-    trying_on c.args.k c.args.next.now c.args.answer.now c.args.pairs.now _ _ _
-    c.loop-c.invariant c.loop-c-test.true c.behind.auto.word
-    c.behind.ensures c.if-behind.false
+pub behind-insert-requires : goal.behind-insert-requires
+behind-insert-requires t c =
+    elim c.if-length-eq1.branch [
+      | behind-then-length-eq1+in_ok-word w ↦
+          let e = (some_then _ _ _ w.in_ok-word.ensures).1 in
+          (search rules, (omega arith, rw (w.word-is, e, w.new.ensures) (omega arith)))
+      | behind-else-length-eq1+in_ok-left+in_ok-word-2 w ↦
+          let e = on_long _ _ _ _ _ w.in_ok-word-2.ensures in
+          (search rules, (omega arith, rw (w.word-is, e) (omega (arith, c.requires.few))))
+    ]
+
+pub behind-returns : goal.behind-returns
+behind-returns t c =
+    elim c.if-length-eq1.branch [
+      | behind-then-length-eq1+in_ok-word w ↦
+          let e = some_then _ _ _ w.in_ok-word.ensures in
+          rw (c.insert.ensures.items, w.word-is, e.1, w.new.ensures, w.if-length-eq1.true)
+          (last_told _ _ _ _ c.args.c (sym w.told_apart.ensures ∙ e.0))
+      | behind-else-length-eq1+in_ok-left+in_ok-word-2 w ↦
+          let left = w.deref.ensures.0 ∙ w.in_ok-left.ensures.0 in
+          rw (c.insert.ensures.items, w.word-is)
+          (behind_more _ _ _ _ c.args.c c.args.length left w.in_ok-word-2.ensures)
+    ]
+
+pub first_word-returns-in-Some : goal.first_word-returns-in-Some
+first_word-returns-in-Some t c =
+    first_found _ _ _ _ c.requires.behind.some c.requires.apart c.loop-c-test.true c.loop-c.invariant
+    c.in-Some.ensures
 
 pub first_word-returns : goal.first_word-returns
 first_word-returns t c =
-    trying_end c.args.k c.args.next.now c.args.answer.now c.args.pairs.now _
-    c.loop-c.invariant c.loop-c-test.false c.requires.behind.some c.requires.apart
+    none_found _ _ _ _ c.requires.behind.some c.requires.apart
+    (λ x l. c.loop-c.invariant x (omega (arith, c.loop-c-test.false)))

@@ -4,6 +4,6 @@ use Rattle.machine.proofs.machine.Machine.load.Goals as goal
 
 pub returns : goal.returns
 returns c =
-    load_is c.args.p.now c.column-next.result
-    c.column-answer.result _ _ c.byte.ensures c.byte-2.ensures
-    (search rules) (search rules) c.column-next.ensures c.column-answer.ensures
+    load_is c.args.p.now c.column.result
+    c.column-2.result _ _ c.byte.ensures c.byte-2.ensures
+    (search rules) (search rules) c.column.ensures c.column-2.ensures

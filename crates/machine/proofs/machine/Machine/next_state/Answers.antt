@@ -1,0 +1,7 @@
+use Rattle.machine.specs.Machine.Laws.{tabled_next}
+use Rattle.machine.proofs.machine.Machine.next_state.Goals as goal
+
+pub returns : goal.returns
+returns c =
+    let m = c.args.self.now in
+    tabled_next m.n m.k m.start m.next m.answer c.args.s c.args.c c.byte.ensures c.entry_at.ensures
