@@ -128,7 +128,8 @@ words_of (suc n) ws = get_or ws 0 [] ∷ words_of n (drop 1 ws)
 abbrev pub words_in : Words → List (List ℕ)
 words_in words = words_of words.count (map (λ x. x.now) words.first)
 
--- the service of the first of these rows whose name is w, with so many arguments behind it
+-- the service of the first of these rows whose name is w, with so many arguments behind it; only a function within the
+-- program promises it
 unfoldable pub named_among : List GivenRow → List ℕ → ℕ → Service
 named_among [] w n = Wrong Unknown
 named_among (r ∷ rows) w n = found_or w r.name.now (counted n r.least r.most r.service) (named_among rows w n)

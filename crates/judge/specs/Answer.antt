@@ -1,4 +1,4 @@
--- What judging answers (§6.3): a judgement, or a refusal.
+-- What judging answers (§7): a judgement, or a refusal.
 use Rattle.std.specs.Prelude.{ℕ, Result, Ok}
 use Rattle.sheet.specs.declared.check.Refusal.{Refusal}
 use Rattle.judge.specs.declared.answer.Judgement.{Judgement}
