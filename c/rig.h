@@ -3,8 +3,7 @@
  * docs/SPECIFICATION.md has the sheet's format (section 2), the refusals with their places and what to do about them
  * (section 4.2), and what the results mean (sections 5 and 7); docs/RIG.md has a host as an example.
  *
- * Link with librig.a (`bash checker/proved rig`, for x86-64 Linux), which needs nothing but the C library's memset and
- * memcpy.
+ * Link with librig.a (`bash checker/proved rig`, for x86-64 Linux), which needs nothing but the C library's memset.
  *
  * Both functions take a sheet and a buffer for marks, and return one number with four fields, each in bits of its own:
  *

@@ -2,6 +2,8 @@
 // what the service takes, and writes to standard output and standard error.
 #![tactic(auto)]
 
+ghost use Rattle.std.specs.Prelude.{◌≡◌, ◌-◌};
+
 mod dialogue;
 mod inputs;
 mod output;
@@ -31,6 +33,13 @@ fn word<'a>(rt: &HostRuntime, i: usize, buf: &'a mut [u8]) -> &'a [u8] {
     &buf[..size]
 }
 
+// How many words stand behind the program's own name, of all that it was started with.
+fn behind_name(given: usize) -> usize
+    ensures { result ≡ given - 1 }
+{
+    given.saturating_sub(1)
+}
+
 // What fails was told, and a program has no exit status to set.
 fn main(rt: HostRuntime) {
     let mut first = [0u8; WORD_BUFFER];
@@ -39,8 +48,7 @@ fn main(rt: HostRuntime) {
     let mut fourth = [0u8; WORD_BUFFER];
     let mut fifth = [0u8; WORD_BUFFER];
     let words = Words {
-        // The program's own name, word 0, is none of them.
-        count: count_words(&rt).saturating_sub(1),
+        count: behind_name(count_words(&rt)),
         first: [
             word(&rt, 1, &mut first),
             word(&rt, 2, &mut second),

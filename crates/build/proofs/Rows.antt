@@ -8,6 +8,8 @@ use lib.ListN.{length, get_or, set, take, drop, length-set}
 use lib.Seq.{paste, length-paste, length-take-le, take-take, take-set-le, take-add, take_at, drop_at, get_or-take}
 use lib.Seq.{get_or-set_same, take-length}
 use Rattle.machine.specs.Limits.{most_states}
+use Rattle.sheet.specs.Writing.{put_at}
+use Rattle.sheet.specs.Writing.Laws.{put_fits}
 use Rattle.build.specs.Table.{row_size, table_size, row, Stored}
 use Rattle.build.specs.Writing.{Adds}
 
@@ -88,17 +90,18 @@ module _ (before xs : List ℕ) (s : ℕ) (sl : s < most_states) (few : length x
       ∙ same_middle after before a (i * row_size + 1) (get_or before (i * row_size) 0) (after_long ∙ sym long) kept
       (omega arith) (omega arith)
 
-  pub row_stored : {now : List ℕ}
-      → now ≡ paste (set before (s * row_size) (length xs)) (s * row_size + 1) xs (length xs)
+  pub row_stored : {now : List ℕ} → now ≡ put_at (set before (s * row_size) (length xs)) (s * row_size + 1) xs
       → Stored before now s (length xs) xs
   unfolding after d a
-  row_stored e = rw e (record {
-    long = after_long;
-    sized = cell;
-    stored = stored_row ∙ sym (take-length xs);
-    sizes = other_cell;
-    rows = other_row;
-  })
+  row_stored h =
+      let e = h ∙ put_fits d (a + 1) xs (omega (arith, d_long)) in
+      rw e (record {
+        long = after_long;
+        sized = cell;
+        stored = stored_row ∙ sym (take-length xs);
+        sizes = other_cell;
+        rows = other_row;
+      })
 
 -- a row written as the part of the table that it is
 pub adds_row : (rows : List ℕ) (s : ℕ) {before after xs : List ℕ} {at end : ℕ}

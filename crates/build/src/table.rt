@@ -48,9 +48,8 @@ fn store(rows: &mut [u8; ROWS], s: u8, commands: &[u8])
     ensures { Stored rows.old rows.new s (length commands.now) commands.now }
 {
     let from = s as usize * ROW;
-    let size = commands.len();
-    rows[from] = size as u8;
-    rows[from + 1..from + 1 + size].copy_from_slice(commands);
+    rows[from] = commands.len() as u8;
+    sheet::put(commands, from + 1, rows);
 }
 
 // Finds all transfers: cause 8 at the first that is missing, else the table is filled.

@@ -50,14 +50,14 @@ pub(crate) fn certified(
     }
 }
 
-// The answer of a service that writes, with its word for having done so.
+// The answer of a service that writes, with its word for having done so and a space.
 pub(crate) fn written(
     done: &str,
     answer: Result<usize, Refusal>,
     out: &mut Output<'_>,
 ) -> fmt::Result {
     match answer {
-        Ok(length) => write!(out, "{done} {length}"),
+        Ok(length) => write!(out, "{done}{length}"),
         Err(refusal) => refused(refusal, out),
     }
 }

@@ -45,8 +45,10 @@ impl Runner<'_> {
 
     // A line with its newline.
     fn copy(&mut self, line: &[u8]) -> Result {
-        self.out.bytes(line)?;
-        writeln!(self.out)
+        if !line.is_empty() {
+            self.out.bytes(line)?;
+        }
+        self.out.bytes(b"\n")
     }
 
     // A case and its answer.

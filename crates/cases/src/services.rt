@@ -102,7 +102,7 @@ pub(crate) fn perform(case: Case<'_>, lent: &mut [u8], out: &mut Output<'_>) -> 
         }
         Case::Build(size, sheet) => {
             let room = lent_room(lent, size);
-            written("built", build(sheet, room), out)?;
+            written("built ", build(sheet, room), out)?;
             buffer(room, out)
         }
         Case::Refusal(kind, sheet) => checked(refusal(sheet, kind), out),
@@ -112,7 +112,7 @@ pub(crate) fn perform(case: Case<'_>, lent: &mut [u8], out: &mut Output<'_>) -> 
         Case::Word(sheet) => sought(find_word(sheet), out),
         Case::Write(size, payloads) => {
             let room = lent_room(lent, size);
-            written("written", write_sheet(payloads, room), out)?;
+            written("written ", write_sheet(payloads, room), out)?;
             buffer(room, out)
         }
         Case::House(state, command) => entry(house_entry(state, command), out),

@@ -29,12 +29,12 @@ fn mark_behind(marks: &mut [u8])
 // known entry: that plays no part in the result, but saves sweeps on built sequences. Once every
 // entry is known, each place behind a marked one is recognised, and no further sweep is needed. It
 // stays a function of its own when compiled, so that the time of its loops does not depend on the
-// code around its call. The machine by value: lent to the sweep, hostile sequences took 13 % longer.
-// Machine, sequence and marks are no struct: the marks alone are lent to be written.
+// code around its call. Machine, sequence and marks are no struct: the marks alone are lent to be
+// written.
 #[inline(never)]
-pub fn close(m: Machine, xs: &[u8], marks: &mut [u8]) -> [u8; Machine::ENTRIES]
-    requires { CloseRequires (meaning m) xs.now marks.old }
-    ensures { Closed (meaning m) xs.now marks.old marks.new result }
+pub fn close(m: &Machine, xs: &[u8], marks: &mut [u8]) -> [u8; Machine::ENTRIES]
+    requires { CloseRequires (meaning m.now) xs.now marks.old }
+    ensures { Closed (meaning m.now) xs.now marks.old marks.new result }
 {
     let entries = m.n as usize * m.k as usize;
     let mut known = [0u8; Machine::ENTRIES];

@@ -14,12 +14,12 @@ use machine::{Loaded, Machine};
 use sheet::{Refusal, payload};
 
 // Marks the recognised places of a sequence, and answers.
-fn recognise(m: Machine, w: &[u8], xs: &[u8], marks: &mut [u8]) -> Certification
-    requires proper { Proper (meaning m) }
-    requires commands { Commands most_sequence (meaning m).k xs.now }
+fn recognise(m: &Machine, w: &[u8], xs: &[u8], marks: &mut [u8]) -> Certification
+    requires proper { Proper (meaning m.now) }
+    requires commands { Commands most_sequence (meaning m.now).k xs.now }
     requires marks_len { length marks.old ≡ length xs.now + 1 }
-    ensures value { Ok result ≡ outcome (meaning m) w.now xs.now }
-    ensures marks_after { marks.new ≡ marks_of (meaning m) w.now xs.now }
+    ensures value { Ok result ≡ outcome (meaning m.now) w.now xs.now }
+    ensures marks_after { marks.new ≡ marks_of (meaning m.now) w.now xs.now }
 {
     mark_words(w, xs, marks);
     let known = close(m, xs, marks);
@@ -37,7 +37,8 @@ pub fn certify_loaded(sheet: &[u8], loaded: Loaded, marks: &mut [u8]) -> Certifi
     let w = payload(sheet, loaded.records.word);
     let xs = payload(sheet, loaded.records.sequence);
     let end = xs.len() + 1;
-    recognise(loaded.machine, w, xs, &mut marks[..end])
+    let machine = loaded.machine.by_columns();
+    recognise(&machine, w, xs, &mut marks[..end])
 }
 
 // Certifies the sequence of a sheet and writes its marks into the lent buffer. A refusal writes

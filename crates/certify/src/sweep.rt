@@ -112,14 +112,14 @@ fn learn(
 // where that is asked: `apply` is part of one test, which a closure in its place would hide. Known
 // entries are bytes, as the marks are that C lends.
 pub fn sweep(
-    m: Machine,
+    m: &Machine,
     xs: &[u8],
     marks: &mut [u8],
     known: &mut [u8; Machine::ENTRIES],
     apply: bool,
 ) -> bool
-    requires { SweepRequires (meaning m) apply xs.now marks.old known.old }
-    ensures { Swept (meaning m) xs.now marks.old known.old marks.new
+    requires { SweepRequires (meaning m.now) apply xs.now marks.old known.old }
+    ensures { Swept (meaning m.now) xs.now marks.old known.old marks.new
         known.new result }
 {
     let mut tables = Tables {
@@ -134,7 +134,7 @@ pub fn sweep(
     let mut cur = 0;
     let mut s = m.start;
     for (t, c) in xs.iter().enumerate() {
-        let q = tables.merge(&m, marks, s, cur, t, p);
+        let q = tables.merge(m, marks, s, cur, t, p);
         let e = entry_at(m.k, s, *c);
         let changed = learn(marks, known, e, t, apply, q.changed);
         cur = tables.represent_next(marks, s, t, cur);
@@ -144,6 +144,6 @@ pub fn sweep(
         };
         s = m.next[e];
     }
-    let q = tables.merge(&m, marks, s, cur, xs.len(), p);
+    let q = tables.merge(m, marks, s, cur, xs.len(), p);
     q.changed
 }

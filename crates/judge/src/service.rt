@@ -15,13 +15,14 @@ pub fn judge(sheet: &[u8], marks: &mut [u8]) -> Result<Judgement, Refusal>
     let answers = true;
     let loaded = load_sequence(sheet, answers, marks.len());
     let records = loaded.records;
+    let machine = loaded.machine.by_columns();
     let xs = payload(sheet, records.sequence);
     let ys = payload(sheet, records.answers);
     let start = record_or(records.answers).start as usize;
     let ten = refuse(10, start, xs.len() < ys.len());
     loaded.check.and(ten)?;
     match certify_loaded(sheet, loaded, marks) {
-        Certification::Certified { recognised: _ } => Ok(compare(&loaded.machine, xs, ys)),
+        Certification::Certified { recognised: _ } => Ok(compare(&machine, xs, ys)),
         Certification::Open {
             recognised: _,
             number,

@@ -1,6 +1,6 @@
 -- How the code's checks, made one by one, are the first cause of the lists.
 -- Assumes nothing.
-use Prim.Native.Nat.{ℕ, ◌+◌, ◌*◌}
+use Prim.Native.Nat.{ℕ, ◌+◌, ◌*◌, ◌<◌}
 use mathlib.Core.Path.{◌≡◌, refl, sym, ap, ◌∙◌}
 use mathlib.Core.Bool.{Bool, true, false}
 use mathlib.Core.List.{List}
@@ -9,7 +9,9 @@ use Rattle.sheet.specs.Check.{refusal◌with◌if◌, first_cause, first, Check,
 use Rattle.std.specs.Prelude.{Option}
 use Rattle.sheet.specs.declared.record.Record.{Record}
 use Rattle.sheet.specs.declared.reader.Needs.{Needs}
-use Rattle.sheet.specs.Check.Laws.{cause_none}
+use Rattle.sheet.specs.Check.Laws.{cause_none, absent, first_clear}
+use borrow.Author.Tests.{lt-leb}
+use Rattle.std.proofs.Common.{zero-add, one-mul}
 use Rattle.sheet.specs.Format.{header, standard}
 use Rattle.sheet.specs.Reader.{when, found_in, records_in, record_or, record_of}
 use Rattle.sheet.specs.Reader.Laws.{record_is}
@@ -29,6 +31,14 @@ use Rattle.machine.specs.Loading.{LoadedBy, NeededRequires}
 pub length_is : (number most at : ℕ) (w : List ℕ) {o : Bool} {c : Check} → o ≡ outside most (length w)
     → c ≡ (refusal number with at if o) → c ≡ (refusal number with at if outside most (length w))
 length_is number most at w oe ce = ce ∙ ap (λ (x : Bool). refusal number with at if x) oe
+
+-- and of the commands, where all are below k
+pub below_clear : (number base k : ℕ) (w : List ℕ) → ((i : ℕ) → i < length w → get_or w i 0 < k)
+    → first (length w) (byte_cause number base w 0 1 k) ≡ Clear
+unfolding byte_cause
+below_clear number base k w h =
+    first_clear (length w) _
+    (λ i l. absent number _ (lt-leb k (get_or w (0 + 1 * i) 0) (rw (zero-add, one-mul) (h i l))))
 
 -- causes 4 and 12 of the table, of bytes, as the scans find them
 pub four_is : (at : ℕ) (p : List ℕ) {n : ℕ} {c : Check} → n ≡ get_or p 0 0

@@ -1,7 +1,7 @@
 // The causes of a payload: 3, 4 and 12 of a machine, 5 and 6 of a word, 7 of a sequence. Its record
 // starts, or would start, at an offset of a sheet. The offset has 32 bits, so that no place
 // overflows, however long the payload is.
-ghost use Rattle.std.specs.Prelude.{◌≡◌, ◌+◌, ◌*◌, ◌≤◌, ◌<◌, ◌^◌, get_or};
+ghost use Rattle.std.specs.Prelude.{◌≡◌, ℕ, ◌+◌, ◌*◌, ◌≤◌, ◌<◌, ◌^◌, true, length, get_or};
 ghost use Rattle.sheet.specs.Check.{first, first_cause};
 ghost use Rattle.sheet.specs.Format.{standard, header};
 ghost use Rattle.machine.specs.Machine.{meaning};
@@ -74,16 +74,33 @@ pub fn table_check(at: u32, p: &[u8]) -> Check
     ensures { result ≡ first_cause (table_causes standard at p.now) }
 {
     shape(at, p)?;
-    scan_pairs(4, at, p, TABLE, byte(p, 0))?;
-    scan_pairs(12, at, p, TABLE + 1, Machine::NO_ANSWER)
+    let four = scan_pairs(4, at, p, TABLE, byte(p, 0));
+    let twelve = scan_pairs(12, at, p, TABLE + 1, Machine::NO_ANSWER);
+    four.and(twelve)
 }
 
-// Causes 5 and 7: at most so many commands, for a machine of k commands.
+// Whether all bytes are below a bound. It never ends early, so the compiler can make it without a jump
+// that depends on a byte.
+fn all_below(bytes: &[u8], bound: u8) -> bool
+    ensures { result ≡ true → (i : ℕ) → i < length bytes.now → get_or bytes.now i 0 < bound }
+{
+    let mut below = true;
+    for x in bytes {
+        below &= *x < bound;
+    }
+    below
+}
+
+// Causes 5 and 7: at most so many commands, for a machine of k commands. The place is looked for only
+// where a command is not below k.
 fn commands(number: u8, most: usize, k: u8, at: u32, w: &[u8]) -> Check
     ensures { result ≡ commands_cause number most k at w.now }
 {
     let start = at as usize;
     refuse(number, start, outside(most, w.len()))?;
+    if all_below(w, k) {
+        return Ok(());
+    }
     scan(number, start + HEADER, w, 0, 1, w.len(), k)
 }
 

@@ -64,8 +64,9 @@ fn all_checks(sheet: &[u8], needs: Needs, reading: Reading, m: &Machine) -> Chec
 {
     machine_check(sheet, needs, reading)?;
     let records = reading.records;
-    needed_word(sheet, records.word, m, needs.word)?;
-    needed_sequence(sheet, records.sequence, m, needs.sequence)
+    let word = needed_word(sheet, records.word, m, needs.word);
+    let sequence = needed_sequence(sheet, records.sequence, m, needs.sequence);
+    word.and(sequence)
 }
 
 // Loads a sheet, in one pass, for a service that needs the machine and these roles besides.

@@ -62,6 +62,20 @@ impl Machine {
         }
     }
 
+    // The machine, copied column by column: a copy of more than 128 bytes at once is a call of the C
+    // library's `memcpy`, which the archive for C does without.
+    pub fn by_columns(self) -> Machine
+        ensures { result ≡ self }
+    {
+        let next = self.next;
+        let answer = self.answer;
+        Machine {
+            next,
+            answer,
+            ..self
+        }
+    }
+
     // The state to which a command leads from a state.
     pub fn next_state(&self, s: u8, c: u8) -> u8
         ensures { result ≡ (meaning self.now).next s c }

@@ -83,8 +83,7 @@ fn misplaced(r: Record, last: u8) -> Check
 pub fn check_record(bytes: usize, r: Record, last: u8) -> Check
     ensures { result ≡ cause_of standard bytes r last }
 {
-    cut(bytes, r)?;
-    misplaced(r, last)
+    cut(bytes, r).and(misplaced(r, last))
 }
 
 // What is found with one record more: it is that of its role where the role has none yet.

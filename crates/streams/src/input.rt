@@ -1,6 +1,6 @@
 // Standard input or a file, read to its end or until the buffer is full. What the bytes are no
 // contract can say; it says how many count.
-ghost use Rattle.std.specs.Prelude.{◌≡◌, IfOk};
+ghost use Rattle.std.specs.Prelude.{◌≡◌, ◌≤◌, length, IfOk, IfSome};
 ghost use Rattle.io.specs.Counts.{IsPrefixLen};
 ghost use Rattle.streams.specs.Input.{step_after};
 
@@ -18,7 +18,7 @@ const PATH_MAX: usize = 4_096;
 
 // The C library's errors of a read that a signal interrupted, of a path that holds a NUL, of one
 // that is too long, and of one that is not UTF-8, which std cannot open.
-const EINTR: i32 = 4;
+pub const EINTR: i32 = 4;
 
 const EINVAL: i32 = 22;
 
@@ -39,6 +39,25 @@ fn step_after(read: io::Result<usize>) -> io::Result<Option<usize>>
     }
 }
 
+// One read behind the bytes that are there, and up to a place of the buffer: how many there are then,
+// as many as before where a signal interrupted it; or `None` where the input has ended.
+pub fn read_more<R: Read>(
+    reader: &mut R,
+    buf: &mut [u8],
+    size: usize,
+    end: usize,
+) -> io::Result<Option<usize>>
+    requires size_le_end { size ≤ end }
+    requires end_in_bounds { end ≤ length buf.old }
+    ensures { IfOk result (λ more. IfSome more (λ count. IsPrefixLen count buf.new)) }
+{
+    let rest = &mut buf[size..end];
+    match step_after(reader.read(rest))? {
+        Some(moved) => Ok(Some(size + moved)),
+        None => Ok(None),
+    }
+}
+
 // Reads until the input ends or the buffer is full: a caller that lends one byte more than it takes
 // sees that an input is too long. Nothing behind that is read. A proved loop has to end, so it
 // counts its turns, up to a number that no run reaches; reaching it would be a failure. std's
@@ -51,9 +70,9 @@ fn read_all<R: Read>(reader: &mut R, buf: &mut [u8]) -> io::Result<usize>
         if size == buf.len() {
             return Ok(size);
         }
-        let rest = &mut buf[size..];
-        match step_after(reader.read(rest))? {
-            Some(moved) => size += moved,
+        let end = buf.len();
+        match read_more(reader, buf, size, end)? {
+            Some(now) => size = now,
             None => return Ok(size),
         }
     }

@@ -1,26 +1,37 @@
 // A line of standard input. What its bytes are no contract can say; it says how many count.
-ghost use Rattle.std.specs.Prelude.{IfOk, IfSome};
+ghost use Rattle.std.specs.Prelude.{◌≡◌, IfOk, IfSome};
 ghost use Rattle.io.specs.Counts.{IsPrefixLen};
 
-use crate::input::STANDARD_INPUT;
+use crate::input::{EINTR, STANDARD_INPUT, read_more};
 use crate::telling::{Told, tell};
 use std::io;
-use std::io::Read;
+use std::io::Error;
 
-// The line that standard input begins with; a failure is not told yet.
+// What is left of a line at the end of the input.
+fn last_line(size: usize) -> Option<usize>
+    ensures { IfSome result (λ count. count ≡ size) }
+{
+    if size == 0 { None } else { Some(size) }
+}
+
+// The line that standard input begins with; a failure is not told yet. It counts its turns as
+// `read_all` does. std's `bytes` would read the same, but what it says of a failure no contract holds.
 fn next_line(rt: &HostRuntime, buf: &mut [u8]) -> io::Result<Option<usize>>
     ensures { IfOk result (λ line. IfSome line (λ count. IsPrefixLen count buf.new)) }
 {
-    let mut bytes = rt.stdin().bytes();
-    for (size, place) in buf.iter_mut().enumerate() {
-        match bytes.next().transpose()? {
-            Some(b'\n') => return Ok(Some(size)),
-            Some(byte) => *place = byte,
-            None if size == 0 => return Ok(None),
-            None => return Ok(Some(size)),
+    let mut stdin = rt.stdin();
+    let mut size = 0;
+    for _ in 0..u64::MAX {
+        if size == buf.len() {
+            return Ok(Some(size));
+        }
+        match read_more(&mut stdin, buf, size, size + 1)? {
+            Some(now) if size < now && buf[size] == b'\n' => return Ok(Some(size)),
+            Some(now) => size = now,
+            None => return Ok(last_line(size)),
         }
     }
-    Ok(Some(buf.len()))
+    Err(Error::from_raw_os_error(EINTR))
 }
 
 // Reads a line of standard input, byte by byte, so that nothing behind it is read; its newline is

@@ -11,7 +11,7 @@ use lib.Seq.{append_snoc}
 use Rattle.facts.specs.Lists.{rest_cons}
 use Rattle.machine.specs.Limits.{most_states}
 use Rattle.word.specs.Search.{one, other, pairs_with, all_pairs, keep, alike, moved, after, unmet}
-use Rattle.word.specs.Searching.{most_pairs, cells, left_by}
+use Rattle.word.specs.Searching.{most_pairs, cells, none_alike, left_by}
 
 -- ---- all pairs
 -- how many pairs of j there are
@@ -104,3 +104,16 @@ module _ (k : ℕ) (next answer ps : List ℕ) (c : ℕ) where
   pub moving_end : {left : List ℕ} {i : ℕ} → Moving left i → length ps ≤ i → left ≡ left_by k next answer ps c
   unfolding after
   moving_end {left} {i} h o = rw (h.same, drop_of_length-le ps o, append-nil)
+
+-- ---- pairs told apart
+module _ (k : ℕ) (answer ps : List ℕ) (c : ℕ) {i : ℕ} where
+  pub told_on : {b : Bool} → i < length ps → b ≡ alike (cells k answer) c (get_or ps i 0) → b ≡ false
+      → none_alike k answer (drop i ps) c ≡ none_alike k answer (drop (i + 1) ps) c
+  told_on l e f = rw (rest_cons ps i l, ← e, f) refl
+
+  pub told_stops : {b : Bool} → i < length ps → b ≡ alike (cells k answer) c (get_or ps i 0) → b ≡ true
+      → none_alike k answer (drop i ps) c ≡ false
+  told_stops l e t = rw (rest_cons ps i l, ← e, t) refl
+
+  pub told_ends : length ps ≤ i → none_alike k answer (drop i ps) c ≡ true
+  told_ends l = rw (drop_of_length-le ps l) refl

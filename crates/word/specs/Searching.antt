@@ -26,11 +26,12 @@ none_alike k answer ps c = list_all (λ p. not (alike (cells k answer) c p)) ps
 abbrev pub left_by : ℕ → List ℕ → List ℕ → List ℕ → ℕ → List ℕ
 left_by k next answer ps c = after (cells k next) (cells k answer) ps c
 
--- two of them met, or none did and they are given
-abbrev pub MovesOn : ℕ → List ℕ → List ℕ → List ℕ → ℕ → Option (ArrayVec ℕ) → Type 0
-MovesOn k next answer ps c r =
+-- two of them met, or none did and they are what is left
+abbrev pub MovesOn : ℕ → List ℕ → List ℕ → List ℕ → ℕ → ArrayVec ℕ → Option (Unit {0})
+    → Type 0
+MovesOn k next answer ps c left r =
     MatchOption r (unmet (left_by k next answer ps c) ≡ false)
-    (λ left. (left.items ≡ left_by k next answer ps c) × (unmet (left_by k next answer ps c) ≡ true))
+    (λ done. (left.items ≡ left_by k next answer ps c) × (unmet (left_by k next answer ps c) ≡ true))
 
 -- ---- words
 -- few pairs, and 1 to 6 commands

@@ -73,19 +73,26 @@ fn moved_pair(m: &Machine, p: u16, c: u8) -> u16
     )
 }
 
-// Whether the states of each pair answer a command differently.
+// Whether the states of each pair answer a command differently. A `for`, since with `all` of the
+// iterator a search takes a quarter longer where few pairs are left.
 pub fn told_apart(m: &Machine, pairs: &[u16], c: u8) -> bool
     ensures { result ≡ none_alike m.now.k m.now.answer pairs.now c }
 {
-    pairs.iter().all(|p| !answer_alike(m, *p, c))
+    for p in pairs {
+        if answer_alike(m, *p, c) {
+            return false;
+        }
+    }
+    true
 }
 
-// The pairs that answer a command alike, each where it leads them, or none where two states met.
-pub fn move_on(m: &Machine, pairs: &[u16], c: u8) -> Option<Pairs>
+// Leaves the pairs that answer a command alike, each where it leads them, or answers none where two
+// states met. What is left is lent: as a result it would be copied for each beginning of a word.
+pub fn move_on(m: &Machine, pairs: &[u16], c: u8, left: &mut Pairs) -> Option<()>
     requires { length pairs.now ≤ most_pairs }
-    ensures { MovesOn m.now.k m.now.next m.now.answer pairs.now c result }
+    ensures { MovesOn m.now.k m.now.next m.now.answer pairs.now c left.new result }
 {
-    let mut left = ArrayVec::new();
+    left.clear();
     for p in pairs {
         if answer_alike(m, *p, c) {
             let q = moved_pair(m, *p, c);
@@ -95,5 +102,5 @@ pub fn move_on(m: &Machine, pairs: &[u16], c: u8) -> Option<Pairs>
             left.push(q);
         }
     }
-    Some(left)
+    Some(())
 }

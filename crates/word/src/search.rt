@@ -25,7 +25,8 @@ fn behind(m: &Machine, pairs: &[u16], c: u8, length: usize) -> Option<Word>
     let mut word = if length == 1 {
         told_apart(m, pairs, c).then_some(ArrayVec::new())?
     } else {
-        let left = move_on(m, pairs, c)?;
+        let mut left = ArrayVec::new();
+        move_on(m, pairs, c, &mut left)?;
         first_word(m, &left, length - 1)?
     };
     word.insert(0, c);

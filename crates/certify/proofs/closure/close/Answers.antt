@@ -7,8 +7,8 @@ use Rattle.certify.proofs.closure.close.Goals as goal
 use Rattle.certify.proofs.closure.close.Goals.{After-sweep-changed}
 
 -- the machine's entries are entries of the table
-inside : (d : After-sweep-changed) → d.args.m.n * d.args.m.k ≤ length d.sweep-changed.new.known
-inside d = omega (arith, few_tabled d.args.m d.requires.proper, d.sweep-changed.ensures.table)
+inside : (d : After-sweep-changed) → d.args.m.now.n * d.args.m.now.k ≤ length d.sweep-changed.new.known
+inside d = omega (arith, few_tabled d.args.m.now d.requires.proper, d.sweep-changed.ensures.table)
 
 pub loop-changed-init : goal.loop-changed-init
 loop-changed-init c = settling_starts c.requires
@@ -28,7 +28,7 @@ returns-then-all_known c =
     let h = settling_on c.loop-changed.invariant c.sweep-changed.ensures in
     let known = c.sweep-changed.new.known in
     let few = inside (goal.at.returns-then-all_known c).After-sweep-changed in
-    known_closed h (entries_tabled c.args.m)
+    known_closed h (entries_tabled c.args.m.now)
     (λ e l z. c.all_known.ensures c.if-all_known.true e (rw (length-take-le _ known few) l) (get_or-take _ known e 0 l ∙ z))
     c.mark_behind.ensures
 

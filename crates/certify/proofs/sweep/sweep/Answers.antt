@@ -13,7 +13,7 @@ invariant_of-tables c = record {
 }
 
 pub loop-t-init : goal.loop-t-init
-loop-t-init c = record { same_xs = refl; running = starts c.requires (sym (meaning_start c.args.m)) }
+loop-t-init c = record { same_xs = refl; running = starts c.requires (sym (meaning_start c.args.m.now)) }
 
 pub merge-q-requires : goal.merge-q-requires
 merge-q-requires c =
@@ -21,22 +21,22 @@ merge-q-requires c =
 
 pub learn-changed-requires-clause-e_lt_most_entries : goal.learn-changed-requires-clause-e_lt_most_entries
 learn-changed-requires-clause-e_lt_most_entries c =
-    running_entry c.loop-t.invariant.running c.loop-t-test.true (meaning_commands c.args.m) c.entry_at-e.ensures
+    running_entry c.loop-t.invariant.running c.loop-t-test.true (meaning_commands c.args.m.now) c.entry_at-e.ensures
 
 pub represent_next-cur-requires : goal.represent_next-cur-requires
 represent_next-cur-requires c =
     let head = c.loop-t.invariant in
     rw head.same_xs
-    (running_next_required head.running c.loop-t-test.true (meaning_commands c.args.m) c.entry_at-e.ensures
+    (running_next_required head.running c.loop-t-test.true (meaning_commands c.args.m.now) c.entry_at-e.ensures
     (rw head.same_xs at c.merge-q.ensures) c.learn-changed.ensures)
 
 pub bounds-m-e : goal.bounds-m-e
 bounds-m-e c =
-    running_entry c.loop-t.invariant.running c.loop-t-test.true (meaning_commands c.args.m) c.entry_at-e.ensures
+    running_entry c.loop-t.invariant.running c.loop-t-test.true (meaning_commands c.args.m.now) c.entry_at-e.ensures
 
 pub loop-t-preserved : goal.loop-t-preserved
 loop-t-preserved c =
-    let m = c.args.m in
+    let m = c.args.m.now in
     let head = c.loop-t.invariant in
     let next = c.represent_next-cur.ensures in
     record {

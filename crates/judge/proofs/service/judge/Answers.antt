@@ -11,6 +11,7 @@ use Rattle.judge.specs.Judging.{judge_causes}
 use Rattle.judge.specs.Judging.Laws.{marking_clear, certifying_clear}
 use Rattle.judge.proofs.Answering.{checks_are, few_here, promised, judges_refused, judges_certified, judges_open}
 use Rattle.sheet.specs.Format.{standard}
+use Rattle.machine.specs.Machine.{meaning}
 use Rattle.judge.proofs.service.judge.Goals as goal
 use Rattle.judge.proofs.service.judge.Goals.{After-refuse-ten}
 
@@ -74,8 +75,8 @@ compare-requires c =
     let e = (c.and.ensures ∙ else_and _ _) in
     let h = certifiable d e clear in
     record {
-      proper = certifiable_proper _ _ h;
-      commands = rw (sequence_is d) (certifiable_commands _ _ h);
+      proper = rw c.by_columns-machine.ensures (certifiable_proper _ _ h);
+      commands = rw (sequence_is d, c.by_columns-machine.ensures) (certifiable_commands _ _ h);
       few = few_here (length (buffer d)) (sheet d) (record_is d) (sequence_is d) (answers_are d) (check_is d e) clear;
     }
 
@@ -86,7 +87,7 @@ returns-in-Certified c =
     let e = (c.and.ensures ∙ else_and _ _) in
     let whole = promised (judges_certified (sheet d) (buffer d) (check_is d e) clear
     c.certify_loaded.ensures (ap Ok c.in-Certified.is)
-    (c.load_sequence-loaded.ensures.machine (loaded_clear d e clear)) (sequence_is d)
+    (ap meaning c.by_columns-machine.ensures ∙ c.load_sequence-loaded.ensures.machine (loaded_clear d e clear)) (sequence_is d)
     (answers_are d) c.compare.ensures) in
     record { judges = whole.0; identity = whole.1 }
 

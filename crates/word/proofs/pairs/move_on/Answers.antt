@@ -5,7 +5,7 @@ use Rattle.word.proofs.pairs.move_on.Goals as goal
 use Rattle.word.proofs.pairs.move_on.Goals.{then-answer_alike+else-q, else-answer_alike}
 
 pub loop-p-init : goal.loop-p-init
-loop-p-init c = rw c.new-left.ensures (moving_none _ _ _ _ _)
+loop-p-init c = rw c.clear.ensures (moving_none _ _ _ _ _)
 
 pub returns-then-q : goal.returns-then-q
 returns-then-q c =

@@ -3,7 +3,7 @@ use Rattle.std.specs.Bool.{then_some}
 use Rattle.word.proofs.Descent.{last_told, last_alike, behind_met, behind_more, first_found, none_found, on_long}
 use Rattle.word.proofs.search.+behind_first_word.Goals as goal
 use Rattle.word.proofs.search.+behind_first_word.Goals.{behind-then-length-eq1+in_ok-word}
-use Rattle.word.proofs.search.+behind_first_word.Goals.{behind-else-length-eq1+in_ok-left+in_ok-word-2}
+use Rattle.word.proofs.search.+behind_first_word.Goals.{behind-else-length-eq1+in_ok-move_on+in_ok-word-2}
 
 some_then : {A : Type 0} (b : Bool) (x y : A) → Some y ≡ then_some b x → (b ≡ true) × (y ≡ x)
 some_then true x y e = (refl, cc)
@@ -18,9 +18,9 @@ behind-returns-in_err-word t c =
     rw (c.from_residual.ensures, c.if-length-eq1.true)
     (last_alike _ _ _ _ c.args.c (sym c.told_apart.ensures ∙ none_then _ _ c.in_err-word.ensures))
 
-pub behind-returns-in_err-left : goal.behind-returns-in_err-left
-behind-returns-in_err-left t c =
-    rw c.from_residual-in_err-left.ensures (behind_met _ _ _ _ c.args.c c.args.length c.in_err-left.ensures)
+pub behind-returns-in_err-move_on : goal.behind-returns-in_err-move_on
+behind-returns-in_err-move_on t c =
+    rw c.from_residual-in_err-move_on.ensures (behind_met _ _ _ _ c.args.c c.args.length c.in_err-move_on.ensures)
 
 pub behind-insert-requires : goal.behind-insert-requires
 behind-insert-requires t c =
@@ -28,7 +28,7 @@ behind-insert-requires t c =
       | behind-then-length-eq1+in_ok-word w ↦
           let e = (some_then _ _ _ w.in_ok-word.ensures).1 in
           (search rules, (omega arith, rw (w.word-is, e, w.new.ensures) (omega arith)))
-      | behind-else-length-eq1+in_ok-left+in_ok-word-2 w ↦
+      | behind-else-length-eq1+in_ok-move_on+in_ok-word-2 w ↦
           let e = on_long _ _ _ _ _ w.in_ok-word-2.ensures in
           (search rules, (omega arith, rw (w.word-is, e) (omega (arith, c.requires.few))))
     ]
@@ -40,8 +40,8 @@ behind-returns t c =
           let e = some_then _ _ _ w.in_ok-word.ensures in
           rw (c.insert.ensures.items, w.word-is, e.1, w.new.ensures, w.if-length-eq1.true)
           (last_told _ _ _ _ c.args.c (sym w.told_apart.ensures ∙ e.0))
-      | behind-else-length-eq1+in_ok-left+in_ok-word-2 w ↦
-          let left = w.deref.ensures.0 ∙ w.in_ok-left.ensures.0 in
+      | behind-else-length-eq1+in_ok-move_on+in_ok-word-2 w ↦
+          let left = w.deref.ensures.0 ∙ w.in_ok-move_on.ensures.0 in
           rw (c.insert.ensures.items, w.word-is)
           (behind_more _ _ _ _ c.args.c c.args.length left w.in_ok-word-2.ensures)
     ]
