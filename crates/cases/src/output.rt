@@ -1,6 +1,7 @@
 // What is written: it waits in a buffer, and goes to standard output where the buffer is full.
 ghost use Rattle.std.specs.Prelude.{◌≤◌, length};
 
+use sheet::put;
 use std::fmt;
 use streams::write_output;
 
@@ -40,9 +41,7 @@ impl<'a> Output<'a> {
         if self.buffer.len() - self.used < bytes.len() {
             return write(self.rt, bytes);
         }
-        let end = self.used + bytes.len();
-        self.buffer[self.used..end].copy_from_slice(bytes);
-        self.used = end;
+        self.used = put(bytes, self.used, self.buffer);
         Ok(())
     }
 }

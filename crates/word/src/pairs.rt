@@ -73,8 +73,8 @@ fn moved_pair(m: &Machine, p: u16, c: u8) -> u16
     )
 }
 
-// Whether the states of each pair answer a command differently. A `for`, since with `all` of the
-// iterator a search takes a quarter longer where few pairs are left.
+// Whether the states of each pair answer a command differently. A `for`: in a sketch of the search `all`
+// of the iterator took more jumps, and up to a quarter more time where few pairs are left.
 pub fn told_apart(m: &Machine, pairs: &[u16], c: u8) -> bool
     ensures { result ≡ none_alike m.now.k m.now.answer pairs.now c }
 {
